@@ -1,0 +1,33 @@
+-- The alphabet: "an alphabet of n characters numbered 0 to n−1". Nothing else compares a character with n.
+use Prim.Native.Nat.{ℕ, _-_, _<_}
+use mathlib.Core.Bool.{Bool, true, _&&_}
+use mathlib.Core.List.{List, [], _∷_}
+use lib.Dec.{ltb}
+
+-- how many characters there are
+abbrev pub characterCount : ℕ → ℕ
+characterCount n = n
+
+-- the k-th character, from 0
+abbrev pub character : ℕ → ℕ → ℕ
+character n k = k
+
+-- the last character
+abbrev pub lastCharacter : ℕ → ℕ
+lastCharacter n = n - 1
+
+-- c is a character
+abbrev pub Character : ℕ → ℕ → Type 0
+Character n c = c < n
+
+abbrev pub isCharacter : ℕ → ℕ → Bool
+isCharacter n c = ltb c n
+
+-- a string over the alphabet
+abbrev pub Over : ℕ → List ℕ → Type 0
+Over n [] = Unit {0}
+Over n (c ∷ s) = Character n c × Over n s
+
+unfoldable pub allCharacters : ℕ → List ℕ → Bool
+allCharacters n [] = true
+allCharacters n (c ∷ s) = isCharacter n c && allCharacters n s

@@ -1,0 +1,77 @@
+-- Classes by labels, which checking computes: two nodes are in one class when their labels are equal. Chains are the words for it.
+use Prim.Native.Nat.{ℕ, zero, suc, _*_}
+use mathlib.Core.Bool.{Bool, true, false, cond, _||_}
+use mathlib.Core.Option.{Option, none, some}
+use mathlib.Core.List.{List, [], _∷_}
+use lib.ListN.{length, getD}
+use lib.Dec.{eqb}
+use Rattle.calculus.specs.Limits.{variableLimit}
+use Rattle.calculus.specs.Facts.{Fact, Branch, Question, same, apart, isLiteral, arithmetic}
+use Rattle.calculus.specs.Chains.{varNode, litNode}
+
+-- m numbers from k on
+abbrev pub upFrom : ℕ → ℕ → List ℕ
+upFrom k zero = []
+upFrom k (suc m) = k ∷ upFrom (suc k) m
+
+-- each label old becomes new
+abbrev pub relabel : ℕ → ℕ → List ℕ → List ℕ
+relabel old new [] = []
+relabel old new (c ∷ cs) = cond (eqb c old) new c ∷ relabel old new cs
+
+abbrev pub label : List ℕ → ℕ → ℕ
+label ls i = getD ls i i
+
+abbrev pub joinNodes : List ℕ → ℕ → ℕ → List ℕ
+joinNodes ls i j = relabel (label ls j) (label ls i) ls
+
+-- the labels once a fact more stands
+abbrev pub joinFact : List ℕ → Fact → List ℕ
+joinFact ls (same x y) = joinNodes ls (varNode x) (varNode y)
+joinFact ls (apart x y) = ls
+joinFact ls (isLiteral x l) = joinNodes ls (varNode x) (litNode l)
+joinFact ls (arithmetic r e) = ls
+
+abbrev pub labelsFrom : List ℕ → Branch → List ℕ
+labelsFrom ls [] = ls
+labelsFrom ls (f ∷ b) = labelsFrom (joinFact ls f) b
+
+-- 16 variables and 16 literals, the empty one included
+abbrev pub nodeCount : ℕ
+nodeCount = 2 * variableLimit
+
+-- the label of each node
+abbrev pub labels : Branch → List ℕ
+labels b = labelsFrom (upFrom 0 nodeCount) b
+
+abbrev pub sameClass : List ℕ → ℕ → ℕ → Bool
+sameClass ls i j = eqb (label ls i) (label ls j)
+
+-- the lowest literal from k on in the class of x, among m: "the lowest literal number counts"
+abbrev pub lowest : List ℕ → ℕ → ℕ → ℕ → Option ℕ
+lowest ls x k zero = none
+lowest ls x k (suc m) = elim (sameClass ls (varNode x) (litNode k)) [ true ↦ some k | false ↦ lowest ls x (suc k) m ]
+
+abbrev pub classLiteral : Question → Branch → ℕ → Option ℕ
+classLiteral u b x = lowest (labels b) x 0 (suc (length (u .literals)))
+
+-- some number below m passes the test
+abbrev pub anyBelow : ℕ → (ℕ → Bool) → Bool
+anyBelow zero t = false
+anyBelow (suc m) t = t m || anyBelow m t
+
+-- "two different literals share a class"
+abbrev pub literalsMeet : Question → List ℕ → Bool
+literalsMeet u ls = anyBelow (suc (length (u .literals))) (λ i. anyBelow i (λ j. sameClass ls (litNode i) (litNode j)))
+
+-- "a ≉ fact has both sides in one"
+abbrev pub apartMeet : List ℕ → Branch → Bool
+apartMeet ls [] = false
+apartMeet ls (same x y ∷ b) = apartMeet ls b
+apartMeet ls (apart x y ∷ b) = sameClass ls (varNode x) (varNode y) || apartMeet ls b
+apartMeet ls (isLiteral x l ∷ b) = apartMeet ls b
+apartMeet ls (arithmetic r e ∷ b) = apartMeet ls b
+
+-- S-Conf fits
+abbrev pub conflict : Question → Branch → Bool
+conflict u b = let ls = labels b in literalsMeet u ls || apartMeet ls b

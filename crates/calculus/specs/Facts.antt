@@ -1,0 +1,58 @@
+-- Questions and their facts; "Its constraints are facts 0, 1 and on".
+use Prim.Native.Nat.{ℕ, _+_}
+use mathlib.Core.Bool.{Bool, not}
+use mathlib.Core.List.{List, [], _∷_}
+use lib.ListN.{length, getD}
+use lib.IntN.{ℤ, pos, negsuc}
+use Rattle.calculus.specs.Rows.{column, nonneg, isZero}
+
+-- "relation (0 is ≥ 0, 1 is = 0, 2 is ≠ 0)"
+pub data Relation : Type 0 where
+  ge eq ne : Relation
+
+abbrev pub holds : Relation → ℤ → Bool
+holds ge z = nonneg z
+holds eq z = isZero z
+holds ne z = not (isZero z)
+
+-- variable ≈ variable, variable ≉ variable, variable ≈ literal, and a form related to 0
+pub data Fact : Type 0 where
+  same : ℕ → ℕ → Fact
+  apart : ℕ → ℕ → Fact
+  isLiteral : ℕ → ℕ → Fact
+  arithmetic : Relation → List ℤ → Fact
+
+-- the facts that stand, by their numbers
+abbrev pub Branch : Type 0
+Branch = List Fact
+
+-- "Kinds 1 to 4 are the question": n characters, p string and q integer variables
+pub record Question : Type 0 where
+  pub n : ℕ
+  pub p : ℕ
+  pub q : ℕ
+  pub literals : List (List ℕ)
+  pub constraints : Branch
+
+-- "literal 0 is the empty string and is never written"
+abbrev pub literal : Question → ℕ → List ℕ
+literal u l = getD ([] ∷ u .literals) l []
+
+-- "function (0 len, 1 code)"
+pub data Function : Type 0 where
+  len code : Function
+
+-- the form f(x): "Columns: the q integer variables, then len of each string variable, then code of each"
+abbrev pub apply : Question → Function → ℕ → List ℤ
+apply u len x = column (u .q + x)
+apply u code x = column (u .q + (u .p + x))
+
+-- "code (the code point of a one-character string, else −1)"
+abbrev pub codeOf : List ℕ → ℤ
+codeOf [] = negsuc 0
+codeOf (c ∷ []) = pos c
+codeOf (c ∷ d ∷ s) = negsuc 0
+
+abbrev pub valueOf : Function → List ℕ → ℤ
+valueOf len s = pos (length s)
+valueOf code s = codeOf s

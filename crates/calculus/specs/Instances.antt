@@ -1,0 +1,231 @@
+-- When a step is an instance of its rule on a branch, and with which children, rule by rule in document 01's words.
+use Prim.Native.Nat.{ℕ, suc, _+_, _-_, _^_, _<_, _≤_}
+use mathlib.Core.Path.{_≡_}
+use mathlib.Core.Logic.{_≢_, _⊎_}
+use mathlib.Core.Option.{some}
+use mathlib.Core.List.{List, [], _∷_}
+use lib.ListN.{length, getD, getElem?}
+use lib.IntN.{ℤ, pos, negsuc, negℤ, _+ℤ_, _*ℤ_}
+use lib.Signed.{_≤ℤ_, _<ℤ_}
+use Rattle.lists.specs.Lists.{All, Distinct}
+use Rattle.calculus.specs.Limits.{variableLimit, literalLimit, columnLimit}
+use Rattle.calculus.specs.Alphabet.{characterCount, lastCharacter}
+use Rattle.calculus.specs.Rows.{plus, scale, number, minus, less, below}
+use Rattle.calculus.specs.Facts.{Question, Fact, same, apart, isLiteral, arithmetic, Branch, Relation, ge, eq, ne, Function, len, code, literal, apply, valueOf}
+use Rattle.calculus.specs.Chains.{litNode, Chain, OneClass, Counts}
+use Rattle.calculus.specs.Steps.{Step, Sum, Split, Apart, AConf, SConf, SProp, LIntro, LValid, CCollapse, CValid, CInj, Card, Join}
+use Rattle.calculus.specs.Rules.{pairs, one}
+
+-- a form's constant (place 0) and its coefficient of column j (place j + 1)
+abbrev pub entry : List ℤ → ℕ → ℤ
+entry e j = getD e j (pos 0)
+
+-- fact number k of the branch is f
+abbrev pub FactAt : Branch → ℕ → Fact → Type 0
+FactAt b k f = getElem? b k ≡ some f
+
+-- f is a fact of the branch
+abbrev pub Stands : Branch → Fact → Type 0
+Stands b f = (k : ℕ) × FactAt b k f
+
+-- ---- 1 Sum
+
+-- "Multipliers are at least 1 on a ≥ fact, nonzero on an equation; ≠ facts do not fit"
+abbrev pub Multiplier : Relation → ℤ → Type 0
+Multiplier ge m = pos 1 ≤ℤ m
+Multiplier eq m = m ≢ pos 0
+Multiplier ne m = ⊥
+
+-- the pair (fact k, multiplier m) names an arithmetic fact with the form e
+pub record Summand (b : Branch) (k : ℕ) (m : ℤ) (e : List ℤ) : Type 0 where
+  pub relation : Relation
+  pub named : FactAt b k (arithmetic relation e)
+  pub multiplier : Multiplier relation m
+
+abbrev pub Summands : Branch → List (ℕ × ℤ) → List (List ℤ) → Type 0
+Summands b [] [] = Unit {0}
+Summands b [] (e ∷ es) = ⊥
+Summands b (t ∷ ts) [] = ⊥
+Summands b (t ∷ ts) (e ∷ es) = Summand b (t .0) (t .1) e × Summands b ts es
+
+-- the sum in place j, each form taken times its multiplier
+abbrev pub total : ℕ → List (ℕ × ℤ) → List (List ℤ) → ℤ
+total j [] es = pos 0
+total j (t ∷ ts) [] = pos 0
+total j (t ∷ ts) (e ∷ es) = (t .1 *ℤ entry e j) +ℤ total j ts es
+
+-- "Column sums must divide exactly; the constant is divided rounding down. Adds a ≥ fact."
+pub record IsSum (b : Branch) (d : ℕ) (ts : List (ℕ × ℤ)) (cs : List (List Fact)) : Type 0 where
+  pub forms : List (List ℤ)
+  pub summands : Summands b ts forms
+  pub new : List ℤ
+  pub size : length new ≡ suc columnLimit
+  pub columns : (j : ℕ) → pos d *ℤ entry new (suc j) ≡ total (suc j) ts forms
+  pub floor-low : (pos d *ℤ entry new 0) ≤ℤ total 0 ts forms
+  pub floor-high : total 0 ts forms <ℤ (pos d *ℤ (entry new 0 +ℤ pos 1))
+  pub adds : cs ≡ one (arithmetic ge new)
+
+-- ---- 3 Apart: "a fact e ≠ 0. Children e−1 ≥ 0; −e−1 ≥ 0"
+
+pub record IsApart (b : Branch) (k : ℕ) (cs : List (List Fact)) : Type 0 where
+  pub form : List ℤ
+  pub named : FactAt b k (arithmetic ne form)
+  pub adds : cs ≡ (arithmetic ge (less form) ∷ []) ∷ (arithmetic ge (below form) ∷ []) ∷ []
+
+-- ---- 4 A-Conf: "an arithmetic fact without coefficients and false. Closes"
+
+-- the constant c makes the relation false
+abbrev pub False : Relation → ℤ → Type 0
+False ge c = c <ℤ pos 0
+False eq c = c ≢ pos 0
+False ne c = c ≡ pos 0
+
+pub record IsAConf (b : Branch) (k : ℕ) (cs : List (List Fact)) : Type 0 where
+  pub relation : Relation
+  pub form : List ℤ
+  pub named : FactAt b k (arithmetic relation form)
+  pub no-coefficient : (j : ℕ) → entry form (suc j) ≡ pos 0
+  pub false-constant : False relation (entry form 0)
+  pub closes : cs ≡ []
+
+-- ---- 5 S-Conf: "two different literals share a class, or a ≉ fact has both sides in one"
+
+pub record LiteralsMeet (u : Question) (b : Branch) : Type 0 where
+  pub first : ℕ
+  pub second : ℕ
+  pub first-defined : first ≤ length (u .literals)
+  pub second-defined : second ≤ length (u .literals)
+  pub different : first ≢ second
+  pub joined : Chain b (litNode first) (litNode second)
+
+pub record ApartMeet (b : Branch) : Type 0 where
+  pub left : ℕ
+  pub right : ℕ
+  pub stands : Stands b (apart left right)
+  pub joined : OneClass b left right
+
+pub record IsSConf (u : Question) (b : Branch) (cs : List (List Fact)) : Type 0 where
+  pub clash : LiteralsMeet u b ⊎ ApartMeet b
+  pub closes : cs ≡ []
+
+-- ---- 6 S-Prop: "different variables x, y of one class. Adds f(x) − f(y) = 0"
+
+pub record IsSProp (u : Question) (b : Branch) (f : Function) (x y : ℕ) (cs : List (List Fact)) : Type 0 where
+  pub different : x ≢ y
+  pub joined : OneClass b x y
+  pub adds : cs ≡ one (arithmetic eq (minus (apply u f x) (apply u f y)))
+
+-- ---- 7 L-Intro and 9 C-Collapse: "x, whose class holds a literal l. Adds len(x) = length of l", "code(x) = code of l, or −1"
+
+pub record IsLiteral (u : Question) (b : Branch) (f : Function) (x : ℕ) (cs : List (List Fact)) : Type 0 where
+  pub held : ℕ
+  pub counts : Counts u b x held
+  pub adds : cs ≡ one (arithmetic eq (minus (apply u f x) (number (valueOf f (literal u held)))))
+
+-- ---- 11 C-Inj: "different x, y. Children code(x) = −1; code(x) − code(y) ≠ 0; x ≈ y"
+
+pub record IsCInj (u : Question) (x y : ℕ) (cs : List (List Fact)) : Type 0 where
+  pub different : x ≢ y
+  pub adds : cs ≡ (arithmetic eq (minus (apply u code x) (number (negsuc 0))) ∷ [])
+      ∷ (arithmetic ne (minus (apply u code x) (apply u code y)) ∷ [])
+      ∷ (same x y ∷ [])
+      ∷ []
+
+-- ---- 12 Card
+
+-- "a fact states their lengths' difference = 0, coefficients 1 and −1 in either order"
+abbrev pub LengthsStated : Question → Branch → ℕ → ℕ → Type 0
+LengthsStated u b x y = Stands b (arithmetic eq (minus (apply u len x) (apply u len y))) ⊎ Stands b (arithmetic eq (minus (apply u len y) (apply u len x)))
+
+-- "for each neighbouring pair": x is the neighbour of the first of the list
+abbrev pub Neighbours : Question → Branch → ℕ → List ℕ → Type 0
+Neighbours u b x [] = Unit {0}
+Neighbours u b x (y ∷ ys) = LengthsStated u b x y × Neighbours u b y ys
+
+-- "L the smallest number such that n to the power L is at least m"
+pub record LeastPower (n m l : ℕ) : Type 0 where
+  pub reaches : m ≤ n ^ l
+  pub least : (k : ℕ) → m ≤ n ^ k → l ≤ k
+
+pub record Bound (u : Question) (x m : ℕ) (cs : List (List Fact)) : Type 0 where
+  pub power : ℕ
+  pub least : LeastPower (characterCount (u .n)) m power
+  pub adds : cs ≡ one (arithmetic ge (minus (apply u len x) (number (pos power))))
+
+-- "last, len(x_1) ≥ L. With n = 1 the last child is left out"
+abbrev pub LastChild : Question → ℕ → ℕ → List (List Fact) → Type 0
+LastChild u x m cs = ((characterCount (u .n) ≡ 1) × (cs ≡ [])) ⊎ ((characterCount (u .n) ≢ 1) × Bound u x m cs)
+
+-- "2 to 16 different variables, m of them. Children, for each pair i < j in lexicographic order, x_i ≈ x_j"
+pub record IsCard (u : Question) (b : Branch) (x : ℕ) (xs : List ℕ) (cs : List (List Fact)) : Type 0 where
+  pub different : Distinct (x ∷ xs)
+  pub lengths : Neighbours u b x xs
+  pub last : List (List Fact)
+  pub last-child : LastChild u x (suc (length xs)) last
+  pub adds : cs ≡ pairs (x ∷ xs) last
+
+-- ---- 13 Join: "two ≥ facts, one the negative of the other. Adds the first as an equation"
+
+pub record IsJoin (b : Branch) (j k : ℕ) (cs : List (List Fact)) : Type 0 where
+  pub form : List ℤ
+  pub negative : List ℤ
+  pub first : FactAt b j (arithmetic ge form)
+  pub second : FactAt b k (arithmetic ge negative)
+  pub negated : (i : ℕ) → entry negative i ≡ negℤ (entry form i)
+  pub adds : cs ≡ one (arithmetic eq form)
+
+-- ---- every rule
+
+-- the step is an instance of its rule on the branch b, with the children cs; a closing rule has none
+unfoldable pub Instance : Question → Branch → Step → List (List Fact) → Type 0
+Instance u b (Sum d ts) cs = IsSum b d ts cs
+Instance u b (Split e) cs = cs ≡ (arithmetic ge e ∷ []) ∷ (arithmetic ge (below e) ∷ []) ∷ []
+Instance u b (Apart k) cs = IsApart b k cs
+Instance u b (AConf k) cs = IsAConf b k cs
+Instance u b SConf cs = IsSConf u b cs
+Instance u b (SProp f x y) cs = IsSProp u b f x y cs
+Instance u b (LIntro x) cs = IsLiteral u b len x cs
+Instance u b (LValid x) cs = cs ≡ (isLiteral x 0 ∷ []) ∷ (arithmetic ge (less (apply u len x)) ∷ []) ∷ []
+Instance u b (CCollapse x) cs = IsLiteral u b code x cs
+Instance u b (CValid x) cs = cs ≡
+    (arithmetic ne (less (apply u len x)) ∷ arithmetic eq (minus (apply u code x) (number (negsuc 0))) ∷ [])
+    ∷ (arithmetic eq (less (apply u len x)) ∷ arithmetic ge (apply u code x) ∷ arithmetic ge (minus (number (pos (lastCharacter (u .n)))) (apply u code x)) ∷ [])
+    ∷ []
+Instance u b (CInj x y) cs = IsCInj u x y cs
+Instance u b (Card []) cs = ⊥
+Instance u b (Card (x ∷ xs)) cs = IsCard u b x xs cs
+Instance u b (Join j k) cs = IsJoin b j k cs
+
+-- ---- what the reader guarantees of a question and of a decoded step (refusals 4 to 6)
+
+-- "u32 n (1 to 196,608), u16 p, u16 q (each 0 to 16)", "literal, 0 to 15 of them"
+pub record HeadInRange (u : Question) : Type 0 where
+  pub alphabet : 1 ≤ u .n
+  pub strings : u .p ≤ variableLimit
+  pub integers : u .q ≤ variableLimit
+  pub literals : length (u .literals) ≤ literalLimit
+
+-- variables and literals are the question's, forms have a constant and 48 coefficients
+abbrev pub FactInRange : Question → Fact → Type 0
+FactInRange u (same x y) = (x < u .p) × (y < u .p)
+FactInRange u (apart x y) = (x < u .p) × (y < u .p)
+FactInRange u (isLiteral x l) = (x < u .p) × (l ≤ length (u .literals))
+FactInRange u (arithmetic r e) = length e ≡ suc columnLimit
+
+abbrev pub FactsInRange : Question → List Fact → Type 0
+FactsInRange u fs = All (FactInRange u) fs
+
+unfoldable pub StepInRange : Question → Step → Type 0
+StepInRange u (Sum d ts) = (1 ≤ d) × (1 ≤ length ts)
+StepInRange u (Split e) = length e ≡ suc columnLimit
+StepInRange u (Apart k) = Unit {0}
+StepInRange u (AConf k) = Unit {0}
+StepInRange u SConf = Unit {0}
+StepInRange u (SProp f x y) = (x < u .p) × (y < u .p)
+StepInRange u (LIntro x) = x < u .p
+StepInRange u (LValid x) = x < u .p
+StepInRange u (CCollapse x) = x < u .p
+StepInRange u (CValid x) = x < u .p
+StepInRange u (CInj x y) = (x < u .p) × (y < u .p)
+StepInRange u (Card xs) = All (λ x. x < u .p) xs × (2 ≤ length xs)
+StepInRange u (Join j k) = Unit {0}

@@ -1,0 +1,16 @@
+pub mod Limits
+pub mod Alphabet
+pub mod Rows
+pub mod Facts
+pub mod Chains
+pub mod Classes
+pub mod Steps
+pub mod Rules
+pub mod Instances
+pub mod Walk
+pub mod Derivations
+pub mod Model
+pub mod Saturation
+pub mod SaturationTest
+pub mod Strings
+pub mod Meaning

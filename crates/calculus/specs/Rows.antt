@@ -1,0 +1,79 @@
+-- Forms: an integer form is a list, the constant first, then a coefficient for each of the 48 columns.
+use Prim.Native.Nat.{ℕ, zero, suc, _-_, _/_}
+use mathlib.Core.Bool.{Bool, true, false, _&&_}
+use mathlib.Core.List.{List, [], _∷_, _++_}
+use lib.ListN.{replicate}
+use lib.Dec.{eqb}
+use lib.IntN.{ℤ, pos, negsuc, _+ℤ_, _*ℤ_}
+use Rattle.calculus.specs.Limits.{columnLimit}
+
+abbrev pub plus : List ℤ → List ℤ → List ℤ
+plus [] b = b
+plus (x ∷ a) [] = x ∷ a
+plus (x ∷ a) (y ∷ b) = (x +ℤ y) ∷ plus a b
+
+abbrev pub scale : ℤ → List ℤ → List ℤ
+scale k [] = []
+scale k (x ∷ a) = (k *ℤ x) ∷ scale k a
+
+abbrev pub zeros : ℕ → List ℤ
+zeros n = replicate n (pos 0)
+
+-- the form that is the number k
+abbrev pub number : ℤ → List ℤ
+number k = k ∷ zeros columnLimit
+
+-- the form that is the column j
+abbrev pub column : ℕ → List ℤ
+column j = pos 0 ∷ (zeros j ++ (pos 1 ∷ zeros (columnLimit - 1 - j)))
+
+abbrev pub minus : List ℤ → List ℤ → List ℤ
+minus a b = plus a (scale (negsuc 0) b)
+
+-- e−1
+abbrev pub less : List ℤ → List ℤ
+less e = plus e (number (negsuc 0))
+
+-- −e−1
+abbrev pub below : List ℤ → List ℤ
+below e = plus (scale (negsuc 0) e) (number (negsuc 0))
+
+abbrev pub nonneg : ℤ → Bool
+nonneg (pos n) = true
+nonneg (negsuc n) = false
+
+abbrev pub isZero : ℤ → Bool
+isZero (pos zero) = true
+isZero (pos (suc n)) = false
+isZero (negsuc n) = false
+
+abbrev pub eqℤ : ℤ → ℤ → Bool
+eqℤ (pos m) (pos n) = eqb m n
+eqℤ (pos m) (negsuc n) = false
+eqℤ (negsuc m) (pos n) = false
+eqℤ (negsuc m) (negsuc n) = eqb m n
+
+abbrev pub eqRow : List ℤ → List ℤ → Bool
+eqRow [] [] = true
+eqRow [] (y ∷ b) = false
+eqRow (x ∷ a) [] = false
+eqRow (x ∷ a) (y ∷ b) = eqℤ x y && eqRow a b
+
+abbrev pub allZero : List ℤ → Bool
+allZero [] = true
+allZero (x ∷ a) = isZero x && allZero a
+
+-- division by d, rounding down
+abbrev pub floorDiv : ℤ → ℕ → ℤ
+floorDiv (pos a) d = pos (a / d)
+floorDiv (negsuc a) d = negsuc (a / d)
+
+abbrev pub divRow : List ℤ → ℕ → List ℤ
+divRow [] d = []
+divRow (x ∷ a) d = floorDiv x d ∷ divRow a d
+
+-- the value of a form where the columns have the values v, with 1 in front
+abbrev pub dot : List ℤ → List ℤ → ℤ
+dot [] v = pos 0
+dot (k ∷ ks) [] = pos 0
+dot (k ∷ ks) (z ∷ v) = (k *ℤ z) +ℤ dot ks v

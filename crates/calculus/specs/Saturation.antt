@@ -1,0 +1,83 @@
+-- Saturation (document 01: "settled") in words: by chains, by the model's values, over every choice of operands.
+use Prim.Native.Nat.{ℕ, suc, _<_, _≤_}
+use mathlib.Core.Path.{_≡_}
+use mathlib.Core.Logic.{_≢_}
+use mathlib.Core.Option.{some}
+use mathlib.Core.List.{List, [], _∷_}
+use lib.ListN.{length, getElem?}
+use lib.IntN.{ℤ, pos}
+use lib.Signed.{_≤ℤ_}
+use Rattle.lists.specs.Lists.{All, Distinct}
+use Rattle.calculus.specs.Limits.{lengthLimit}
+use Rattle.calculus.specs.Facts.{Question, Fact, same, apart, isLiteral, arithmetic, Branch, Relation, ge, eq, ne, len}
+use Rattle.calculus.specs.Chains.{OneClass, ClassHolds}
+use Rattle.calculus.specs.Steps.{Step, Sum, Split, Apart, AConf, SConf, SProp, LIntro, LValid, CCollapse, CValid, CInj, Card, Join}
+use Rattle.calculus.specs.Rules.{pairs}
+use Rattle.calculus.specs.Instances.{LastChild, Instance, StepInRange}
+use Rattle.calculus.specs.Model.{modelOf, valueIn}
+
+abbrev pub Holds : Relation → ℤ → Type 0
+Holds ge z = pos 0 ≤ℤ z
+Holds eq z = z ≡ pos 0
+Holds ne z = z ≢ pos 0
+
+-- "holds already: an arithmetic fact by the model's values, an ≈ by classes"; no child has a ≉ fact
+abbrev pub HoldsAlready : Branch → List ℤ → Fact → Type 0
+HoldsAlready b m (same x y) = OneClass b x y
+HoldsAlready b m (apart x y) = OneClass b x y → ⊥
+HoldsAlready b m (isLiteral x l) = ClassHolds b x l
+HoldsAlready b m (arithmetic r e) = Holds r (valueIn m e)
+
+-- "some child holds already", with all its facts
+pub record SomeChild (b : Branch) (m : List ℤ) (cs : List (List Fact)) : Type 0 where
+  pub number : ℕ
+  pub child : List Fact
+  pub is : getElem? cs number ≡ some child
+  pub held : All (HoldsAlready b m) child
+
+-- "Card's premise is equal model lengths"
+pub record IsLeafCard (u : Question) (m : List ℤ) (x : ℕ) (xs : List ℕ) (cs : List (List Fact)) : Type 0 where
+  pub different : Distinct (x ∷ xs)
+  pub lengths : All (λ y. modelOf u m len y ≡ modelOf u m len x) xs
+  pub last : List (List Fact)
+  pub last-child : LastChild u x (suc (length xs)) last
+  pub adds : cs ≡ pairs (x ∷ xs) last
+
+-- the choices of operands "whose premise holds in rules 6 to 12", with their children; "S-Prop's and the others' are by classes"
+unfoldable pub LeafInstance : Question → Branch → List ℤ → Step → List (List Fact) → Type 0
+LeafInstance u b m (Sum d ts) cs = ⊥
+LeafInstance u b m (Split e) cs = ⊥
+LeafInstance u b m (Apart k) cs = ⊥
+LeafInstance u b m (AConf k) cs = ⊥
+LeafInstance u b m SConf cs = ⊥
+LeafInstance u b m (SProp f x y) cs = Instance u b (SProp f x y) cs
+LeafInstance u b m (LIntro x) cs = Instance u b (LIntro x) cs
+LeafInstance u b m (LValid x) cs = Instance u b (LValid x) cs
+LeafInstance u b m (CCollapse x) cs = Instance u b (CCollapse x) cs
+LeafInstance u b m (CValid x) cs = Instance u b (CValid x) cs
+LeafInstance u b m (CInj x y) cs = Instance u b (CInj x y) cs
+LeafInstance u b m (Card []) cs = ⊥
+LeafInstance u b m (Card (x ∷ xs)) cs = IsLeafCard u m x xs cs
+LeafInstance u b m (Join j k) cs = ⊥
+
+-- "A leaf is settled by its model if S-Conf does not fit and, for every choice of operands whose premise holds in rules 6 to 12, some child holds already"
+pub record Saturated (u : Question) (b : Branch) (m : List ℤ) : Type 0 where
+  pub no-conflict : (cs : List (List Fact)) → Instance u b SConf cs → ⊥
+  pub some-child : (st : Step) → StepInRange u st → (cs : List (List Fact)) → LeafInstance u b m st cs → SomeChild b m cs
+
+-- "The model meets its facts when each arithmetic one holds with the model's value in every column"
+abbrev pub MeetsArithmetic : List ℤ → Fact → Type 0
+MeetsArithmetic m (same x y) = Unit {0}
+MeetsArithmetic m (apart x y) = Unit {0}
+MeetsArithmetic m (isLiteral x l) = Unit {0}
+MeetsArithmetic m (arithmetic r e) = Holds r (valueIn m e)
+
+-- no "length passes 64"
+abbrev pub ShortLengths : Question → List ℤ → Type 0
+ShortLengths u m = (x : ℕ) → x < u .p → modelOf u m len x ≤ℤ pos lengthLimit
+
+-- what demand 3 asks of a leaf and its model
+pub record AcceptedLeaf (u : Question) (b : Branch) (m : List ℤ) : Type 0 where
+  pub met : All (MeetsArithmetic m) b
+  pub saturated : Saturated u b m
+  pub short : ShortLengths u m

@@ -1,0 +1,152 @@
+-- Checking: "Checking names the first faulty record from 0 (0 for 1 and 2), and there the first of" the numbers 1 to 14.
+use Prim.Native.Nat.{ℕ, _+_, _-_}
+use mathlib.Core.Bool.{Bool, true, false, _&&_, _||_}
+use mathlib.Core.Option.{Option, none, some}
+use mathlib.Core.List.{List, [], _∷_, _++_}
+use lib.ListN.{length, take, getElem?}
+use lib.Dec.{ltb, leb}
+use lib.IntN.{ℤ, pos, natAbs}
+use Rattle.calculus.specs.Limits.{workNumbers, answerBytes, lengthLimit, numberLimit, factLimit, pendingLimit}
+use Rattle.calculus.specs.Facts.{Question, Fact, same, apart, isLiteral, arithmetic, Branch, holds, len}
+use Rattle.calculus.specs.Rules as rules
+use Rattle.calculus.specs.Steps.{Step}
+use Rattle.calculus.specs.Walk.{Waiting, working, closed}
+use Rattle.calculus.specs.Model.{modelOf, valueIn}
+use Rattle.calculus.specs.SaturationTest.{saturated, every}
+use Rattle.calculus.specs.Strings.{strings}
+use Rattle.calculus.specs.Meaning.{Assignment}
+use Rattle.format.specs.Fields.{within}
+use Rattle.format.specs.Records.{need}
+use Rattle.format.specs.Question.{question}
+use Rattle.format.specs.Reading.{State, proving, taking, modelled, Method, Ticket, Faulty, Done, readBehind}
+use Rattle.format.specs.Answer.{encode}
+
+-- ---- 8 to 10: a step that does not fit, a number that passes the limit, facts or pending splits that would pass theirs
+
+abbrev pub fits : {A : Type 0} → Option A → Bool
+fits none = false
+fits (some a) = true
+
+abbrev pub orNone : {A : Type 0} → Option (List A) → List A
+orNone none = []
+orNone (some as') = as'
+
+-- "9 when a new number passes the limit"
+unfoldable pub rowWithin : List ℤ → Bool
+rowWithin [] = true
+rowWithin (z ∷ zs) = within numberLimit z && rowWithin zs
+
+abbrev pub factWithin : Fact → Bool
+factWithin (same x y) = true
+factWithin (apart x y) = true
+factWithin (isLiteral x l) = true
+factWithin (arithmetic r e) = rowWithin e
+
+unfoldable pub factsWithin : List Fact → Bool
+factsWithin [] = true
+factsWithin (f ∷ fs) = factWithin f && factsWithin fs
+
+unfoldable pub childrenWithin : List (List Fact) → Bool
+childrenWithin [] = true
+childrenWithin (c ∷ cs) = factsWithin c && childrenWithin cs
+
+-- "10 when facts or pending splits would pass theirs"
+abbrev pub room : ℕ → List Fact → Bool
+room k c = leb (k + length c) factLimit
+
+unfoldable pub roomForAll : ℕ → List (List Fact) → Bool
+roomForAll k [] = true
+roomForAll k (c ∷ cs) = room k c && roomForAll k cs
+
+-- a split with two or more children is pending
+abbrev pub roomToPend : ℕ → List (List Fact) → Bool
+roomToPend pending cs = leb (length cs) 1 || ltb pending pendingLimit
+
+-- "Under claim 1 all children of a split are tried for 9 and 10 at the split's own record"
+abbrev pub allTried : Branch → ℕ → Option (List (List Fact)) → ℕ
+allTried br pending o =
+    need 8 (fits o) (need 9 (childrenWithin (orNone o)) (need 10 (roomForAll (length br) (orNone o) && roomToPend pending (orNone o)) 0))
+
+-- "under claim 2 only the one taken"
+abbrev pub takenTried : Branch → Option (List Fact) → ℕ
+takenTried br o = need 8 (fits o) (need 9 (factsWithin (orNone o)) (need 10 (room (length br) (orNone o)) 0))
+
+-- the child of number k, from 1; a closing rule has none, so it does not fit under claim 2
+abbrev pub nth : Option (List (List Fact)) → ℕ → Option (List Fact)
+nth none k = none
+nth (some cs) k = getElem? cs (k - 1)
+
+-- ---- 12 to 14, at the model
+
+-- each arithmetic fact "holds with the model's value in every column"
+abbrev pub keepsFact : List ℤ → Fact → Bool
+keepsFact m (same x y) = true
+keepsFact m (apart x y) = true
+keepsFact m (isLiteral x l) = true
+keepsFact m (arithmetic r e) = holds r (valueIn m e)
+
+unfoldable pub keeps : List ℤ → Branch → Bool
+keeps m [] = true
+keeps m (f ∷ b) = keepsFact m f && keeps m b
+
+-- "14 when a length passes 64"
+abbrev pub shortLengths : Question → List ℤ → Bool
+shortLengths u m = every (u .p) (λ x. leb (natAbs (modelOf u m len x)) lengthLimit)
+
+-- "at the model, 12 when it breaks an arithmetic fact, 13 when the leaf is not settled, 14 when a length passes 64"
+abbrev pub leafFault : Question → Branch → List ℤ → ℕ
+leafFault u br m = need 12 (keeps m br) (need 13 (saturated u br m) (need 14 (shortLengths u m) 0))
+
+-- ---- 11, at the end
+
+-- "when the end comes before every branch closed, or before a model"
+abbrev pub complete : State Branch (List Fact) → Bool
+complete (proving (working br ss)) = false
+complete (proving closed) = true
+complete (taking br) = false
+complete (modelled br m) = true
+
+-- ---- the whole ticket
+
+-- the facts that the child of number k adds
+abbrev pub takenFacts : Question → Branch → Step → ℕ → Option (List Fact)
+takenFacts u br st k = nth (rules.children u br st) k
+
+abbrev pub checker : Question → Method Branch (List Fact)
+checker u = record {
+  root = u .constraints;
+  add = _++_;
+  children = λ br st. orNone (rules.children u br st);
+  taken = λ br st k. br ++ orNone (takenFacts u br st k);
+  splitFault = λ br ss st. allTried br (length ss) (rules.children u br st);
+  takenFault = λ br st k. takenTried br (takenFacts u br st k);
+  leafFault = leafFault u;
+  endFault = λ s. need 11 (complete s) 0;
+}
+
+-- Refused: the number and the record. Strings: the answer's bytes.
+pub data Outcome : Type 0 where
+  Refused : ℕ → ℕ → Outcome
+  NoSolution : Outcome
+  Strings : List ℕ → Outcome
+
+-- "The strings .. The integers are the model's"
+abbrev pub answerOf : Question → Branch → List ℤ → Assignment
+answerOf u br m = record { strs = strings u br m; ints = take (u .q) m }
+
+abbrev pub accepted : Question → State Branch (List Fact) → Outcome
+accepted u (proving w) = NoSolution
+accepted u (taking br) = NoSolution
+accepted u (modelled br m) = Strings (encode (answerOf u br m))
+
+abbrev pub outcomeOf : Ticket Branch (List Fact) → Outcome
+outcomeOf (Faulty c r) = Refused c r
+outcomeOf (Done u s) = accepted u s
+
+-- "Buffers are large enough when 1 does not apply"
+abbrev pub large : ℕ → ℕ → Bool
+large work answer = leb workNumbers work && leb answerBytes answer
+
+-- the outcome of checking a ticket, with the lengths of the work area and of the answer buffer
+unfoldable pub verdict : ℕ → ℕ → List ℕ → Outcome
+verdict work answer b = elim (large work answer) [ false ↦ Refused 1 0 | true ↦ outcomeOf (readBehind checker b (question b)) ]

@@ -1,0 +1,96 @@
+-- The demands as statements about bytes. TH-1 is what checking promises of its result and the lent buffers; TH-2 to TH-6 are theorems about
+-- the definitions, for every byte list.
+use Prim.Native.Nat.{ℕ, _<_}
+use mathlib.Core.Path.{_≡_}
+use mathlib.Core.Bool.{true}
+use mathlib.Core.Logic.{_≢_}
+use mathlib.Core.Option.{some}
+use mathlib.Core.List.{List, [], _++_}
+use lib.ListN.{length, drop, replicate, getElem?}
+use lib.Dec.{eqb}
+use lib.IntN.{ℤ, pos}
+use Rattle.calculus.specs.Facts.{Question, Fact, Branch}
+use Rattle.calculus.specs.Chains.{OneClass}
+use Rattle.calculus.specs.Derivations.{Closes, WithinLimits, Path, PathWithinLimits}
+use Rattle.calculus.specs.Saturation.{AcceptedLeaf}
+use Rattle.calculus.specs.Meaning.{Assignment, str, For, Meets, Met}
+use Rattle.format.specs.Fields.{pick}
+use Rattle.format.specs.Question.{questionOf}
+use Rattle.format.specs.Answer.{encode, assignmentOf}
+use Rattle.format.specs.Checking.{Outcome, Refused, NoSolution, Strings, large, verdict}
+use Rattle.format.specs.ProperForm.{ProperNo, ProperStrings, steps, takenSteps}
+use Rattle.format.specs.Judging.{Judged, judging, Judgement, AllMet, Unmet, Says}
+
+abbrev pub Iff : Type 0 → Type 0 → Type 0
+Iff A B = (A → B) × (B → A)
+
+-- ---- TH-1, demand 1: what checking promises of its result, the work area and the answer buffer
+
+-- "A refusal or an accepted "no solution" writes nothing to the answer buffer, and strings write nothing past the answer's length"
+abbrev pub written : Outcome → List ℕ
+written (Refused c r) = []
+written NoSolution = []
+written (Strings s) = s
+
+-- "The whole work area, numbers past 6,400 too, is zero after every call, except that 1 does not touch it"
+abbrev pub workAfter : Outcome → List ℤ → List ℤ
+workAfter (Refused c r) w = pick (eqb c 1) w (replicate (length w) (pos 0))
+workAfter NoSolution w = replicate (length w) (pos 0)
+workAfter (Strings s) w = replicate (length w) (pos 0)
+
+-- a ticket, the work area and the answer buffer before and after, and the outcome
+pub record Checked (ticket : List ℕ) (work work' : List ℤ) (answer answer' : List ℕ) (o : Outcome) : Type 0 where
+  pub outcome : o ≡ verdict (length work) (length answer) ticket
+  pub work-after : work' ≡ workAfter o work
+  pub answer-after : answer' ≡ written o ++ drop (length (written o)) answer
+
+-- ---- TH-2, demand 2: a derivation of proper form within the limits is accepted exactly when its steps are one closed tree of instances
+
+abbrev pub TH-2 : Type 0
+TH-2 = (work answer : ℕ) (t : List ℕ) (u : Question) → large work answer ≡ true → ProperNo t u → WithinLimits u (steps t)
+    → Iff (verdict work answer t ≡ NoSolution) (Closes u (u .constraints) (steps t))
+
+-- ---- TH-3, demand 2: judging says what the theory says
+
+-- the values judged are an assignment of the question; all met is said exactly when it meets every constraint; one named is not met
+pub record Judges (b v : List ℕ) (j : Judgement) (u : Question) (a : Assignment) : Type 0 where
+  pub asked : questionOf b ≡ some u
+  pub values : a ≡ assignmentOf v u
+  pub for-question : For u a
+  pub all-met : Iff (j ≡ AllMet) (Met u a (u .constraints))
+  pub unmet : (k : ℕ) → j ≡ Unmet k → (f : Fact) × (getElem? (u .constraints) k ≡ some f) × (Meets u a f → ⊥)
+
+abbrev pub TH-3 : Type 0
+TH-3 = (b v : List ℕ) (j : Judgement) → Says (judging b v) j → (u : Question) (a : Assignment) → judging b v ≡ Judged u a → Judges b v j u a
+
+-- ---- TH-4, demand 3: whatever the bytes, where checking says "no solution", no assignment meets all constraints
+
+abbrev pub NoAssignment : Question → Type 0
+NoAssignment u = (a : Assignment) → For u a → Met u a (u .constraints) → ⊥
+
+abbrev pub TH-4 : Type 0
+TH-4 = (work answer : ℕ) (t : List ℕ) → verdict work answer t ≡ NoSolution → (u : Question) × (questionOf t ≡ some u) × NoAssignment u
+
+-- ---- TH-5, demand 3: whatever the bytes, where checking gives strings, they meet every constraint and differ wherever the leaf's classes differ
+
+-- the leaf is "the question's constraints and every fact that the steps added, of a split those of the child taken"
+pub record Answered (t : List ℕ) (u : Question) (out : List ℕ) : Type 0 where
+  pub asked : questionOf t ≡ some u
+  pub assignment : Assignment
+  pub for-question : For u assignment
+  pub bytes : out ≡ encode assignment
+  pub meets-all : Met u assignment (u .constraints)
+  pub leaf : Branch
+  pub path : Path u (u .constraints) (takenSteps t) leaf
+  pub differ : (x y : ℕ) → x < u .p → y < u .p → (OneClass leaf x y → ⊥) → str assignment x ≢ str assignment y
+
+abbrev pub TH-5 : Type 0
+TH-5 = (work answer : ℕ) (t out : List ℕ) → verdict work answer t ≡ Strings out → (u : Question) × Answered t u out
+
+-- ---- TH-6, demand 3: strings of proper form within the limits, every step proper, are accepted exactly when the leaf is settled, the model meets
+-- its facts and no length passes 64
+
+abbrev pub TH-6 : Type 0
+TH-6 = (work answer : ℕ) (t : List ℕ) (u : Question) (m : List ℤ) (leaf : Branch) → large work answer ≡ true → ProperStrings t u m
+    → PathWithinLimits u (takenSteps t) → Path u (u .constraints) (takenSteps t) leaf
+    → Iff ((out : List ℕ) × (verdict work answer t ≡ Strings out)) (AcceptedLeaf u leaf m)

@@ -1,0 +1,12 @@
+pub mod Fields
+pub mod Records
+pub mod Question
+pub mod Places
+pub mod StepForms
+pub mod Answer
+pub mod Reading
+pub mod Checking
+pub mod ProperForm
+pub mod Judging
+pub mod Demands
+pub mod Cases

@@ -1,0 +1,56 @@
+-- Proper form: "A ticket is of proper form when, read to its end with every step taken as if it fitted, none of 2 to 7 below applies,
+-- and under claim 2 a model stands before the end". And what a ticket of proper form holds, all by the bytes sent.
+use Prim.Native.Nat.{ℕ, _+_, _-_}
+use mathlib.Core.Path.{_≡_}
+use mathlib.Core.Bool.{true, false}
+use mathlib.Core.List.{List, [], _∷_, map}
+use lib.ListN.{length, getD}
+use lib.Dec.{eqb}
+use lib.IntN.{ℤ}
+use Rattle.calculus.specs.Facts.{Question}
+use Rattle.calculus.specs.Steps.{Step, shape}
+use Rattle.calculus.specs.Walk.{Walk}
+use Rattle.format.specs.Records.{size, kind, next, records}
+use Rattle.format.specs.Question.{Reading, Stopped, Ended, questionForm}
+use Rattle.format.specs.StepForms.{child, stepAt}
+use Rattle.format.specs.Reading.{proving, modelled, Method, Ticket, Done, readBehind}
+
+-- "every step taken as if it fitted": a branch is the number of its facts. Under claim 2 a closing rule closes nothing.
+abbrev pub former : Question → Method ℕ ℕ
+former u = record {
+  root = length (u .constraints);
+  add = _+_;
+  children = λ k st. shape (u .n) st;
+  taken = λ k st c. k + getD (shape (u .n) st) (c - 1) 0;
+  splitFault = λ k ss st. 0;
+  takenFault = λ k st c. 0;
+  leafFault = λ k m. 0;
+  endFault = λ s. 0;
+}
+
+unfoldable pub formOf : List ℕ → Ticket ℕ ℕ
+formOf b = readBehind former b (questionForm b)
+
+-- proper form under claim 1: the bytes put the question u
+abbrev pub ProperNo : List ℕ → Question → Type 0
+ProperNo b u = (w : Walk ℕ ℕ) × (formOf b ≡ Done u (proving w))
+
+-- proper form under claim 2: the bytes put the question u, and the model m stands before the end
+abbrev pub ProperStrings : List ℕ → Question → List ℤ → Type 0
+ProperStrings b u m = (k : ℕ) × (formOf b ≡ Done u (modelled k m))
+
+-- ---- the steps of a ticket, each with its child field: the records of kind 6 behind the claim
+
+unfoldable pub stepsAt : List ℕ → List ℕ → List (Step × ℕ)
+stepsAt b [] = []
+stepsAt b (at ∷ ats) = elim (eqb (kind b at) 6) [ false ↦ [] | true ↦ (stepAt b (at + 6) (size b at), child b (at + 6)) ∷ stepsAt b ats ]
+
+abbrev pub stepsBehind : List ℕ → Reading → List (Step × ℕ)
+stepsBehind b (Stopped c r) = []
+stepsBehind b (Ended s at r) = stepsAt b (records b (next b at))
+
+abbrev pub takenSteps : List ℕ → List (Step × ℕ)
+takenSteps b = stepsBehind b (questionForm b)
+
+abbrev pub steps : List ℕ → List Step
+steps b = map (λ (t : Step × ℕ). t .0) (takenSteps b)

@@ -1,0 +1,1 @@
+// Laws of the integers, for other crates: see proofs/.

@@ -1,0 +1,1 @@
+// Laws of lists, for other crates: see specs/ and proofs/.
