@@ -1,0 +1,4 @@
+pub mod Ring
+pub mod Quote
+pub mod Laws
+pub mod Machine

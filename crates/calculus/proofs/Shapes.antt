@@ -1,0 +1,91 @@
+-- An instance has the shape that its step shows, and the walk over shapes is the walk over facts, counted.
+use Prim.Native.Nat.{ℕ, zero, suc, _+_, _-_, _≤_}
+use native.Mathlib.Omega.{arith}
+use mathlib.Core.Path.{_≡_, refl, sym, _∙_, ap, ap₂}
+use mathlib.Core.Logic.{inl, inr}
+use mathlib.Core.List.{List, [], _∷_, _++_, map}
+use lib.ListN.{length, replicate, length-append}
+use Rattle.calculus.specs.Facts.{Question, Fact, Branch}
+use Rattle.calculus.specs.Steps.{Step, Sum, Split, Apart, AConf, SConf, SProp, LIntro, LValid, CCollapse, CValid, CInj, Card, Join, pairCount, lastCount, shape}
+use Rattle.calculus.specs.Rules.{pairsWith, pairs}
+use Rattle.calculus.specs.Instances.{LastChild, Instance}
+use Rattle.calculus.specs.Walk.{working, Waiting, Walk, closed, wait, cutBack, enter}
+
+sizes : List (List Fact) → List ℕ
+sizes cs = map length cs
+
+pairs-with-sizes : (x : ℕ) (ys : List ℕ) (more : List (List Fact)) (k : ℕ) → sizes more ≡ replicate k 1 → sizes (pairsWith x ys more) ≡ replicate (length ys + k) 1
+unfolding sizes
+pairs-with-sizes x [] more k e = e ∙ ap (λ n. replicate n 1) z
+  where
+    z : k ≡ 0 + k
+    z = omega arith
+pairs-with-sizes x (y ∷ ys) more k e = ap (λ l. 1 ∷ l) (pairs-with-sizes x ys more k e) ∙ ap (λ n. replicate n 1) z
+  where
+    z : suc (length ys + k) ≡ suc (length ys) + k
+    z = omega arith
+
+pairs-sizes : (xs : List ℕ) (more : List (List Fact)) (k : ℕ) → sizes more ≡ replicate k 1 → sizes (pairs xs more) ≡ replicate (pairCount (length xs) + k) 1
+pairs-sizes [] more k e = e ∙ ap (λ n. replicate n 1) z
+  where
+    z : k ≡ 0 + k
+    z = omega arith
+pairs-sizes (x ∷ xs) more k e = pairs-with-sizes x xs (pairs xs more) (pairCount (length xs) + k) (pairs-sizes xs more k e) ∙ ap (λ n. replicate n 1) z
+  where
+    z : length xs + (pairCount (length xs) + k) ≡ (length xs + pairCount (length xs)) + k
+    z = omega arith
+
+last-sizes : (u : Question) (x m : ℕ) (cs : List (List Fact)) → 1 ≤ u .n → LastChild u x m cs → sizes cs ≡ replicate (lastCount (u .n)) 1
+unfolding sizes
+last-sizes u x m cs h (inl (e, p)) = ap (map length) p ∙ ap (λ n. replicate (lastCount n) 1) (sym e)
+last-sizes u x m cs h (inr (e, p)) = ap (map length) (p .adds) ∙ ap (λ k. replicate k 1) (sym (one-more (u .n) h e))
+  where
+    one-more : (n : ℕ) → 1 ≤ n → (n ≡ 1 → ⊥) → lastCount n ≡ 1
+    one-more zero h f = absurd (omega arith)
+    one-more (suc zero) h f = absurd (f refl)
+    one-more (suc (suc n)) h f = refl
+
+-- how many children, how many facts each adds, or that the rule closes
+pub instance-shape : (u : Question) → 1 ≤ u .n → (b : Branch) (st : Step) (cs : List (List Fact)) → Instance u b st cs → map length cs ≡ shape (u .n) st
+unfolding Instance shape sizes
+instance-shape u h b (Sum d ts) cs i = ap (map length) (i .adds)
+instance-shape u h b (Split e) cs i = ap (map length) i
+instance-shape u h b (Apart k) cs i = ap (map length) (i .adds)
+instance-shape u h b (AConf k) cs i = ap (map length) (i .closes)
+instance-shape u h b SConf cs i = ap (map length) (i .closes)
+instance-shape u h b (SProp f x y) cs i = ap (map length) (i .adds)
+instance-shape u h b (LIntro x) cs i = ap (map length) (i .adds)
+instance-shape u h b (LValid x) cs i = ap (map length) i
+instance-shape u h b (CCollapse x) cs i = ap (map length) (i .adds)
+instance-shape u h b (CValid x) cs i = ap (map length) i
+instance-shape u h b (CInj x y) cs i = ap (map length) (i .adds)
+instance-shape u h b (Card []) cs i = absurd i
+instance-shape u h b (Card (x ∷ xs)) cs i = ap (map length) (i .adds) ∙ pairs-sizes (x ∷ xs) (i .last) (lastCount (u .n)) (last-sizes u x (suc (length xs)) (i .last) h (i .last-child))
+instance-shape u h b (Join j k) cs i = ap (map length) (i .adds)
+
+-- ---- the walk counted
+
+abbrev pub counted : Waiting Branch (List Fact) → Waiting ℕ ℕ
+counted s = record { mark = length (s .mark); child = length (s .child); rest = map length (s .rest) }
+
+-- the numbers of facts on the branch and at each pending split
+abbrev pub count : Walk Branch (List Fact) → Walk ℕ ℕ
+count (working b ss) = working (length b) (map counted ss)
+count closed = closed
+
+wait-counted : (b : Branch) (cs : List (List Fact)) (ss : List (Waiting Branch (List Fact))) → map counted (wait b cs ss) ≡ wait (length b) (map length cs) (map counted ss)
+wait-counted b [] ss = refl
+wait-counted b (c ∷ cs) ss = refl
+
+cut-back-counted : (ss : List (Waiting Branch (List Fact))) → count (cutBack _++_ ss) ≡ cutBack _+_ (map counted ss)
+cut-back-counted [] = refl
+cut-back-counted (s ∷ ss) = ap₂ working (length-append (s .mark) (s .child)) (wait-counted (s .mark) (s .rest) ss)
+
+enter-counted : (b : Branch) (cs : List (List Fact)) (ss : List (Waiting Branch (List Fact))) → count (enter _++_ b cs ss) ≡ enter _+_ (length b) (map length cs) (map counted ss)
+enter-counted b [] ss = cut-back-counted ss
+enter-counted b (c ∷ cs) ss = ap₂ working (length-append b c) (wait-counted b cs ss)
+
+-- a step that fits moves the walk over shapes just as the walk over facts
+pub shape-walks : (u : Question) → 1 ≤ u .n → (b : Branch) (st : Step) (cs : List (List Fact)) (ss : List (Waiting Branch (List Fact))) → Instance u b st cs
+    → count (enter _++_ b cs ss) ≡ enter _+_ (length b) (shape (u .n) st) (map counted ss)
+shape-walks u h b st cs ss i = enter-counted b cs ss ∙ ap (λ l. enter _+_ (length b) l (map counted ss)) (instance-shape u h b st cs i)

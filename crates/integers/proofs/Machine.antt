@@ -1,0 +1,134 @@
+-- What the machine asks and tells of signed integers. A signed local holds bits, so each value stands as  toZ w (ofZ w z);  `back` takes that away where z fits.
+use mathlib.Core.Path.{_≡_, refl, sym, _∙_, ap, ap₂, subst}
+use mathlib.Core.Bool.{Bool, true, false, not}
+use Prim.Native.Nat.{ℕ, zero, suc, _+_, _*_, _-_, _/_, _%_, _^_, _≤_, _<_}
+use native.Mathlib.Omega.{arith}
+use native.Mathlib.Nat.{div-le-self, mod-lt, mod-le}
+use lib.Dec.{T, ltb, leb, eqb}
+use lib.IntN.{ℤ, pos, negsuc, negℤ, natAbs, _+ℤ_, _-ℤ_, _*ℤ_}
+use lib.Signed.{mag, _≤ℤ_, _<ℤ_, leZ, ltZ, quotZ, remZ, leZ-yes, ltZ-yes, ltZ-no}
+use mir.Syntax.{Width, w32, w64}
+use mir.Val.{SFits, hbits, bits, toZ, ofZ}
+use mir.Facts.{toZ-ofZ}
+use mir.ValLaws.{sfits-le}
+use borrow.Author.Tests.{ne-eqb, lt-ltb, le-ltb}
+use Rattle.integers.proofs.Ring.{v, _⊕_, _⊖_, ring, lt-up}
+use Rattle.integers.proofs.Laws.{floorZ, divides}
+
+-- ---- division by a positive number
+mag-neg : (n a : ℕ) → n ≤ suc a → mag (negℤ (pos n)) ≤ a
+mag-neg zero a h = omega arith
+mag-neg (suc n) a h = omega arith
+
+mag-quot : (x : ℤ) (b : ℕ) → mag (quotZ x (pos b)) ≤ mag x
+mag-quot (pos a) b = div-le-self a b
+mag-quot (negsuc a) b = mag-neg (suc a / b) a (div-le-self (suc a) b)
+
+-- the quotient fits, and the divisor's bits are not 0
+pub quot-fits : {w : Width} (x d : ℤ) → SFits w x → pos 1 ≤ℤ d → SFits w (quotZ x d)
+quot-fits x (pos b) fx h = sfits-le (mag-quot x b) fx
+quot-fits x (negsuc b) fx h = absurd (h .le)
+
+pub bits-pos : (w : Width) (d : ℤ) → pos 1 ≤ℤ d → 0 < ofZ w d
+bits-pos w (pos b) h = omega (arith, lib.Dec.leb→le 1 b (h .le))
+bits-pos w (negsuc b) h = absurd (h .le)
+
+pub div-need : (w : Width) (x d : ℤ) → SFits w x → SFits w d → pos 1 ≤ℤ d
+    → (0 < ofZ w d) × SFits w (quotZ (toZ w (ofZ w x)) (toZ w (ofZ w d)))
+div-need w x d fx fd h = (bits-pos w d h, rw (toZ-ofZ fx, toZ-ofZ fd) (quot-fits x d fx h))
+
+-- ---- the test of an exact division
+neg-bits : (r : ℕ) → r < 2 ^ 64 → eqb (ofZ w64 (negℤ (pos r))) 0 ≡ eqb r 0
+neg-bits zero h = refl
+neg-bits (suc m) h = ne-eqb (2 ^ 64 - suc m) 0 (omega arith) ∙ sym (ne-eqb (suc m) 0 (omega arith))
+
+zero-bits : (x d : ℤ) → SFits w64 x → pos 1 ≤ℤ d → eqb (ofZ w64 (remZ x d)) 0 ≡ divides (natAbs d) x
+zero-bits (pos a) (pos b) fx h = refl
+zero-bits (pos a) (negsuc b) fx h = absurd (h .le)
+zero-bits (negsuc a) (pos b) fx h = neg-bits (suc a % b) (omega (arith, fx .sfits, mod-le (suc a) b))
+zero-bits (negsuc a) (negsuc b) fx h = absurd (h .le)
+
+pub exact-test : (x d : ℤ) → SFits w64 x → SFits w64 d → pos 1 ≤ℤ d
+    → eqb (ofZ w64 (remZ (toZ w64 (ofZ w64 x)) (toZ w64 (ofZ w64 d)))) 0 ≡ divides (natAbs d) x
+exact-test x d fx fd h = rw (toZ-ofZ fx, toZ-ofZ fd) (zero-bits x d fx h)
+
+-- ---- floor division from division toward zero
+pub floor-up : (x d : ℤ) → pos 0 ≤ℤ x → pos 1 ≤ℤ d → quotZ x d ≡ floorZ x (natAbs d)
+floor-up (pos a) (pos b) h k = refl
+floor-up (pos a) (negsuc b) h k = absurd (k .le)
+floor-up (negsuc a) d h k = absurd (h .le)
+
+-- -1 - z is z with every bit turned
+abbrev turned : ℤ → ℤ
+turned (pos n) = negsuc n
+turned (negsuc n) = pos n
+
+pub flip : (z : ℤ) → negsuc 0 -ℤ z ≡ turned z
+flip (pos n) = ring (v (negsuc 0) ⊖ v (pos n)) (v (negsuc n)) (omega arith)
+flip (negsuc n) = ring (v (negsuc 0) ⊖ v (negsuc n)) (v (pos n)) (omega arith)
+
+turned-mag : (z : ℤ) → mag (turned z) ≤ mag z
+turned-mag (pos n) = omega arith
+turned-mag (negsuc n) = omega arith
+
+pub flip-fits : {w : Width} (z : ℤ) → SFits w z → SFits w (negsuc 0 -ℤ z)
+flip-fits z f = rw flip (sfits-le (turned-mag z) f)
+
+pub floor-fits : {w : Width} (x : ℤ) (d : ℕ) → SFits w x → SFits w (floorZ x d)
+floor-fits (pos a) d f = sfits-le (div-le-self a d) f
+floor-fits (negsuc a) d f = sfits-le (div-le-self a d) f
+
+pub floor-down : (x d : ℤ) → x <ℤ pos 0 → pos 1 ≤ℤ d → negsuc 0 -ℤ quotZ (negsuc 0 -ℤ x) d ≡ floorZ x (natAbs d)
+floor-down (pos a) d h k = absurd (omega (arith, lt-up h))
+floor-down (negsuc a) (pos b) h k =
+    ap (λ (z : ℤ). negsuc 0 -ℤ quotZ z (pos b)) (flip (negsuc a))
+    ∙ flip (pos (a / b))
+floor-down (negsuc a) (negsuc b) h k = absurd (k .le)
+
+-- ---- comparisons: what a branch's flag tells of two signed numbers that fit
+module _ {w : Width} {x y : ℤ} (fx : SFits w x) (fy : SFits w y) where
+  pub le-true : leZ (toZ w (ofZ w x)) (toZ w (ofZ w y)) ≡ true → x ≤ℤ y
+  le-true e = leZ-yes (subst T (sym (rw (toZ-ofZ fx, toZ-ofZ fy) at e)) tt)
+
+  pub lt-true : ltZ (toZ w (ofZ w x)) (toZ w (ofZ w y)) ≡ true → x <ℤ y
+  lt-true e = ltZ-yes (subst T (sym (rw (toZ-ofZ fx, toZ-ofZ fy) at e)) tt)
+
+  pub lt-false : ltZ (toZ w (ofZ w x)) (toZ w (ofZ w y)) ≡ false → y ≤ℤ x
+  lt-false e = ltZ-no (subst (λ (t : Bool). T (not t)) (sym (rw (toZ-ofZ fx, toZ-ofZ fy) at e)) tt)
+
+  pub le-false : leZ (toZ w (ofZ w x)) (toZ w (ofZ w y)) ≡ false → y <ℤ x
+  le-false e = nle x y (subst (λ (t : Bool). T (not t)) (sym (rw (toZ-ofZ fx, toZ-ofZ fy) at e)) tt)
+    where
+      nle : (x y : ℤ) → T (not (leZ x y)) → y <ℤ x
+      nle (pos a) (pos b) t = record { lt = lib.Dec.lt→ltb b a (lib.Dec.nleb→lt a b t) }
+      nle (pos a) (negsuc b) t = record { lt = tt }
+      nle (negsuc a) (pos b) t = absurd t
+      nle (negsuc a) (negsuc b) t = record { lt = lib.Dec.lt→ltb a b (lib.Dec.nleb→lt b a t) }
+
+-- ---- bits read as signed, below and above the middle
+pub toZ-low : (w : Width) (n : ℕ) → n < 2 ^ hbits w → toZ w n ≡ pos n
+toZ-low w n h = rw (lt-ltb n (2 ^ hbits w) h)
+
+pub toZ-high : (w : Width) (n : ℕ) → 2 ^ hbits w ≤ n → toZ w n ≡ negsuc (2 ^ bits w - suc n)
+toZ-high w n h = rw (le-ltb n (2 ^ hbits w) h)
+
+-- a u32's bits as an i64, by taking 2³² away
+pub signed-of : (u : ℕ) → 2147483648 ≤ u → u < 4294967296 → toZ w64 u -ℤ pos 4294967296 ≡ toZ w32 u
+signed-of u h k =
+    ap (λ (z : ℤ). z -ℤ pos 4294967296) (toZ-low w64 u (omega arith))
+    ∙ ring (v (pos u) ⊖ v (pos 4294967296)) (v (negsuc (4294967296 - suc u))) (omega arith)
+    ∙ sym (toZ-high w32 u h)
+
+-- and back: a negative i32 with 2³² added is its bits
+pub bits-of : (x : ℤ) → SFits w32 x → x <ℤ pos 0 → x +ℤ pos 4294967296 ≡ pos (ofZ w32 x)
+bits-of (pos n) f h = absurd (omega (arith, lt-up h))
+bits-of (negsuc n) f h = ring (v (negsuc n) ⊕ v (pos 4294967296)) (v (pos (4294967296 - suc n))) (omega (arith, f .sfits))
+
+-- ---- `==` of a signed number and a literal tests the bits
+abbrev pub isZ : ℤ → ℕ → Bool
+isZ (pos a) n = eqb a n
+isZ (negsuc a) n = false
+
+pub is-bits : (x : ℤ) (n : ℕ) → SFits w64 x → n < 9223372036854775808 → eqb (ofZ w64 x) n ≡ isZ x n
+is-bits (pos a) n f h = refl
+is-bits (negsuc a) n f h = ne-eqb (2 ^ 64 - suc a) n (omega (arith, f .sfits))
