@@ -1,0 +1,143 @@
+-- TH-3: judging says all met exactly when the answer's values meet every constraint, and names only a constraint that they do not meet.
+use Prim.Native.Nat.{ℕ, zero, suc, _+_}
+use native.Mathlib.Omega.{arith}
+use mathlib.Core.Path.{_≡_, refl, sym, _∙_, ap, subst}
+use mathlib.Core.Bool.{Bool, true, false, not, _&&_}
+use mathlib.Core.Option.{Option, none, some}
+use mathlib.Core.List.{List, [], _∷_}
+use lib.ListN.{length, getD, getElem?}
+use lib.Dec.{T, leb}
+use Rattle.calculus.specs.Alphabet.{Over, allCharacters}
+use Rattle.calculus.specs.Facts.{Question, Fact, same, apart, isLiteral, arithmetic, Branch, holds, literal}
+use Rattle.calculus.specs.Strings.{eqString}
+use Rattle.calculus.specs.Meaning.{Assignment, str, value, For, Meets, Met}
+use Rattle.calculus.proofs.Words.{eqString→, eqString-refl}
+use Rattle.format.specs.Fields.{i32s}
+use Rattle.format.specs.Records.{next}
+use Rattle.format.specs.Question.{Reading, Stopped, Ended, question, asked, questionOf}
+use Rattle.format.specs.Places.{skip}
+use Rattle.format.specs.Answer.{answerForm, stringAt, stringsAt, assignmentOf, outside}
+use Rattle.format.specs.Judging.{Judging, Refused, Judged, judgeAnswer, judgeBehind, judging, meets, meetsAll, Judgement, Refusal, AllMet, Unmet, Says}
+use Rattle.format.specs.Demands.{TH-3}
+use Rattle.format.proofs.Faults.{and-true, as-T, from-T, not-both}
+use Rattle.format.proofs.Asked.{over-all, question→form}
+
+-- ---- a constraint is met exactly when its test holds
+
+equal : (s t : List ℕ) → s ≡ t → eqString s t ≡ true
+equal s t e = subst (λ z. eqString s z ≡ true) e (eqString-refl s)
+
+meets→ : (u : Question) (a : Assignment) (f : Fact) → meets u a f ≡ true → Meets u a f
+meets→ u a (same x y) e = eqString→ (str a x) (str a y) (as-T _ e)
+meets→ u a (apart x y) e = λ p. go (eqString (str a x) (str a y)) (equal (str a x) (str a y) p) e
+  where
+    go : (b : Bool) → b ≡ true → not b ≡ true → ⊥
+    go true t e = not-both false e refl
+    go false t e = not-both false t refl
+meets→ u a (isLiteral x l) e = eqString→ (str a x) (literal u l) (as-T _ e)
+meets→ u a (arithmetic r e) h = as-T (holds r (value a e)) h
+
+→meets : (u : Question) (a : Assignment) (f : Fact) → Meets u a f → meets u a f ≡ true
+→meets u a (same x y) h = equal (str a x) (str a y) h
+→meets u a (apart x y) h = go (eqString (str a x) (str a y)) (λ t. h (eqString→ (str a x) (str a y) t))
+  where
+    go : (b : Bool) → (T b → ⊥) → not b ≡ true
+    go true f = absurd (f tt)
+    go false f = refl
+→meets u a (isLiteral x l) h = equal (str a x) (literal u l) h
+→meets u a (arithmetic r e) h = from-T (holds r (value a e)) h
+
+meetsAll→ : (u : Question) (a : Assignment) (b : Branch) → meetsAll u a b ≡ true → Met u a b
+unfolding meetsAll
+meetsAll→ u a [] e = tt
+meetsAll→ u a (f ∷ b) e = let (h, g) = and-true (meets u a f) (meetsAll u a b) e in (meets→ u a f h, meetsAll→ u a b g)
+
+met-at : (u : Question) (a : Assignment) (b : Branch) (k : ℕ) (f : Fact) → getElem? b k ≡ some f → Met u a b → Meets u a f
+met-at u a [] k f e m = absurd (let z : _≡_ {A = ℕ} 0 1 = cc in omega arith)
+met-at u a (g ∷ b) zero f e m = let z : g ≡ f = cc in subst (Meets u a) z (m .0)
+met-at u a (g ∷ b) (suc k) f e m = met-at u a b k f e (m .1)
+
+-- ---- the answer's values are an assignment of the question
+
+length-integers : (b : List ℕ) (at k : ℕ) → length (i32s b at k) ≡ k
+unfolding i32s
+length-integers b at zero = refl
+length-integers b at (suc k) = ap suc (length-integers b (at + 4) k)
+
+length-strings : (v : List ℕ) (p at : ℕ) → length (stringsAt v p at) ≡ p
+unfolding stringsAt
+length-strings v zero at = refl
+length-strings v (suc p) at = ap suc (length-strings v p (next v at))
+
+inside-over : (v : List ℕ) (u : Question) (p r at : ℕ) → outside v u p r at ≡ none → (x : ℕ) → Over (u .n) (getD (stringsAt v p at) x [])
+unfolding stringsAt outside
+inside-over v u zero r at e x = tt
+inside-over v u (suc p) r at e x = go (allCharacters (u .n) (stringAt v at)) refl e x (λ p' y. inside-over v u p (suc r) (next v at) p' y)
+  where
+    go : (b : Bool) → allCharacters (u .n) (stringAt v at) ≡ b → _≡_ {A = Option ℕ} (elim b as (λ _. Option ℕ) [ true ↦ outside v u p (suc r) (next v at) | false ↦ some r ]) none → (x : ℕ)
+        → (outside v u p (suc r) (next v at) ≡ none → (y : ℕ) → Over (u .n) (getD (stringsAt v p (next v at)) y []))
+        → Over (u .n) (getD (stringAt v at ∷ stringsAt v p (next v at)) x [])
+    go true t e zero ih = over-all (u .n) (stringAt v at) t
+    go true t e (suc y) ih = ih e y
+    go false t e x ih = absurd (let z : _≡_ {A = ℕ} 0 1 = cc in omega arith)
+
+record Taken (b v : List ℕ) (u : Question) (a : Assignment) : Type 0 where
+  asked-is : questionOf b ≡ some u
+  values-are : a ≡ assignmentOf v u
+  all-inside : outside v u (u .p) 0 0 ≡ none
+
+judged-taken : (b v : List ℕ) (u : Question) (a : Assignment) → judging b v ≡ Judged u a → Taken b v u a
+unfolding judging
+judged-taken b v u a e = behind (question b) refl e
+  where
+    answered : (w : Question) (x : Bool) (o : Option ℕ) → outside v w (w .p) 0 0 ≡ o → questionOf b ≡ some w
+        → (elim x as (λ _. Judging) [ false ↦ Refused 15 0 | true ↦ elim o as (λ _. Judging) [ some r ↦ Refused 16 r | none ↦ Judged w (assignmentOf v w) ] ]) ≡ Judged u a → Taken b v u a
+    answered w false o p q e = absurd (let z : _≡_ {A = ℕ} 0 1 = cc in omega arith)
+    answered w true (some r) p q e = absurd (let z : _≡_ {A = ℕ} 0 1 = cc in omega arith)
+    answered w true none p q e =
+        let s : w ≡ u = cc in
+        let t : assignmentOf v w ≡ a = cc in
+        record { asked-is = q ∙ ap some s; values-are = sym t ∙ ap (assignmentOf v) s; all-inside = subst (λ z. outside v z (z .p) 0 0 ≡ none) s p }
+
+    behind : (g : Reading) → question b ≡ g → judgeBehind g v ≡ Judged u a → Taken b v u a
+    behind (Stopped c r) p e = absurd (let z : _≡_ {A = ℕ} 0 1 = cc in omega arith)
+    behind (Ended s at r) p e = go (leb 1 (s .last)) e
+      where
+        go : (x : Bool) → (elim x as (λ _. Judging) [ false ↦ Refused 4 r | true ↦ judgeAnswer (s .question) v ]) ≡ Judged u a → Taken b v u a
+        go false e = absurd (let z : _≡_ {A = ℕ} 0 1 = cc in omega arith)
+        go true e = answered (s .question) (answerForm v (s .question .p) (s .question .q) 0) (outside v (s .question) (s .question .p) 0 0) refl (ap asked (question→form b p)) e
+
+-- ---- the theorem
+
+pub judging-is-theory : TH-3
+judging-is-theory b v j s u a e =
+    let t = judged-taken b v u a e in
+    let says : Says (Judged u a) j = subst (λ g. Says g j) e s in
+    record {
+      asked = t .asked-is;
+      values = t .values-are;
+      for-question = subst (For u) (sym (t .values-are)) (record {
+        strings = length-strings v (u .p) 0;
+        integers = length-integers v (skip v (u .p) 0 + 6) (u .q);
+        over = inside-over v u (u .p) 0 0 (t .all-inside);
+      });
+      all-met = (all-met-said j says, said-all-met j says);
+      unmet = unmet-said j says;
+    }
+  where
+    all-met-said : (j : Judgement) → Says (Judged u a) j → j ≡ AllMet → Met u a (u .constraints)
+    all-met-said (Refusal c r) s p = absurd s
+    all-met-said AllMet s p = meetsAll→ u a (u .constraints) s
+    all-met-said (Unmet k) s p = absurd (let z : _≡_ {A = ℕ} 0 1 = cc in omega arith)
+
+    said-all-met : (j : Judgement) → Says (Judged u a) j → Met u a (u .constraints) → j ≡ AllMet
+    said-all-met (Refusal c r) s m = absurd s
+    said-all-met AllMet s m = refl
+    said-all-met (Unmet k) s m = absurd (not-both (meets u a (s .0)) (→meets u a (s .0) (met-at u a (u .constraints) k (s .0) (s .1) m)) (s .2))
+
+    unmet-said : (j : Judgement) → Says (Judged u a) j → (k : ℕ) → j ≡ Unmet k → (f : Fact) × (getElem? (u .constraints) k ≡ some f) × (Meets u a f → ⊥)
+    unmet-said (Refusal c r) s k p = absurd s
+    unmet-said AllMet s k p = absurd (let z : _≡_ {A = ℕ} 0 1 = cc in omega arith)
+    unmet-said (Unmet i) s k p =
+        let z : i ≡ k = cc in
+        (s .0, subst (λ n. getElem? (u .constraints) n ≡ some (s .0)) z (s .1), λ m. not-both (meets u a (s .0)) (→meets u a (s .0) m) (s .2))
