@@ -84,7 +84,7 @@ both : (a b : Bool) → T a → T b → T (a && b)
 both true b s t = t
 both false b s t = absurd s
 
-→every : (k : ℕ) (t : ℕ → Bool) → ((x : ℕ) → x < k → T (t x)) → T (every k t)
+pub →every : (k : ℕ) (t : ℕ → Bool) → ((x : ℕ) → x < k → T (t x)) → T (every k t)
 →every zero t h = tt
 →every (suc k) t h = both (t k) (every k t) (h k (omega arith)) (→every k t (λ x g. h x (omega arith)))
 
@@ -151,7 +151,7 @@ module _ (u : Question) (b : Branch) (m : List ℤ) (positive : 0 < u .n) (ok : 
       (sym (class-value u b m positive ok len y (lowestVar (labels b) y) hy hr (Reps.rep-lab b y)) ∙ eqℤ→ (modelOf u m len y) (modelOf u m len x) (and→ (eqℤ (modelOf u m len y) (modelOf u m len x)) (equalLengths u m x ys) t .0)) (Reps.rep-rep b y))
   reps-in x (y ∷ ys) r t z (inr i) = reps-in x ys (and→ (ltb y (u .p)) (allBelow (u .p) ys) r .1) (and→ (eqℤ (modelOf u m len y) (modelOf u m len x)) (equalLengths u m x ys) t .1) z i
 
-  length-nonneg : (x : ℕ) → x < u .p → T (nonneg (modelOf u m len x))
+  pub length-nonneg : (x : ℕ) → x < u .p → T (nonneg (modelOf u m len x))
   length-nonneg x h = go (classLiteral u b x) refl (low-spec u b m positive ok x 0 (suc (length (u .literals)))) (valid-length u b m positive ok x h)
     where
       pred-nonneg : (z : ℤ) → T (nonneg (predℤ z)) → T (nonneg z)

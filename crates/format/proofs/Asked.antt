@@ -6,23 +6,22 @@ use mathlib.Core.Logic.{_≢_, _⊎_, inl, inr}
 use mathlib.Core.Bool.{Bool, true, false, not, _&&_, _||_}
 use mathlib.Core.Option.{some}
 use mathlib.Core.List.{List, [], _∷_, _++_}
-use lib.ListN.{length, set, length-set}
+use lib.ListN.{length}
 use lib.Dec.{ltb, leb, eqb}
-use lib.IntN.{ℤ}
 use borrow.Author.Tests.{ltb-true, leb-true, eqb-true, not-true, le-leb, lt-ltb}
 use Rattle.lists.specs.Lists.{All, NotIn, Distinct}
-use Rattle.calculus.specs.Limits.{ticketBytes, alphabetLimit, variableLimit, literalLimit, lengthLimit, columnLimit, factLimit}
+use Rattle.calculus.specs.Limits.{ticketBytes, alphabetLimit, variableLimit, literalLimit, lengthLimit, factLimit}
 use Rattle.calculus.specs.Alphabet.{Over, allCharacters}
-use Rattle.calculus.specs.Rows.{zeros}
 use Rattle.calculus.specs.Facts.{Question, Fact, same, apart, isLiteral, arithmetic}
 use Rattle.calculus.specs.Instances.{HeadInRange, FactInRange, FactsInRange}
 use Rattle.calculus.specs.Strings.{given}
 use Rattle.calculus.proofs.Ranges.{all-append}
 use Rattle.calculus.proofs.Words.{In, not-given→}
-use Rattle.format.specs.Fields.{pick, u16, u32, u32s, pairsAt}
+use Rattle.format.specs.Fields.{pick, u16, u32, u32s}
 use Rattle.format.specs.Records.{size, kind, whole, records, need}
-use Rattle.format.specs.Question.{Progress, fresh, withLiteral, withFact, headRange, headFault, headOf, textOf, literalFault, stringRange, stringFact, stringFault, columnCount, fillRow, formOf, relationOf, arithmeticFault, constraintOf, inPlace, bodyFault, formFault, roomFor, orCrowded, fault, extended, advanced, Reading, Stopped, Ended, ending, readFrom, readBy, question, questionForm, asked, questionOf}
+use Rattle.format.specs.Question.{Progress, fresh, withLiteral, withFact, headRange, headFault, headOf, textOf, literalFault, stringRange, stringFact, stringFault, columnCount, formOf, relationOf, arithmeticFault, constraintOf, inPlace, bodyFault, formFault, roomFor, orCrowded, fault, extended, advanced, Reading, Stopped, Ended, ending, readFrom, readBy, question, questionForm, asked, questionOf}
 use Rattle.format.proofs.Faults.{none-applies, and-true}
+use Rattle.format.proofs.Fields.{length-u32s, length-form}
 
 -- ---- lists
 
@@ -48,18 +47,7 @@ over-all n [] e = tt
 over-all n (c ∷ s) e = let (h, g) = and-true _ _ e in (ltb-true c n h, over-all n s g)
 
 not-empty : (b : List ℕ) (at k : ℕ) → 1 ≤ k → [] ≢ u32s b at k
-unfolding u32s
-not-empty b at zero h e = omega arith
-not-empty b at (suc k) h e = let z : _≡_ {A = ℕ} 0 (suc (length (u32s b (at + 4) k))) = ap length e in omega arith
-
-length-fill : (row : List ℤ) (ts : List (ℕ × ℤ)) → length (fillRow row ts) ≡ length row
-unfolding fillRow
-length-fill row [] = refl
-length-fill row (t ∷ ts) = length-fill (set row (t .0) (t .1)) ts ∙ length-set row (t .0) (t .1)
-
--- a form that is read has a constant and 48 coefficients
-pub form-size : (b : List ℕ) (at count : ℕ) → length (formOf b at count) ≡ suc columnLimit
-form-size b at count = ap suc (length-fill (zeros columnLimit) (pairsAt b (at + 4) count))
+not-empty b at k h e = omega (arith, ap length e, length-u32s b at k)
 
 -- ---- the question
 
@@ -204,7 +192,7 @@ module _ (b : List ℕ) (s : Progress) (h : Ready s) (k at m : ℕ) where
       (string-in-range (s .question) (u16 b at) (u16 b (at + 2)) (u16 b (at + 4)) (none-applies _ _ _ (a5 .1) .0))
   body-in-range false false false t e =
       let g = behind s k false t in
-      fact-in-range (s .question) (arithmetic (relationOf (u16 b at)) (formOf b (at + 2) (m / 6 - 1))) (behind-head s h (g .headed)) (form-size b (at + 2) (m / 6 - 1))
+      fact-in-range (s .question) (arithmetic (relationOf (u16 b at)) (formOf b (at + 2) (m / 6 - 1))) (behind-head s h (g .headed)) (length-form b (at + 2) (m / 6 - 1))
 
   -- a head begins with no constraint; a constraint is one more, and finds room where it is there afterwards
   body-room : (x y : Bool) → eqb k 1 ≡ x → eqb k 2 ≡ y

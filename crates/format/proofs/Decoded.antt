@@ -1,35 +1,23 @@
 -- A step whose length fits its form and whose fields are in their ranges is in range.
 use Prim.Native.Nat.{ℕ, zero, suc, _+_, _-_, _/_, _<_, _≤_}
-use native.Mathlib.Nat.{mod-lt, div-add-mod}
 use native.Mathlib.Omega.{arith}
-use mathlib.Core.Path.{_≡_, refl, sym, ap, subst}
-use mathlib.Core.Bool.{Bool, true, false, _&&_}
+use mathlib.Core.Path.{_≡_, sym, subst}
+use mathlib.Core.Bool.{true, _&&_}
 use mathlib.Core.List.{List, [], _∷_}
-use lib.ListN.{length}
-use lib.Dec.{ltb, leb, eqb}
+use lib.Dec.{ltb, leb}
 use borrow.Author.Tests.{ltb-true, leb-true}
 use Rattle.lists.specs.Lists.{All}
 use Rattle.calculus.specs.Facts.{Question}
 use Rattle.calculus.specs.Instances.{StepInRange}
-use Rattle.format.specs.Fields.{u16, u32, u16s, pairsAt}
+use Rattle.format.specs.Fields.{u16, u32}
 use Rattle.format.specs.Question.{columnCount}
 use Rattle.format.specs.StepForms.{Form, formFor, fitsForm, rule, lengthFits, sumPairs, multipliersWithin, splitPairs, cardVariables, allBelow, operandsInRange, stepOf, stepAt}
 use Rattle.format.proofs.Faults.{and-true}
-use Rattle.format.proofs.Asked.{form-size}
+use Rattle.format.proofs.Fields.{length-u16s, length-pairs, length-form}
 
 below→ : (p : ℕ) (xs : List ℕ) → allBelow p xs ≡ true → All (λ x. x < p) xs
 below→ p [] e = tt
 below→ p (x ∷ xs) e = let (h, g) = and-true (ltb x p) (allBelow p xs) e in (ltb-true x p h, below→ p xs g)
-
-length-pairs : (b : List ℕ) (at k : ℕ) → length (pairsAt b at k) ≡ k
-unfolding pairsAt
-length-pairs b at zero = refl
-length-pairs b at (suc k) = ap suc (length-pairs b (at + 6) k)
-
-length-shorts : (b : List ℕ) (at k : ℕ) → length (u16s b at k) ≡ k
-unfolding u16s
-length-shorts b at zero = refl
-length-shorts b at (suc k) = ap suc (length-shorts b (at + 2) k)
 
 least : (f : Form) (m : ℕ) → fitsForm f m ≡ true → f .least ≤ m
 least f m e = leb-true (f .least) m (and-true (leb (f .least) m) _ e .0)
@@ -40,7 +28,7 @@ rule-in-range b u zero at m l e = tt
 rule-in-range b u (suc zero) at m l e =
     let long : 14 ≤ m = least (formFor 1) m l in
     (leb-true 1 (u32 b (at + 4)) (and-true _ (leb (u32 b (at + 4)) 2147483647 && multipliersWithin (sumPairs b at m)) e .0), subst (λ k. 1 ≤ k) (sym (length-pairs b (at + 8) ((m - 8) / 6))) (omega arith))
-rule-in-range b u (suc (suc zero)) at m l e = form-size b (at + 4) (splitPairs m)
+rule-in-range b u (suc (suc zero)) at m l e = length-form b (at + 4) (splitPairs m)
 rule-in-range b u (suc (suc (suc zero))) at m l e = tt
 rule-in-range b u (suc (suc (suc (suc zero)))) at m l e = tt
 rule-in-range b u (suc (suc (suc (suc (suc zero))))) at m l e = tt
@@ -53,7 +41,7 @@ rule-in-range b u (suc (suc (suc (suc (suc (suc (suc (suc (suc (suc zero))))))))
 rule-in-range b u (suc (suc (suc (suc (suc (suc (suc (suc (suc (suc (suc zero))))))))))) at m l e = let (x, y) = below→ (u .p) (u16 b (at + 4) ∷ u16 b (at + 6) ∷ []) e in (x, y .0)
 rule-in-range b u (suc (suc (suc (suc (suc (suc (suc (suc (suc (suc (suc (suc zero)))))))))))) at m l e =
     let long : 8 ≤ m = least (formFor 12) m l in
-    (below→ (u .p) (cardVariables b at m) e, subst (λ k. 2 ≤ k) (sym (length-shorts b (at + 4) ((m - 4) / 2))) (omega arith))
+    (below→ (u .p) (cardVariables b at m) e, subst (λ k. 2 ≤ k) (sym (length-u16s b (at + 4) ((m - 4) / 2))) (omega arith))
 rule-in-range b u (suc (suc (suc (suc (suc (suc (suc (suc (suc (suc (suc (suc (suc zero))))))))))))) at m l e = tt
 rule-in-range b u (suc (suc (suc (suc (suc (suc (suc (suc (suc (suc (suc (suc (suc (suc r)))))))))))))) at m l e = tt
 

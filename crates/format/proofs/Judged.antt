@@ -12,7 +12,6 @@ use Rattle.calculus.specs.Facts.{Question, Fact, same, apart, isLiteral, arithm
 use Rattle.calculus.specs.Strings.{eqString}
 use Rattle.calculus.specs.Meaning.{Assignment, str, value, For, Meets, Met}
 use Rattle.calculus.proofs.Words.{eqString→, eqString-refl}
-use Rattle.format.specs.Fields.{i32s}
 use Rattle.format.specs.Records.{next}
 use Rattle.format.specs.Question.{Reading, Stopped, Ended, question, asked, questionOf}
 use Rattle.format.specs.Places.{skip}
@@ -20,6 +19,7 @@ use Rattle.format.specs.Answer.{answerForm, stringAt, stringsAt, assignm
 use Rattle.format.specs.Judging.{Judging, Refused, Judged, judgeAnswer, judgeBehind, judging, meets, meetsAll, Judgement, Refusal, AllMet, Unmet, Says}
 use Rattle.format.specs.Demands.{TH-3}
 use Rattle.format.proofs.Faults.{and-true, as-T, from-T, not-both}
+use Rattle.format.proofs.Fields.{length-i32s}
 use Rattle.format.proofs.Asked.{over-all, question→form}
 
 -- ---- a constraint is met exactly when its test holds
@@ -58,11 +58,6 @@ met-at u a (g ∷ b) zero f e m = let z : g ≡ f = cc in subst (Meets u a) z (m
 met-at u a (g ∷ b) (suc k) f e m = met-at u a b k f e (m .1)
 
 -- ---- the answer's values are an assignment of the question
-
-length-integers : (b : List ℕ) (at k : ℕ) → length (i32s b at k) ≡ k
-unfolding i32s
-length-integers b at zero = refl
-length-integers b at (suc k) = ap suc (length-integers b (at + 4) k)
 
 length-strings : (v : List ℕ) (p at : ℕ) → length (stringsAt v p at) ≡ p
 unfolding stringsAt
@@ -118,7 +113,7 @@ judging-is-theory b v j s u a e =
       values = t .values-are;
       for-question = subst (For u) (sym (t .values-are)) (record {
         strings = length-strings v (u .p) 0;
-        integers = length-integers v (skip v (u .p) 0 + 6) (u .q);
+        integers = length-i32s v (skip v (u .p) 0 + 6) (u .q);
         over = inside-over v u (u .p) 0 0 (t .all-inside);
       });
       all-met = (all-met-said j says, said-all-met j says);

@@ -1,6 +1,15 @@
+pub mod Fields
 pub mod Faults
 pub mod Asked
 pub mod Decoded
+pub mod Behind
+pub mod Claimed
+pub mod Limits
+pub mod Checker
+pub mod Accepted
+pub mod NoSolution
+pub mod Leaves
+pub mod Strings
 pub mod Judged
 pub mod Demands
 pub mod Cases

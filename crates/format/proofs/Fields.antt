@@ -1,0 +1,38 @@
+-- The lengths of what is read: as many numbers as were asked for, and forms with a constant and 48 coefficients.
+use Prim.Native.Nat.{ℕ, zero, suc, _+_}
+use mathlib.Core.Path.{_≡_, refl, _∙_, ap}
+use mathlib.Core.List.{List, [], _∷_}
+use lib.ListN.{length, set, length-set}
+use lib.IntN.{ℤ}
+use Rattle.calculus.specs.Limits.{columnLimit}
+use Rattle.calculus.specs.Rows.{zeros}
+use Rattle.format.specs.Fields.{u16s, i32s, u32s, pairsAt}
+use Rattle.format.specs.Question.{fillRow, formOf}
+
+pub length-u16s : (b : List ℕ) (at k : ℕ) → length (u16s b at k) ≡ k
+unfolding u16s
+length-u16s b at zero = refl
+length-u16s b at (suc k) = ap suc (length-u16s b (at + 2) k)
+
+pub length-u32s : (b : List ℕ) (at k : ℕ) → length (u32s b at k) ≡ k
+unfolding u32s
+length-u32s b at zero = refl
+length-u32s b at (suc k) = ap suc (length-u32s b (at + 4) k)
+
+pub length-i32s : (b : List ℕ) (at k : ℕ) → length (i32s b at k) ≡ k
+unfolding i32s
+length-i32s b at zero = refl
+length-i32s b at (suc k) = ap suc (length-i32s b (at + 4) k)
+
+pub length-pairs : (b : List ℕ) (at k : ℕ) → length (pairsAt b at k) ≡ k
+unfolding pairsAt
+length-pairs b at zero = refl
+length-pairs b at (suc k) = ap suc (length-pairs b (at + 6) k)
+
+length-fill : (row : List ℤ) (ts : List (ℕ × ℤ)) → length (fillRow row ts) ≡ length row
+unfolding fillRow
+length-fill row [] = refl
+length-fill row (t ∷ ts) = length-fill (set row (t .0) (t .1)) ts ∙ length-set row (t .0) (t .1)
+
+pub length-form : (b : List ℕ) (at count : ℕ) → length (formOf b at count) ≡ suc columnLimit
+length-form b at count = ap suc (length-fill (zeros columnLimit) (pairsAt b (at + 4) count))
