@@ -1,5 +1,5 @@
 -- The forms of steps: "6 step: u16 rule, u16 child, operands". The lengths, the ranges of the fields, and the step that a body holds.
-use Prim.Native.Nat.{ℕ, zero, suc, _+_, _*_, _-_, _/_, _%_}
+use Prim.Native.Nat.{ℕ, zero, suc, _+_, _-_, _/_, _%_}
 use mathlib.Core.Bool.{Bool, true, false, _&&_}
 use mathlib.Core.List.{List, [], _∷_}
 use lib.ListN.{length, getD}
@@ -10,6 +10,20 @@ use Rattle.calculus.specs.Steps.{shape, Step, Sum, Split, Apart, AConf, SConf, 
 use Rattle.calculus.specs.Limits.{ticketBytes, variableLimit, columnLimit, summandLimit, numberLimit}
 use Rattle.format.specs.Fields.{u16, u32, u16s, pairsAt, within}
 use Rattle.format.specs.Question.{formRange, formOf}
+
+-- ---- rules by number
+
+pub data Rule : Type 0 where
+  sum branch apart aConf sConf sProp lIntro lValid cCollapse cValid cInj card join : Rule
+  -- every other number
+  unknown : Rule
+
+abbrev pub ruleNames : List Rule
+ruleNames =
+    unknown ∷ sum ∷ branch ∷ apart ∷ aConf ∷ sConf ∷ sProp ∷ lIntro ∷ lValid ∷ cCollapse ∷ cValid ∷ cInj ∷ card ∷ join ∷ []
+
+abbrev pub ruleOf : ℕ → Rule
+ruleOf k = getD ruleNames k unknown
 
 -- ---- "The length of each rule's operands follows a fixed table of step forms": rule and child, 4 bytes, counted in
 
@@ -22,26 +36,39 @@ pub record Form : Type 0 where
 abbrev pub form : ℕ → ℕ → ℕ → Form
 form l s g = record { least = l; stride = s; greatest = g }
 
+abbrev pub formFor : Rule → Form
+-- "i32 divisor .., then 1 to 8 pairs (fact, i32 multiplier)"
+formFor sum = form 14 6 (summandLimit - 1)
+-- "form e, written as in kind 4 without relation"
+formFor branch = form 8 6 columnLimit
+-- "a fact e ≠ 0"
+formFor apart = form 6 1 0
+-- "an arithmetic fact"
+formFor aConf = form 6 1 0
+-- "no operand"
+formFor sConf = form 4 1 0
+-- "function (0 len, 1 code), different variables x, y"
+formFor sProp = form 10 1 0
+formFor lIntro = form 6 1 0
+formFor lValid = form 6 1 0
+formFor cCollapse = form 6 1 0
+formFor cValid = form 6 1 0
+-- "different x, y"
+formFor cInj = form 8 1 0
+-- "2 to 16 different variables"
+formFor card = form 8 2 (variableLimit - 2)
+-- "two ≥ facts"
+formFor join = form 8 1 0
 -- "for an unknown rule, only when under 4 bytes"
-abbrev pub anyForm : Form
-anyForm = form 4 1 ticketBytes
-
--- by rule number; no rule is number 0
-abbrev pub forms : List Form
-forms =
-    anyForm ∷ form 14 6 (summandLimit - 1) ∷ form 8 6 columnLimit ∷ form 6 1 0 ∷ form 6 1 0 ∷ form 4 1 0 ∷ form 10 1 0 ∷ form 6 1 0
-    ∷ form 6 1 0 ∷ form 6 1 0 ∷ form 6 1 0 ∷ form 8 1 0 ∷ form 8 2 (variableLimit - 2) ∷ form 8 1 0 ∷ []
-
-unfoldable pub formFor : ℕ → Form
-formFor rule = getD forms rule anyForm
+formFor unknown = form 4 1 ticketBytes
 
 abbrev pub fitsForm : Form → ℕ → Bool
 fitsForm f m = leb (f .least) m && (eqb ((m - f .least) % f .stride) 0 && leb ((m - f .least) / f .stride) (f .greatest))
 
 -- ---- the operands of a body of m bytes at a position; they begin at its fifth byte
 
-abbrev pub rule : List ℕ → ℕ → ℕ
-rule b at = u16 b at
+abbrev pub rule : List ℕ → ℕ → Rule
+rule b at = ruleOf (u16 b at)
 
 abbrev pub child : List ℕ → ℕ → ℕ
 child b at = u16 b (at + 2)
@@ -53,7 +80,7 @@ lengthFits b at m = fitsForm (formFor (rule b at)) m
 abbrev pub sumPairs : List ℕ → ℕ → ℕ → List (ℕ × ℤ)
 sumPairs b at m = pairsAt b (at + 8) ((m - 8) / 6)
 
--- "Multipliers lie within ±1,000,000,000"
+-- "Coefficients, constants and multipliers lie within ±1,000,000,000"
 unfoldable pub multipliersWithin : List (ℕ × ℤ) → Bool
 multipliersWithin [] = true
 multipliersWithin (t ∷ ts) = within numberLimit (t .1) && multipliersWithin ts
@@ -74,42 +101,40 @@ abbrev pub allBelow : ℕ → List ℕ → Bool
 allBelow p [] = true
 allBelow p (x ∷ xs) = ltb x p && allBelow p xs
 
--- the fields of a step of rule r are in their ranges, over p string variables and c columns; for an unknown rule they are not.
+-- the fields of a step are in their ranges, over p string variables and c columns; for an unknown rule they are not.
 -- "i32 divisor of at least 1": a u32 of 1 to 2,147,483,647. A fact's number has no range.
-unfoldable pub operandsInRange : List ℕ → ℕ → ℕ → ℕ → ℕ → ℕ → Bool
-operandsInRange b p c zero at m = false
-operandsInRange b p c (suc zero) at m = leb 1 (u32 b (at + 4)) && (leb (u32 b (at + 4)) 2147483647 && multipliersWithin (sumPairs b at m))
-operandsInRange b p c (suc (suc zero)) at m = formRange b c (at + 4) (splitPairs m)
-operandsInRange b p c (suc (suc (suc zero))) at m = true
-operandsInRange b p c (suc (suc (suc (suc zero)))) at m = true
-operandsInRange b p c (suc (suc (suc (suc (suc zero))))) at m = true
-operandsInRange b p c (suc (suc (suc (suc (suc (suc zero)))))) at m = leb (u16 b (at + 4)) 1 && allBelow p (u16 b (at + 6) ∷ u16 b (at + 8) ∷ [])
-operandsInRange b p c (suc (suc (suc (suc (suc (suc (suc zero))))))) at m = allBelow p (u16 b (at + 4) ∷ [])
-operandsInRange b p c (suc (suc (suc (suc (suc (suc (suc (suc zero)))))))) at m = allBelow p (u16 b (at + 4) ∷ [])
-operandsInRange b p c (suc (suc (suc (suc (suc (suc (suc (suc (suc zero))))))))) at m = allBelow p (u16 b (at + 4) ∷ [])
-operandsInRange b p c (suc (suc (suc (suc (suc (suc (suc (suc (suc (suc zero)))))))))) at m = allBelow p (u16 b (at + 4) ∷ [])
-operandsInRange b p c (suc (suc (suc (suc (suc (suc (suc (suc (suc (suc (suc zero))))))))))) at m = allBelow p (u16 b (at + 4) ∷ u16 b (at + 6) ∷ [])
-operandsInRange b p c (suc (suc (suc (suc (suc (suc (suc (suc (suc (suc (suc (suc zero)))))))))))) at m = allBelow p (cardVariables b at m)
-operandsInRange b p c (suc (suc (suc (suc (suc (suc (suc (suc (suc (suc (suc (suc (suc zero))))))))))))) at m = true
-operandsInRange b p c (suc (suc (suc (suc (suc (suc (suc (suc (suc (suc (suc (suc (suc (suc r)))))))))))))) at m = false
+unfoldable pub operandsInRange : List ℕ → ℕ → ℕ → Rule → ℕ → ℕ → Bool
+operandsInRange b p c sum at m = leb 1 (u32 b (at + 4)) && (leb (u32 b (at + 4)) 2147483647 && multipliersWithin (sumPairs b at m))
+operandsInRange b p c branch at m = formRange b c (at + 4) (splitPairs m)
+operandsInRange b p c apart at m = true
+operandsInRange b p c aConf at m = true
+operandsInRange b p c sConf at m = true
+operandsInRange b p c sProp at m = leb (u16 b (at + 4)) 1 && allBelow p (u16 b (at + 6) ∷ u16 b (at + 8) ∷ [])
+operandsInRange b p c lIntro at m = allBelow p (u16 b (at + 4) ∷ [])
+operandsInRange b p c lValid at m = allBelow p (u16 b (at + 4) ∷ [])
+operandsInRange b p c cCollapse at m = allBelow p (u16 b (at + 4) ∷ [])
+operandsInRange b p c cValid at m = allBelow p (u16 b (at + 4) ∷ [])
+operandsInRange b p c cInj at m = allBelow p (u16 b (at + 4) ∷ u16 b (at + 6) ∷ [])
+operandsInRange b p c card at m = allBelow p (cardVariables b at m)
+operandsInRange b p c join at m = true
+operandsInRange b p c unknown at m = false
 
--- the step of rule r that a body holds; rules that do not exist are read as S-Conf, and are out of range
-unfoldable pub stepOf : List ℕ → ℕ → ℕ → ℕ → Step
-stepOf b zero at m = SConf
-stepOf b (suc zero) at m = Sum (u32 b (at + 4)) (sumPairs b at m)
-stepOf b (suc (suc zero)) at m = Split (formOf b (at + 4) (splitPairs m))
-stepOf b (suc (suc (suc zero))) at m = Apart (u16 b (at + 4))
-stepOf b (suc (suc (suc (suc zero)))) at m = AConf (u16 b (at + 4))
-stepOf b (suc (suc (suc (suc (suc zero))))) at m = SConf
-stepOf b (suc (suc (suc (suc (suc (suc zero)))))) at m = SProp (functionOf (u16 b (at + 4))) (u16 b (at + 6)) (u16 b (at + 8))
-stepOf b (suc (suc (suc (suc (suc (suc (suc zero))))))) at m = LIntro (u16 b (at + 4))
-stepOf b (suc (suc (suc (suc (suc (suc (suc (suc zero)))))))) at m = LValid (u16 b (at + 4))
-stepOf b (suc (suc (suc (suc (suc (suc (suc (suc (suc zero))))))))) at m = CCollapse (u16 b (at + 4))
-stepOf b (suc (suc (suc (suc (suc (suc (suc (suc (suc (suc zero)))))))))) at m = CValid (u16 b (at + 4))
-stepOf b (suc (suc (suc (suc (suc (suc (suc (suc (suc (suc (suc zero))))))))))) at m = CInj (u16 b (at + 4)) (u16 b (at + 6))
-stepOf b (suc (suc (suc (suc (suc (suc (suc (suc (suc (suc (suc (suc zero)))))))))))) at m = Card (cardVariables b at m)
-stepOf b (suc (suc (suc (suc (suc (suc (suc (suc (suc (suc (suc (suc (suc zero))))))))))))) at m = Join (u16 b (at + 4)) (u16 b (at + 6))
-stepOf b (suc (suc (suc (suc (suc (suc (suc (suc (suc (suc (suc (suc (suc (suc r)))))))))))))) at m = SConf
+-- the step that a body holds; an unknown rule, which is out of range, is read as S-Conf
+unfoldable pub stepOf : List ℕ → Rule → ℕ → ℕ → Step
+stepOf b sum at m = Sum (u32 b (at + 4)) (sumPairs b at m)
+stepOf b branch at m = Split (formOf b (at + 4) (splitPairs m))
+stepOf b apart at m = Apart (u16 b (at + 4))
+stepOf b aConf at m = AConf (u16 b (at + 4))
+stepOf b sConf at m = SConf
+stepOf b sProp at m = SProp (functionOf (u16 b (at + 4))) (u16 b (at + 6)) (u16 b (at + 8))
+stepOf b lIntro at m = LIntro (u16 b (at + 4))
+stepOf b lValid at m = LValid (u16 b (at + 4))
+stepOf b cCollapse at m = CCollapse (u16 b (at + 4))
+stepOf b cValid at m = CValid (u16 b (at + 4))
+stepOf b cInj at m = CInj (u16 b (at + 4)) (u16 b (at + 6))
+stepOf b card at m = Card (cardVariables b at m)
+stepOf b join at m = Join (u16 b (at + 4)) (u16 b (at + 6))
+stepOf b unknown at m = SConf
 
 abbrev pub stepAt : List ℕ → ℕ → ℕ → Step
 stepAt b at m = stepOf b (rule b at) at m
