@@ -1,16 +1,22 @@
--- One class is a chain of ≈ facts, through variables or literals.
-use Prim.Native.Nat.{ℕ, zero, suc, _+_, _<_}
+-- Classes: two nodes have one label exactly when a chain of ≈ facts joins them; what checking computes by labels, the lowest literal and the conflict, is what the words say by chains.
+use Prim.Native.Nat.{ℕ, zero, suc, _+_, _<_, _≤_}
 use native.Mathlib.Omega.{arith}
-use mathlib.Core.Path.{_≡_, refl, sym, _∙_, ap, subst}
+use native.Mathlib.Decide.{ℕ-discrete, decLt}
+use mathlib.Core.Path.{_≡_, refl, sym, _∙_, ap, ap₂, subst}
+use mathlib.Core.Logic.{_⊎_, inl, inr}
 use mathlib.Core.Bool.{Bool, true, false, cond}
-use mathlib.Core.Logic.{inl, inr}
+use mathlib.Core.Option.{Option, none, some}
 use mathlib.Core.List.{List, [], _∷_}
 use lib.ListN.{length, getD}
 use lib.Dec.{T, eqb, eqb→eq, eqb-refl}
 use borrow.Author.Tests.{eq-eqb, eqb-true}
-use Rattle.calculus.specs.Facts.{Fact, same, apart, isLiteral, arithmetic, Branch}
-use Rattle.calculus.specs.Chains.{varNode, litNode, Edge, AnyEdge, Chain, along, back, here}
-use Rattle.calculus.specs.Classes.{upFrom, relabel, label, joinNodes, joinFact, labelsFrom, labels, sameClass}
+use Rattle.lists.proofs.Options.{some-injective, none-some}
+use Rattle.lists.proofs.Tests.{true→, or→, →or-left, →or-right}
+use Rattle.calculus.specs.Facts.{Question, Fact, same, apart, isLiteral, arithmetic, Branch}
+use Rattle.calculus.specs.Chains.{varNode, litNode, Edge, AnyEdge, Chain, here, along, back, OneClass, ClassHolds, Counts}
+use Rattle.calculus.specs.Classes.{upFrom, relabel, label, joinNodes, joinFact, labelsFrom, nodeCount, labels, sameClass, lowest, classLiteral, anyBelow, literalsMeet, apartMeet, conflict}
+use Rattle.calculus.specs.Instances.{FactAt, Stands, LiteralsMeet, ApartMeet, HeadInRange, FactInRange, FactsInRange}
+use Rattle.calculus.proofs.Tests.{any→, →any}
 
 pub chain-trans : {b : Branch} {i j k : ℕ} → Chain b i j → Chain b j k → Chain b i k
 chain-trans here d = d
@@ -22,60 +28,47 @@ chain-sym here = here
 chain-sym (along e c) = chain-trans (chain-sym c) (back e here)
 chain-sym (back e c) = chain-trans (chain-sym c) (along e here)
 
--- ---- the labels
+-- ---- one label, one chain
 
--- a label list is reached by the relation R when each node is related to its label
-module _ (R : ℕ → ℕ → Type 0) (Rrefl : (i : ℕ) → R i i) (Rsym : (i j : ℕ) → R i j → R j i) (Rtrans : (i j k : ℕ) → R i j → R j k → R i k) where
-  Reached : List ℕ → Type 0
-  Reached ls = (i : ℕ) → R i (label ls i)
+up-label : (k m i d : ℕ) → d ≡ k + i → getD (upFrom k m) i d ≡ d
+up-label k zero i d e = refl
+up-label k (suc m) zero d e = omega arith
+up-label k (suc m) (suc i) d e = up-label (suc k) m i d (omega arith)
 
-  relabel-reached : (old new : ℕ) (cs : List ℕ) (i d : ℕ) → R old new → R (getD cs i d) (getD (relabel old new cs) i d)
-  relabel-reached old new [] i d r = Rrefl d
+module _ (b : Branch) where
+  -- a chain leads from each node to its label
+  abbrev Reached : List ℕ → Type 0
+  Reached ls = (i : ℕ) → Chain b i (label ls i)
+
+  relabel-reached : (old new : ℕ) (cs : List ℕ) (i d : ℕ) → Chain b old new → Chain b (getD cs i d) (getD (relabel old new cs) i d)
+  relabel-reached old new [] i d r = here
   relabel-reached old new (c ∷ cs) zero d r = go (eqb c old) refl
     where
-      go : (t : Bool) → eqb c old ≡ t → R c (cond t new c)
-      go true e = subst (λ x. R x new) (sym (eqb-true c old e)) r
-      go false e = Rrefl c
+      go : (t : Bool) → eqb c old ≡ t → Chain b c (cond t new c)
+      go true e = subst (λ x. Chain b x new) (sym (eqb-true c old e)) r
+      go false e = here
   relabel-reached old new (c ∷ cs) (suc i) d r = relabel-reached old new cs i d r
 
-  join-reached : (ls : List ℕ) (i j : ℕ) → R i j → Reached ls → Reached (joinNodes ls i j)
-  unfolding Reached
-  join-reached ls i j r h k = Rtrans k (label ls k) _ (h k) (relabel-reached (label ls j) (label ls i) ls k k (Rtrans _ j _ (Rsym j _ (h j)) (Rtrans _ i _ (Rsym i j r) (h i))))
+  join-reached : (ls : List ℕ) (i j : ℕ) → Chain b i j → Reached ls → Reached (joinNodes ls i j)
+  join-reached ls i j c h k = chain-trans (h k) (relabel-reached (label ls j) (label ls i) ls k k (chain-trans (chain-sym (h j)) (chain-trans (chain-sym c) (h i))))
 
-  fact-reached : (ls : List ℕ) (f : Fact) → ((i j : ℕ) → Edge f i j → R i j) → Reached ls → Reached (joinFact ls f)
+  fact-reached : (ls : List ℕ) (f : Fact) → ((i j : ℕ) → Edge f i j → Chain b i j) → Reached ls → Reached (joinFact ls f)
   fact-reached ls (same x y) g h = join-reached ls (varNode x) (varNode y) (g (varNode x) (varNode y) (refl, refl)) h
   fact-reached ls (apart x y) g h = h
   fact-reached ls (isLiteral x l) g h = join-reached ls (varNode x) (litNode l) (g (varNode x) (litNode l) (refl, refl)) h
   fact-reached ls (arithmetic r e) g h = h
 
-  from-reached : (ls : List ℕ) (b : Branch) → ((i j : ℕ) → AnyEdge b i j → R i j) → Reached ls → Reached (labelsFrom ls b)
+  from-reached : (ls : List ℕ) (c : Branch) → ((i j : ℕ) → AnyEdge c i j → Chain b i j) → Reached ls → Reached (labelsFrom ls c)
   from-reached ls [] g h = h
-  from-reached ls (f ∷ b) g h = from-reached (joinFact ls f) b (λ i j e. g i j (inr e)) (fact-reached ls f (λ i j e. g i j (inl e)) h)
+  from-reached ls (f ∷ c) g h = from-reached (joinFact ls f) c (λ i j e. g i j (inr e)) (fact-reached ls f (λ i j e. g i j (inl e)) h)
 
-  up-label : (k m i d : ℕ) → d ≡ k + i → R d (getD (upFrom k m) i d)
-  up-label k zero i d e = Rrefl d
-  up-label k (suc m) zero d e = subst (λ x. R d x) (e ∙ last k) (Rrefl d)
-    where
-      last : (k : ℕ) → k + 0 ≡ k
-      last k = omega arith
-  up-label k (suc m) (suc i) d e = up-label (suc k) m i d (e ∙ more k i)
-    where
-      more : (k i : ℕ) → k + suc i ≡ suc k + i
-      more k i = omega arith
+  reached : Reached (labels b)
+  reached = from-reached (upFrom 0 nodeCount) b (λ i j e. along e here) (λ i. subst (Chain b i) (sym (up-label 0 nodeCount i i (omega arith))) here)
 
-  pub same-class : (b : Branch) → ((i j : ℕ) → AnyEdge b i j → R i j) → (i j : ℕ) → T (sameClass (labels b) i j) → R i j
-  unfolding Reached
-  same-class b g i j t =
-      let h : (i : ℕ) → R i (label (labels b) i) = from-reached (upFrom 0 32) b g (λ i. up-label 0 32 i i (plain i)) in
-      Rtrans i (label (labels b) i) j (h i) (subst (λ x. R x j) (sym (eqb→eq (label (labels b) i) (label (labels b) j) t)) (Rsym j _ (h j)))
-    where
-      plain : (i : ℕ) → i ≡ 0 + i
-      plain i = omega arith
+  pub class→chain : (i j : ℕ) → T (sameClass (labels b) i j) → Chain b i j
+  class→chain i j t = chain-trans (reached i) (subst (λ l. Chain b l j) (sym (eqb→eq (label (labels b) i) (label (labels b) j) t)) (chain-sym (reached j)))
 
-pub class→chain : (b : Branch) (i j : ℕ) → T (sameClass (labels b) i j) → Chain b i j
-class→chain b = same-class (Chain b) (λ i. here) (λ i j c. chain-sym c) (λ i j k c d. chain-trans c d) b (λ i j e. along e here)
-
--- ---- a chain keeps one label, over the 32 nodes
+-- ---- one chain, one label, over the nodes that have a label
 
 moved : ℕ → ℕ → ℕ → ℕ
 moved old new c = cond (eqb c old) new c
@@ -125,10 +118,13 @@ keeps-all : (b : Branch) (ls : List ℕ) (i j : ℕ) → i < length ls → j < l
 keeps-all [] ls i j h g e = e
 keeps-all (f ∷ b) ls i j h g e = keeps-all b (joinFact ls f) i j (rw length-join h) (rw length-join g) (keeps ls f i j h g e)
 
+join-edge : (ls : List ℕ) (x y i j : ℕ) → i ≡ x → j ≡ y → i < length ls → j < length ls → label (joinNodes ls x y) i ≡ label (joinNodes ls x y) j
+join-edge ls x y i j p q h g = subst (λ n. label (joinNodes ls n y) i ≡ label (joinNodes ls n y) j) p (subst (λ n. label (joinNodes ls i n) i ≡ label (joinNodes ls i n) j) q (joins ls i j h g))
+
 edge-joins : (ls : List ℕ) (f : Fact) (i j : ℕ) → Edge f i j → i < length ls → j < length ls → label (joinFact ls f) i ≡ label (joinFact ls f) j
-edge-joins ls (same x y) i j e h g = subst (λ u. label (joinNodes ls u (varNode y)) i ≡ label (joinNodes ls u (varNode y)) j) (e .0) (subst (λ v. label (joinNodes ls i v) i ≡ label (joinNodes ls i v) j) (e .1) (joins ls i j h g))
+edge-joins ls (same x y) i j (p, q) h g = join-edge ls (varNode x) (varNode y) i j p q h g
 edge-joins ls (apart x y) i j e h g = absurd e
-edge-joins ls (isLiteral x l) i j e h g = subst (λ u. label (joinNodes ls u (litNode l)) i ≡ label (joinNodes ls u (litNode l)) j) (e .0) (subst (λ v. label (joinNodes ls i v) i ≡ label (joinNodes ls i v) j) (e .1) (joins ls i j h g))
+edge-joins ls (isLiteral x l) i j (p, q) h g = join-edge ls (varNode x) (litNode l) i j p q h g
 edge-joins ls (arithmetic r t) i j e h g = absurd e
 
 any-joins : (b : Branch) (ls : List ℕ) (i j : ℕ) → AnyEdge b i j → i < length ls → j < length ls → label (labelsFrom ls b) i ≡ label (labelsFrom ls b) j
@@ -136,14 +132,153 @@ any-joins [] ls i j e h g = absurd e
 any-joins (f ∷ b) ls i j (inl e) h g = keeps-all b (joinFact ls f) i j (rw length-join h) (rw length-join g) (edge-joins ls f i j e h g)
 any-joins (f ∷ b) ls i j (inr e) h g = any-joins b (joinFact ls f) i j e (rw length-join h) (rw length-join g)
 
--- every ≈ fact is between nodes below 32
-abbrev pub Nodes : Branch → Type 0
-Nodes b = (i j : ℕ) → AnyEdge b i j → (i < 32) × (j < 32)
+-- ---- a branch in range
 
-pub chain→label : (b : Branch) → Nodes b → {i j : ℕ} → Chain b i j → label (labels b) i ≡ label (labels b) j
-chain→label b r here = refl
-chain→label b r (along {i = i} {j = j} e c) = any-joins b (upFrom 0 32) i j e (r i j e .0) (r i j e .1) ∙ chain→label b r c
-chain→label b r (back {i = i} {j = j} e c) = sym (any-joins b (upFrom 0 32) j i e (r j i e .0) (r j i e .1)) ∙ chain→label b r c
+module _ (u : Question) (w : HeadInRange u) where
+  edge-nodes : (f : Fact) (i j : ℕ) → FactInRange u f → Edge f i j → (i < nodeCount) × (j < nodeCount)
+  edge-nodes (same x y) i j (hx, hy) (p, q) = (omega (arith, w .strings), omega (arith, w .strings))
+  edge-nodes (apart x y) i j h e = absurd e
+  edge-nodes (isLiteral x l) i j (hx, hl) (p, q) = (omega (arith, w .strings), omega (arith, w .literals))
+  edge-nodes (arithmetic r t) i j h e = absurd e
 
-pub chain→class : (b : Branch) → Nodes b → (i j : ℕ) → Chain b i j → T (sameClass (labels b) i j)
-chain→class b r i j c = subst (λ x. T (eqb (label (labels b) i) x)) (chain→label b r c) (eqb-refl (label (labels b) i))
+  any-nodes : (b : Branch) (i j : ℕ) → FactsInRange u b → AnyEdge b i j → (i < nodeCount) × (j < nodeCount)
+  any-nodes [] i j r e = absurd e
+  any-nodes (f ∷ b) i j r (inl e) = edge-nodes f i j (r .0) e
+  any-nodes (f ∷ b) i j r (inr e) = any-nodes b i j (r .1) e
+
+module _ (u : Question) (w : HeadInRange u) (b : Branch) (r : FactsInRange u b) where
+  edge-label : (i j : ℕ) → AnyEdge b i j → label (labels b) i ≡ label (labels b) j
+  edge-label i j e = let (h, g) = any-nodes u w b i j r e in any-joins b (upFrom 0 nodeCount) i j e h g
+
+  pub chain→label : {i j : ℕ} → Chain b i j → label (labels b) i ≡ label (labels b) j
+  chain→label here = refl
+  chain→label (along {i = i} {j = j} e c) = edge-label i j e ∙ chain→label c
+  chain→label (back {i = i} {j = j} e c) = sym (edge-label j i e) ∙ chain→label c
+
+  pub chain→class : (i j : ℕ) → Chain b i j → T (sameClass (labels b) i j)
+  chain→class i j c = subst (λ l. T (eqb (label (labels b) i) l)) (chain→label c) (eqb-refl (label (labels b) i))
+
+-- ---- the lowest literal of a class
+
+-- what the search from k on among m literals finds
+abbrev Found : List ℕ → ℕ → ℕ → ℕ → Option ℕ → Type 0
+Found ls x k m none = (i : ℕ) → k ≤ i → i < k + m → T (sameClass ls (varNode x) (litNode i)) → ⊥
+Found ls x k m (some l) = (l < k + m) × T (sameClass ls (varNode x) (litNode l)) × ((i : ℕ) → k ≤ i → i < l → T (sameClass ls (varNode x) (litNode i)) → ⊥)
+
+module _ (ls : List ℕ) (x : ℕ) where
+  abbrev Holding : ℕ → Type 0
+  Holding i = T (sameClass ls (varNode x) (litNode i))
+
+  skip : (k n : ℕ) → (Holding k → ⊥) → ((i : ℕ) → suc k ≤ i → i < n → Holding i → ⊥) → (i : ℕ) → k ≤ i → i < n → Holding i → ⊥
+  skip k n f h i a c t = go (ℕ-discrete i k)
+    where
+      go : Dec (i ≡ k) → ⊥
+      go (yes p) = f (subst Holding p t)
+      go (no g) = h i (omega arith) c t
+
+  found : (k m : ℕ) → Found ls x k m (lowest ls x k m)
+  found k zero = λ i a c t. omega arith
+  found k (suc m) = go (sameClass ls (varNode x) (litNode k)) refl (lowest ls x (suc k) m) (found (suc k) m)
+    where
+      later : (t : Bool) → sameClass ls (varNode x) (litNode k) ≡ t → t ≡ false → Holding k → ⊥
+      later t s e h = subst T (s ∙ e) h
+
+      go : (t : Bool) → sameClass ls (varNode x) (litNode k) ≡ t → (o : Option ℕ) → Found ls x (suc k) m o → Found ls x k (suc m) (elim t as (λ _. Option ℕ) [ true ↦ some k | false ↦ o ])
+      go true s o h = (omega arith, true→ s, λ i a c t. omega arith)
+      go false s none h = skip k (k + suc m) (later false s refl) (λ i a c t. h i a (omega arith) t)
+      go false s (some l) (g, q, h) = (omega arith, q, skip k l (later false s refl) h)
+
+module _ (u : Question) (w : HeadInRange u) (b : Branch) (r : FactsInRange u b) where
+  found-literal : (x : ℕ) (o : Option ℕ) → classLiteral u b x ≡ o → Found (labels b) x 0 (suc (length (u .literals))) o
+  found-literal x o e = subst (Found (labels b) x 0 (suc (length (u .literals)))) e (found (labels b) x 0 (suc (length (u .literals))))
+
+  pub literal→counts : (x : ℕ) {l : ℕ} → classLiteral u b x ≡ some l → Counts u b x l
+  literal→counts x {l} e =
+      let (g, q, h) = found-literal x (some l) e in
+      record {
+        defined = omega arith;
+        held = class→chain b (varNode x) (litNode l) q;
+        lowest = λ k a c. h k (omega arith) a (chain→class u w b r (varNode x) (litNode k) c);
+      }
+
+  pub no-literal : (x : ℕ) → classLiteral u b x ≡ none → (l : ℕ) → l ≤ length (u .literals) → ClassHolds b x l → ⊥
+  no-literal x e l h c = found-literal x none e l (omega arith) (omega arith) (chain→class u w b r (varNode x) (litNode l) c)
+
+  counts-unique : {x k l : ℕ} → Counts u b x k → Counts u b x l → k ≡ l
+  counts-unique {x} {k} {l} c d = go (decLt k l) (decLt l k)
+    where
+      go : Dec (k < l) → Dec (l < k) → k ≡ l
+      go (yes h) g = absurd (d .lowest k h (c .held))
+      go (no f) (yes h) = absurd (c .lowest l h (d .held))
+      go (no f) (no g) = omega arith
+
+  pub counts→literal : (x l : ℕ) → Counts u b x l → classLiteral u b x ≡ some l
+  counts→literal x l c = go (classLiteral u b x) refl
+    where
+      go : (o : Option ℕ) → classLiteral u b x ≡ o → o ≡ some l
+      go none e = absurd (no-literal x e l (c .defined) (c .held))
+      go (some k) e = ap some (counts-unique (literal→counts x e) c)
+
+  lowest-same : (x y k m : ℕ) → label (labels b) (varNode x) ≡ label (labels b) (varNode y) → lowest (labels b) x k m ≡ lowest (labels b) y k m
+  lowest-same x y k zero e = refl
+  lowest-same x y k (suc m) e = ap₂ {B = Option ℕ} {C = Option ℕ} (λ t o. elim (eqb t (label (labels b) (litNode k))) as (λ _. Option ℕ) [ true ↦ some k | false ↦ o ]) e (lowest-same x y (suc k) m e)
+
+  pub literal-same : (x y : ℕ) → OneClass b x y → classLiteral u b x ≡ classLiteral u b y
+  literal-same x y c = lowest-same x y 0 (suc (length (u .literals))) (chain→label u w b r c)
+
+-- ---- the conflict
+
+module _ (u : Question) (w : HeadInRange u) (b : Branch) (r : FactsInRange u b) where
+  abbrev meets : ℕ → ℕ → Bool
+  meets i j = sameClass (labels b) (litNode i) (litNode j)
+
+  literals-meet→ : T (literalsMeet u (labels b)) → LiteralsMeet u b
+  literals-meet→ t =
+      let (i, hi, s) = any→ (suc (length (u .literals))) (λ i. anyBelow i (meets i)) t in
+      let (j, hj, q) = any→ i (meets i) s in
+      record { first = i; second = j; first-defined = omega arith; second-defined = omega arith; different = λ e. omega arith; joined = class→chain b (litNode i) (litNode j) q }
+
+  meet-in-order : (i j : ℕ) → i ≤ length (u .literals) → j < i → Chain b (litNode i) (litNode j) → T (literalsMeet u (labels b))
+  meet-in-order i j hi hj c = →any (suc (length (u .literals))) (λ i. anyBelow i (meets i)) i (omega arith) (→any i (meets i) j hj (chain→class u w b r (litNode i) (litNode j) c))
+
+  →literals-meet : LiteralsMeet u b → T (literalsMeet u (labels b))
+  →literals-meet m = go (decLt (m .second) (m .first)) (decLt (m .first) (m .second))
+    where
+      go : Dec (m .second < m .first) → Dec (m .first < m .second) → T (literalsMeet u (labels b))
+      go (yes h) g = meet-in-order (m .first) (m .second) (m .first-defined) h (m .joined)
+      go (no f) (yes h) = meet-in-order (m .second) (m .first) (m .second-defined) h (chain-sym (m .joined))
+      go (no f) (no g) = absurd (m .different (omega arith))
+
+-- a ≉ fact of c has both sides in one class of ls
+apart-meet→ : (ls : List ℕ) (c : Branch) → T (apartMeet ls c) → (x : ℕ) × (y : ℕ) × Stands c (apart x y) × T (sameClass ls (varNode x) (varNode y))
+apart-meet→ ls [] t = absurd t
+apart-meet→ ls (same x y ∷ c) t = let (x', y', (k, h), s) = apart-meet→ ls c t in (x', y', (suc k, h), s)
+apart-meet→ ls (isLiteral x y ∷ c) t = let (x', y', (k, h), s) = apart-meet→ ls c t in (x', y', (suc k, h), s)
+apart-meet→ ls (arithmetic r e ∷ c) t = let (x', y', (k, h), s) = apart-meet→ ls c t in (x', y', (suc k, h), s)
+apart-meet→ ls (apart x y ∷ c) t = go (or→ (sameClass ls (varNode x) (varNode y)) (apartMeet ls c) t) (apart-meet→ ls c)
+  where
+    go : T (sameClass ls (varNode x) (varNode y)) ⊎ T (apartMeet ls c) → (T (apartMeet ls c) → (x : ℕ) × (y : ℕ) × Stands c (apart x y) × T (sameClass ls (varNode x) (varNode y)))
+        → (x' : ℕ) × (y' : ℕ) × Stands (apart x y ∷ c) (apart x' y') × T (sameClass ls (varNode x') (varNode y'))
+    go (inl s) ih = (x, y, (0, refl), s)
+    go (inr s) ih = let (x', y', (k, h), q) = ih s in (x', y', (suc k, h), q)
+
+→apart-meet : (ls : List ℕ) (c : Branch) (x y k : ℕ) → FactAt c k (apart x y) → T (sameClass ls (varNode x) (varNode y)) → T (apartMeet ls c)
+→apart-meet ls [] x y k h t = absurd (none-some h)
+→apart-meet ls (f ∷ c) x y zero h t = subst (λ f. T (apartMeet ls (f ∷ c))) (sym (some-injective h)) (→or-left (sameClass ls (varNode x) (varNode y)) (apartMeet ls c) t)
+→apart-meet ls (same p q ∷ c) x y (suc k) h t = →apart-meet ls c x y k h t
+→apart-meet ls (isLiteral p q ∷ c) x y (suc k) h t = →apart-meet ls c x y k h t
+→apart-meet ls (arithmetic r e ∷ c) x y (suc k) h t = →apart-meet ls c x y k h t
+→apart-meet ls (apart p q ∷ c) x y (suc k) h t = →or-right (sameClass ls (varNode p) (varNode q)) (apartMeet ls c) (→apart-meet ls c x y k h t)
+
+module _ (u : Question) (w : HeadInRange u) (b : Branch) (r : FactsInRange u b) where
+  pub conflict→ : T (conflict u b) → LiteralsMeet u b ⊎ ApartMeet b
+  conflict→ t = go (or→ (literalsMeet u (labels b)) (apartMeet (labels b) b) t)
+    where
+      go : T (literalsMeet u (labels b)) ⊎ T (apartMeet (labels b) b) → LiteralsMeet u b ⊎ ApartMeet b
+      go (inl s) = inl (literals-meet→ u w b r s)
+      go (inr s) = let (x, y, h, q) = apart-meet→ (labels b) b s in inr (record { left = x; right = y; stands = h; joined = class→chain b (varNode x) (varNode y) q })
+
+  pub →conflict : LiteralsMeet u b ⊎ ApartMeet b → T (conflict u b)
+  →conflict (inl m) = →or-left (literalsMeet u (labels b)) (apartMeet (labels b) b) (→literals-meet u w b r m)
+  →conflict (inr m) = →or-right (literalsMeet u (labels b)) (apartMeet (labels b) b)
+      (→apart-meet (labels b) b (m .left) (m .right) (m .stands .0) (m .stands .1) (chain→class u w b r (varNode (m .left)) (varNode (m .right)) (m .joined)))

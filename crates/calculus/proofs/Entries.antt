@@ -1,24 +1,23 @@
--- Forms by their entries: sums, multiples, division, and equality place by place.
-use Prim.Native.Nat.{ℕ, zero, suc, _+_, _*_, _-_, _<_, _≤_}
+-- Forms by their entries: sums and multiples, values and lengths, equality place by place, and division.
+use Prim.Native.Nat.{ℕ, zero, suc, _+_, _-_, _<_, _≤_}
 use native.Mathlib.Omega.{arith}
 use mathlib.Core.Path.{_≡_, refl, sym, _∙_, ap, ap₂, subst}
 use mathlib.Core.Bool.{_&&_}
 use mathlib.Core.Option.{some}
-use mathlib.Core.List.{List, [], _∷_, _++_}
+use mathlib.Core.List.{List, [], _∷_, _++_, tail}
 use lib.ListN.{length, length-append, length-replicate}
-use lib.Dec.{T, leb, leb→le, le→leb, eqb-refl}
-use lib.IntN.{ℤ, pos, negsuc, _+ℤ_, _*ℤ_, +ℤ-idl, +ℤ-idr, *ℤ-zero}
+use lib.Dec.{T, leb, leb→le, le→leb}
+use lib.IntN.{ℤ, pos, negsuc, _+ℤ_, _*ℤ_, +ℤ-idl, +ℤ-idr, zero-*ℤ, *ℤ-zero}
 use lib.Signed.{_≤ℤ_, _<ℤ_}
-use Rattle.integers.proofs.Ring.{v, _⊕_, _⊗_, inj, le-up, lt-up, up-le, up-lt, lt-by}
-use Rattle.integers.proofs.Laws.{floorZ, floor-low, floor-high, *ℤ-pos-lt, lt-suc}
-use Rattle.calculus.specs.Rows.{plus, scale, zeros, column, minus, eqℤ, eqRow, isZero, allZero, floorDiv, divRow}
+use Rattle.integers.proofs.Laws.{*ℤ-one, floorZ, floor-low, floor-high, floor-unique, floor-multiple}
+use Rattle.lists.proofs.Options.{none-some}
+use Rattle.lists.proofs.Tests.{and→, →and}
+use Rattle.calculus.specs.Limits.{columnLimit}
+use Rattle.calculus.specs.Rows.{plus, scale, zeros, number, column, minus, less, below, isZero, eqRow, allZero, floorDiv, divRow, dot}
 use Rattle.calculus.specs.Rules.{divided}
-use Rattle.calculus.specs.Instances.{entry}
-use Rattle.calculus.proofs.Ints.{isZero→}
-use Rattle.calculus.proofs.Options.{none-some, guard→, →guard, both}
-use Rattle.calculus.proofs.Rows.{and→, eqRow→}
-
--- ---- entries
+use Rattle.calculus.specs.Instances.{entry, total}
+use Rattle.calculus.proofs.Tests.{guard→, →guard}
+use Rattle.calculus.proofs.Rows.{isZero→, →isZero, eqRow→, →eqRow}
 
 pub entry-plus : (a b : List ℤ) (j : ℕ) → entry (plus a b) j ≡ entry a j +ℤ entry b j
 entry-plus [] b j = sym (+ℤ-idl (entry b j))
@@ -31,23 +30,16 @@ entry-scale k [] j = sym (*ℤ-zero k)
 entry-scale k (x ∷ a) zero = refl
 entry-scale k (x ∷ a) (suc j) = entry-scale k a j
 
+pub entry-tail : (a : List ℤ) (j : ℕ) → entry (tail a) j ≡ entry a (suc j)
+entry-tail [] j = refl
+entry-tail (x ∷ a) j = refl
+
 -- forms of one length that agree in every place are the same
 pub by-entries : (a b : List ℤ) → length a ≡ length b → ((j : ℕ) → entry a j ≡ entry b j) → a ≡ b
 by-entries [] [] l h = refl
 by-entries [] (y ∷ b) l h = absurd (omega arith)
 by-entries (x ∷ a) [] l h = absurd (omega arith)
 by-entries (x ∷ a) (y ∷ b) l h = ap₂ _∷_ (h 0) (by-entries a b (omega arith) (λ j. h (suc j)))
-
-pub eqℤ-refl : (z : ℤ) → T (eqℤ z z)
-eqℤ-refl (pos n) = eqb-refl n
-eqℤ-refl (negsuc n) = eqb-refl n
-
-eqRow-refl : (a : List ℤ) → T (eqRow a a)
-eqRow-refl [] = tt
-eqRow-refl (x ∷ a) = both (eqℤ x x) (eqRow a a) (eqℤ-refl x) (eqRow-refl a)
-
-pub →eqRow : (a b : List ℤ) → a ≡ b → T (eqRow a b)
-→eqRow a b e = subst (λ c. T (eqRow a c)) e (eqRow-refl a)
 
 pub allZero→ : (a : List ℤ) → T (allZero a) → (j : ℕ) → entry a j ≡ pos 0
 allZero→ [] t j = refl
@@ -56,9 +48,44 @@ allZero→ (x ∷ a) t (suc j) = allZero→ a (and→ (isZero x) (allZero a) t .
 
 pub →allZero : (a : List ℤ) → ((j : ℕ) → entry a j ≡ pos 0) → T (allZero a)
 →allZero [] h = tt
-→allZero (x ∷ a) h = both (isZero x) (allZero a) (subst (λ z. T (isZero z)) (sym (h 0)) tt) (→allZero a (λ j. h (suc j)))
+→allZero (x ∷ a) h = →and (isZero x) (allZero a) (→isZero (h 0)) (→allZero a (λ j. h (suc j)))
+
+-- ---- values
+
+dot-none : (a v : List ℤ) → ((j : ℕ) → entry a j ≡ pos 0) → dot a v ≡ pos 0
+dot-none [] v h = refl
+dot-none (x ∷ a) [] h = refl
+dot-none (x ∷ a) (z ∷ v) h = ap₂ _+ℤ_ (ap (λ c. c *ℤ z) (h 0) ∙ zero-*ℤ z) (dot-none a v (λ j. h (suc j)))
+
+-- forms that agree in every place have one value
+pub dot-entries : (a b v : List ℤ) → ((j : ℕ) → entry a j ≡ entry b j) → dot a v ≡ dot b v
+dot-entries [] b v h = sym (dot-none b v (λ j. sym (h j)))
+dot-entries (x ∷ a) [] v h = dot-none (x ∷ a) v h
+dot-entries (x ∷ a) (y ∷ b) [] h = refl
+dot-entries (x ∷ a) (y ∷ b) (z ∷ v) h = ap₂ _+ℤ_ (ap (λ c. c *ℤ z) (h 0)) (dot-entries a b v (λ j. h (suc j)))
+
+-- the constant, and the other places
+pub dot-split : (e v : List ℤ) → dot e (pos 1 ∷ v) ≡ entry e 0 +ℤ dot (tail e) v
+dot-split [] v = refl
+dot-split (c ∷ e) v = ap (λ k. k +ℤ dot e v) (*ℤ-one c)
+
+-- ---- the sum of forms, each times its multiplier
+
+abbrev pub summed : List (ℕ × ℤ) → List (List ℤ) → List ℤ
+summed [] es = []
+summed (t ∷ ts) [] = []
+summed (t ∷ ts) (e ∷ es) = plus (scale (t .1) e) (summed ts es)
+
+pub entry-summed : (ts : List (ℕ × ℤ)) (es : List (List ℤ)) (j : ℕ) → entry (summed ts es) j ≡ total j ts es
+entry-summed [] es j = refl
+entry-summed (t ∷ ts) [] j = refl
+entry-summed (t ∷ ts) (e ∷ es) j = entry-plus (scale (t .1) e) (summed ts es) j ∙ ap₂ _+ℤ_ (entry-scale (t .1) e j) (entry-summed ts es j)
 
 -- ---- lengths
+
+-- a constant and a coefficient for every column
+abbrev pub Whole : List ℤ → Type 0
+Whole e = length e ≡ suc columnLimit
 
 pub length-plus : (a b : List ℤ) → length b ≤ length a → length (plus a b) ≡ length a
 length-plus [] [] h = refl
@@ -70,53 +97,37 @@ pub length-scale : (k : ℤ) (a : List ℤ) → length (scale k a) ≡ length a
 length-scale k [] = refl
 length-scale k (x ∷ a) = ap suc (length-scale k a)
 
-pub length-column : (j : ℕ) → j < 48 → length (column j) ≡ 49
-length-column j h =
-    let e : length (zeros j ++ (pos 1 ∷ zeros (47 - j))) ≡ length (zeros j) + suc (length (zeros (47 - j))) = length-append (zeros j) (pos 1 ∷ zeros (47 - j)) in
+pub whole-number : (k : ℤ) → Whole (number k)
+whole-number k = refl
+
+pub whole-column : (j : ℕ) → j < columnLimit → Whole (column j)
+whole-column j h =
+    let e : length (zeros j ++ (pos 1 ∷ zeros (columnLimit - 1 - j))) ≡ length (zeros j) + suc (length (zeros (columnLimit - 1 - j))) = length-append (zeros j) (pos 1 ∷ zeros (columnLimit - 1 - j)) in
     let f : length (zeros j) ≡ j = length-replicate j (pos 0) in
-    let g : length (zeros (47 - j)) ≡ 47 - j = length-replicate (47 - j) (pos 0) in
-    let k : length (zeros j ++ (pos 1 ∷ zeros (47 - j))) ≡ 48 = omega arith in
+    let g : length (zeros (columnLimit - 1 - j)) ≡ columnLimit - 1 - j = length-replicate (columnLimit - 1 - j) (pos 0) in
+    let k : length (zeros j ++ (pos 1 ∷ zeros (columnLimit - 1 - j))) ≡ columnLimit = omega arith in
     ap suc k
 
--- sums, differences and multiples of whole forms are whole forms
-pub whole-plus : (a b : List ℤ) → length a ≡ 49 → length b ≡ 49 → length (plus a b) ≡ 49
-whole-plus a b h g = length-plus a b (omega arith) ∙ h
-
-pub whole-scale : (k : ℤ) (a : List ℤ) → length a ≡ 49 → length (scale k a) ≡ 49
+pub whole-scale : (k : ℤ) (a : List ℤ) → Whole a → Whole (scale k a)
 whole-scale k a h = length-scale k a ∙ h
 
-pub whole-minus : (a b : List ℤ) → length a ≡ 49 → length b ≡ 49 → length (minus a b) ≡ 49
+pub whole-plus : (a b : List ℤ) → Whole a → Whole b → Whole (plus a b)
+whole-plus a b h g = length-plus a b (omega arith) ∙ h
+
+pub whole-minus : (a b : List ℤ) → Whole a → Whole b → Whole (minus a b)
 whole-minus a b h g = whole-plus a (scale (negsuc 0) b) h (whole-scale (negsuc 0) b g)
 
--- ---- division rounding down
+pub whole-less : (a : List ℤ) → Whole a → Whole (less a)
+whole-less a h = whole-plus a (number (negsuc 0)) h (whole-number (negsuc 0))
 
-pub ≤ℤ-antisym : {a b : ℤ} → a ≤ℤ b → b ≤ℤ a → a ≡ b
-≤ℤ-antisym {a} {b} h g = inj a b (omega (arith, le-up h, le-up g))
+pub whole-below : (a : List ℤ) → Whole a → Whole (below a)
+whole-below a h = whole-less (scale (negsuc 0) a) (whole-scale (negsuc 0) a h)
 
-≤<-trans : {a b c : ℤ} → a ≤ℤ b → b <ℤ c → a <ℤ c
-≤<-trans {a} {b} {c} h g = up-lt (omega (arith, le-up h, lt-up g))
-
-≤ℤ-refl : (a : ℤ) → a ≤ℤ a
-≤ℤ-refl a = up-le (omega arith)
+-- ---- division: "Column sums must divide exactly; the constant is divided rounding down"
 
 floor-same : (z : ℤ) (d : ℕ) → floorDiv z d ≡ floorZ z d
 floor-same (pos a) d = refl
 floor-same (negsuc a) d = refl
-
-pub floor-below : (c : ℤ) (d : ℕ) → 1 ≤ d → (pos d *ℤ floorDiv c d) ≤ℤ c
-floor-below c d h = subst (λ k. (pos d *ℤ k) ≤ℤ c) (sym (floor-same c d)) (floor-low c d (omega arith))
-
-pub floor-above : (c : ℤ) (d : ℕ) → 1 ≤ d → c <ℤ (pos d *ℤ (floorDiv c d +ℤ pos 1))
-floor-above c d h = subst (λ k. c <ℤ (pos d *ℤ (k +ℤ pos 1))) (sym (floor-same c d)) (floor-high c d (omega arith))
-
--- d k ≤ c < d (k + 1) for one k only
-pub floor-unique : (c : ℤ) (d : ℕ) (k : ℤ) → 1 ≤ d → (pos d *ℤ k) ≤ℤ c → c <ℤ (pos d *ℤ (k +ℤ pos 1)) → floorDiv c d ≡ k
-floor-unique c d k h low high = ≤ℤ-antisym
-    (lt-suc (*ℤ-pos-lt d (≤<-trans (floor-below c d h) high)))
-    (lt-suc (*ℤ-pos-lt d (≤<-trans low (floor-above c d h))))
-
-floor-multiple : (z : ℤ) (d : ℕ) → 1 ≤ d → floorDiv (pos d *ℤ z) d ≡ z
-floor-multiple z d h = floor-unique (pos d *ℤ z) d z h (≤ℤ-refl (pos d *ℤ z)) (lt-by (v (pos d) ⊗ v z) (v (pos d) ⊗ (v z ⊕ v (pos 1))) (omega arith))
 
 length-divRow : (a : List ℤ) (d : ℕ) → length (divRow a d) ≡ length a
 length-divRow [] d = refl
@@ -126,26 +137,26 @@ div-entries : (a q : List ℤ) (d : ℕ) → 1 ≤ d → length a ≡ length q �
 div-entries [] [] d h l e = refl
 div-entries [] (y ∷ q) d h l e = absurd (omega arith)
 div-entries (x ∷ a) [] d h l e = absurd (omega arith)
-div-entries (x ∷ a) (y ∷ q) d h l e = ap₂ _∷_ (ap (λ z. floorDiv z d) (sym (e 0)) ∙ floor-multiple y d h) (div-entries a q d h (omega arith) (λ j. e (suc j)))
+div-entries (x ∷ a) (y ∷ q) d h l e = ap₂ _∷_ (ap (λ z. floorDiv z d) (sym (e 0)) ∙ floor-same (pos d *ℤ y) d ∙ floor-multiple y d h) (div-entries a q d h (omega arith) (λ j. e (suc j)))
 
--- the row r divided by d is e, as document 01 says it
+-- the row r divided by d is e, in words
 pub record Divided (d : ℕ) (r e : List ℤ) : Type 0 where
   pub size : length e ≡ length r
   pub columns : (j : ℕ) → pos d *ℤ entry e (suc j) ≡ entry r (suc j)
-  pub low : (pos d *ℤ entry e 0) ≤ℤ entry r 0
-  pub high : entry r 0 <ℤ (pos d *ℤ (entry e 0 +ℤ pos 1))
+  pub floor-low : (pos d *ℤ entry e 0) ≤ℤ entry r 0
+  pub floor-high : entry r 0 <ℤ (pos d *ℤ (entry e 0 +ℤ pos 1))
 
 pub divided→ : (d : ℕ) (r e : List ℤ) → divided d r ≡ some e → Divided d r e
 divided→ d [] e h = absurd (none-some h)
 divided→ d (c ∷ cs) e h =
     let (t, g) = guard→ (leb 1 d && eqRow (scale (pos d) (divRow cs d)) cs) h in
-    let (one, same) = and→ (leb 1 d) (eqRow (scale (pos d) (divRow cs d)) cs) t in
-    let exact : scale (pos d) (divRow cs d) ≡ cs = eqRow→ (scale (pos d) (divRow cs d)) cs same in
+    let (s, q) = and→ (leb 1 d) (eqRow (scale (pos d) (divRow cs d)) cs) t in
+    let exact : scale (pos d) (divRow cs d) ≡ cs = eqRow→ (scale (pos d) (divRow cs d)) cs q in
     subst (Divided d (c ∷ cs)) g (record {
       size = ap suc (length-divRow cs d);
       columns = λ j. sym (entry-scale (pos d) (divRow cs d) j) ∙ ap (λ a. entry a j) exact;
-      low = floor-below c d (leb→le 1 d one);
-      high = floor-above c d (leb→le 1 d one);
+      floor-low = subst (λ k. (pos d *ℤ k) ≤ℤ c) (sym (floor-same c d)) (floor-low c d (leb→le 1 d s));
+      floor-high = subst (λ k. c <ℤ (pos d *ℤ (k +ℤ pos 1))) (sym (floor-same c d)) (floor-high c d (leb→le 1 d s));
     })
 
 pub →divided : (d : ℕ) (r e : List ℤ) → 1 ≤ d → 1 ≤ length r → Divided d r e → divided d r ≡ some e
@@ -154,7 +165,6 @@ pub →divided : (d : ℕ) (r e : List ℤ) → 1 ≤ d → 1 ≤ length r → D
 →divided d (c ∷ cs) (k ∷ ks) h l w =
     let s : suc (length ks) ≡ suc (length cs) = w .size in
     let q : divRow cs d ≡ ks = div-entries cs ks d h (omega arith) (w .columns) in
-    let f : floorDiv c d ≡ k = floor-unique c d k h (w .low) (w .high) in
+    let f : floorDiv c d ≡ k = floor-same c d ∙ floor-unique c d k h (w .floor-low) (w .floor-high) in
     let exact : scale (pos d) (divRow cs d) ≡ cs = ap (scale (pos d)) q ∙ by-entries (scale (pos d) ks) cs (length-scale (pos d) ks ∙ omega arith) (λ j. entry-scale (pos d) ks j ∙ w .columns j) in
-    →guard (leb 1 d && eqRow (scale (pos d) (divRow cs d)) cs) (both (leb 1 d) (eqRow (scale (pos d) (divRow cs d)) cs) (le→leb 1 d h) (→eqRow (scale (pos d) (divRow cs d)) cs exact))
-    ∙ ap some (ap₂ _∷_ f q)
+    →guard (leb 1 d && eqRow (scale (pos d) (divRow cs d)) cs) (→and (leb 1 d) (eqRow (scale (pos d) (divRow cs d)) cs) (le→leb 1 d h) (→eqRow exact)) (ap₂ _∷_ f q)

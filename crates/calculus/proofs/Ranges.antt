@@ -1,80 +1,65 @@
 -- The children of a step in range on a branch in range are in range.
-use Prim.Native.Nat.{ℕ, suc, _+_, _-_, _<_}
+use Prim.Native.Nat.{ℕ, suc, _+_, _<_}
 use native.Mathlib.Omega.{arith}
-use mathlib.Core.Path.{_≡_, refl, sym, subst}
+use mathlib.Core.Path.{sym, subst}
 use mathlib.Core.Logic.{inl, inr}
-use mathlib.Core.List.{List, [], _∷_, _++_}
+use mathlib.Core.List.{List, [], _∷_}
 use lib.ListN.{length}
 use lib.IntN.{ℤ, pos, negsuc}
 use Rattle.lists.specs.Lists.{All}
-use Rattle.calculus.specs.Rows.{scale, minus, below, less, number}
-use Rattle.calculus.specs.Facts.{Question, Fact, Branch, Function, len, code, apply, valueOf, literal}
+use Rattle.lists.proofs.Lists.{all-at}
+use Rattle.calculus.specs.Alphabet.{lastCharacter}
+use Rattle.calculus.specs.Rows.{number, minus}
+use Rattle.calculus.specs.Facts.{Question, Fact, Branch, Function, len, code, literal, apply, valueOf}
 use Rattle.calculus.specs.Steps.{Step, Sum, Split, Apart, AConf, SConf, SProp, LIntro, LValid, CCollapse, CValid, CInj, Card, Join}
-use Rattle.calculus.specs.Rules.{pairsWith, pairs}
-use Rattle.calculus.specs.Instances.{LastChild, Instance, HeadInRange, FactsInRange, StepInRange}
-use Rattle.calculus.proofs.Entries.{length-column, whole-plus, whole-scale, whole-minus}
-use Rattle.calculus.proofs.Fits.{fact-at}
-
-pub all-append : {A : Type 0} (P : A → Type 0) (xs ys : List A) → All P xs → All P ys → All P (xs ++ ys)
-all-append P [] ys h g = g
-all-append P (x ∷ xs) ys (h, hs) g = (h, all-append P xs ys hs g)
-
-whole-number : (k : ℤ) → length (number k) ≡ 49
-whole-number k = refl
+use Rattle.calculus.specs.Children.{pairsWith, pairs}
+use Rattle.calculus.specs.Instances.{LastChild, Instance, HeadInRange, FactInRange, FactsInRange, StepInRange}
+use Rattle.calculus.proofs.Entries.{Whole, whole-number, whole-column, whole-minus, whole-less, whole-below}
 
 module _ (u : Question) (w : HeadInRange u) where
-  whole-apply : (f : Function) (x : ℕ) → x < u .p → length (apply u f x) ≡ 49
-  whole-apply len x h = length-column (u .q + x) (omega (arith, w .strings, w .integers))
-  whole-apply code x h = length-column (u .q + (u .p + x)) (omega (arith, w .strings, w .integers))
+  whole-apply : (f : Function) (x : ℕ) → x < u .p → Whole (apply u f x)
+  whole-apply len x h = whole-column (u .q + x) (omega (arith, w .strings, w .integers))
+  whole-apply code x h = whole-column (u .q + (u .p + x)) (omega (arith, w .strings, w .integers))
 
-  whole-less : (e : List ℤ) → length e ≡ 49 → length (less e) ≡ 49
-  whole-less e h = whole-plus e (number (negsuc 0)) h (whole-number (negsuc 0))
-
-  whole-below : (e : List ℤ) → length e ≡ 49 → length (below e) ≡ 49
-  whole-below e h = whole-plus (scale (negsuc 0) e) (number (negsuc 0)) (whole-scale (negsuc 0) e h) (whole-number (negsuc 0))
-
-  whole-difference : (f : Function) (x y : ℕ) → x < u .p → y < u .p → length (minus (apply u f x) (apply u f y)) ≡ 49
+  whole-difference : (f : Function) (x y : ℕ) → x < u .p → y < u .p → Whole (minus (apply u f x) (apply u f y))
   whole-difference f x y hx hy = whole-minus (apply u f x) (apply u f y) (whole-apply f x hx) (whole-apply f y hy)
 
-  whole-value : (f : Function) (x : ℕ) (k : ℤ) → x < u .p → length (minus (apply u f x) (number k)) ≡ 49
+  whole-value : (f : Function) (x : ℕ) (k : ℤ) → x < u .p → Whole (minus (apply u f x) (number k))
   whole-value f x k hx = whole-minus (apply u f x) (number k) (whole-apply f x hx) (whole-number k)
 
-  -- children all in range, carried over the equation that names them
-  abbrev Whole : List (List Fact) → Type 0
-  Whole cs = All (FactsInRange u) cs
+  abbrev InRange : List (List Fact) → Type 0
+  InRange cs = All (FactsInRange u) cs
 
-  pairs-with-range : (x : ℕ) (ys : List ℕ) (more : List (List Fact)) → x < u .p → All (λ y. y < u .p) ys → Whole more → Whole (pairsWith x ys more)
+  pairs-with-range : (x : ℕ) (ys : List ℕ) (more : List (List Fact)) → x < u .p → All (λ y. y < u .p) ys → InRange more → InRange (pairsWith x ys more)
   pairs-with-range x [] more h g m = m
   pairs-with-range x (y ∷ ys) more h (gy, g) m = (((h, gy), tt), pairs-with-range x ys more h g m)
 
-  pairs-range : (xs : List ℕ) (more : List (List Fact)) → All (λ y. y < u .p) xs → Whole more → Whole (pairs xs more)
+  pairs-range : (xs : List ℕ) (more : List (List Fact)) → All (λ y. y < u .p) xs → InRange more → InRange (pairs xs more)
   pairs-range [] more g m = m
   pairs-range (x ∷ xs) more (gx, g) m = pairs-with-range x xs (pairs xs more) gx g (pairs-range xs more g m)
 
-  last-range : (x m : ℕ) (cs : List (List Fact)) → x < u .p → LastChild u x m cs → Whole cs
-  last-range x m cs h (inl (e, p)) = subst Whole (sym p) tt
-  last-range x m cs h (inr (e, p)) = subst Whole (sym (p .adds)) ((whole-value len x (pos (p .power)) h, tt), tt)
+  last-range : (x m : ℕ) (cs : List (List Fact)) → x < u .p → LastChild u x m cs → InRange cs
+  last-range x m cs h (inl (e, p)) = subst InRange (sym p) tt
+  last-range x m cs h (inr (e, p)) = subst InRange (sym (p .adds)) ((whole-value len x (pos (p .power)) h, tt), tt)
 
   pub children-in-range : (b : Branch) (st : Step) (cs : List (List Fact)) → FactsInRange u b → StepInRange u st → Instance u b st cs → All (FactsInRange u) cs
   unfolding Instance StepInRange
-  children-in-range b (Sum d ts) cs r g i = subst Whole (sym (i .adds)) ((i .size, tt), tt)
-  children-in-range b (Split e) cs r g i = subst Whole (sym i) ((g, tt), ((whole-below e g, tt), tt))
-  children-in-range b (Apart k) cs r g i = let h : length (i .form) ≡ 49 = fact-at u b k r (i .named) in
-      subst Whole (sym (i .adds)) ((whole-less (i .form) h, tt), ((whole-below (i .form) h, tt), tt))
-  children-in-range b (AConf k) cs r g i = subst Whole (sym (i .closes)) tt
-  children-in-range b SConf cs r g i = subst Whole (sym (i .closes)) tt
-  children-in-range b (SProp f x y) cs r (hx, hy) i = subst Whole (sym (i .adds)) ((whole-difference f x y hx hy, tt), tt)
-  children-in-range b (LIntro x) cs r g i = subst Whole (sym (i .adds)) ((whole-value len x (valueOf len (literal u (i .held))) g, tt), tt)
-  children-in-range b (LValid x) cs r g i = subst Whole (sym i) (((g, omega arith), tt), ((whole-less (apply u len x) (whole-apply len x g), tt), tt))
-  children-in-range b (CCollapse x) cs r g i = subst Whole (sym (i .adds)) ((whole-value code x (valueOf code (literal u (i .held))) g, tt), tt)
-  children-in-range b (CValid x) cs r g i = subst Whole (sym i) (
-    (whole-less (apply u len x) (whole-apply len x g), (whole-value code x (negsuc 0) g, tt)),
-    (
-      (whole-less (apply u len x) (whole-apply len x g), (whole-apply code x g, (whole-minus (number (pos (u .n - 1))) (apply u code x) (whole-number (pos (u .n - 1))) (whole-apply code x g), tt))),
-      tt,
-    ),
-  )
-  children-in-range b (CInj x y) cs r (hx, hy) i = subst Whole (sym (i .adds)) ((whole-value code x (negsuc 0) hx, tt), ((whole-difference code x y hx hy, tt), (((hx, hy), tt), tt)))
+  children-in-range b (Sum d ts) cs r g i = subst InRange (sym (i .adds)) ((i .size, tt), tt)
+  children-in-range b (Split e) cs r g i = subst InRange (sym i) ((g, tt), ((whole-below e g, tt), tt))
+  children-in-range b (Apart k) cs r g i = let h : Whole (i .form) = all-at (FactInRange u) b k r (i .named) in
+      subst InRange (sym (i .adds)) ((whole-less (i .form) h, tt), ((whole-below (i .form) h, tt), tt))
+  children-in-range b (AConf k) cs r g i = subst InRange (sym (i .closes)) tt
+  children-in-range b SConf cs r g i = subst InRange (sym (i .closes)) tt
+  children-in-range b (SProp f x y) cs r (hx, hy) i = subst InRange (sym (i .adds)) ((whole-difference f x y hx hy, tt), tt)
+  children-in-range b (LIntro x) cs r g i = subst InRange (sym (i .adds)) ((whole-value len x (valueOf len (literal u (i .held))) g, tt), tt)
+  children-in-range b (LValid x) cs r g i = subst InRange (sym i) (((g, omega arith), tt), ((whole-less (apply u len x) (whole-apply len x g), tt), tt))
+  children-in-range b (CCollapse x) cs r g i = subst InRange (sym (i .adds)) ((whole-value code x (valueOf code (literal u (i .held))) g, tt), tt)
+  children-in-range b (CValid x) cs r g i =
+      let l = whole-less (apply u len x) (whole-apply len x g) in
+      let c = whole-apply code x g in
+      let k = number (pos (lastCharacter (u .n))) in
+      subst InRange (sym i) ((l, (whole-value code x (negsuc 0) g, tt)), ((l, (c, (whole-minus k (apply u code x) (whole-number (pos (lastCharacter (u .n)))) c, tt))), tt))
+  children-in-range b (CInj x y) cs r (hx, hy) i = subst InRange (sym (i .adds)) ((whole-value code x (negsuc 0) hx, tt), ((whole-difference code x y hx hy, tt), (((hx, hy), tt), tt)))
   children-in-range b (Card []) cs r g i = absurd i
-  children-in-range b (Card (x ∷ xs)) cs r g i = subst Whole (sym (i .adds)) (pairs-range (x ∷ xs) (i .last) (g .0) (last-range x (suc (length xs)) (i .last) (g .0 .0) (i .last-child)))
-  children-in-range b (Join j k) cs r g i = subst Whole (sym (i .adds)) ((fact-at u b j r (i .first), tt), tt)
+  children-in-range b (Card (x ∷ xs)) cs r g i = subst InRange (sym (i .adds)) (pairs-range (x ∷ xs) (i .last) (g .0) (last-range x (suc (length xs)) (i .last) (g .0 .0) (i .last-child)))
+  children-in-range b (Join j k) cs r g i = subst InRange (sym (i .adds)) ((all-at (FactInRange u) b j r (i .first), tt), tt)

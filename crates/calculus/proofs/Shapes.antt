@@ -1,53 +1,41 @@
 -- An instance has the shape that its step shows, and the walk over shapes is the walk over facts, counted.
-use Prim.Native.Nat.{ℕ, zero, suc, _+_, _-_, _≤_}
+use Prim.Native.Nat.{ℕ, zero, suc, _+_, _≤_}
 use native.Mathlib.Omega.{arith}
 use mathlib.Core.Path.{_≡_, refl, sym, _∙_, ap, ap₂}
-use mathlib.Core.Logic.{inl, inr}
+use mathlib.Core.Logic.{_≢_, inl, inr}
 use mathlib.Core.List.{List, [], _∷_, _++_, map}
 use lib.ListN.{length, replicate, length-append}
+use Rattle.calculus.specs.Alphabet.{characterCount}
 use Rattle.calculus.specs.Facts.{Question, Fact, Branch}
 use Rattle.calculus.specs.Steps.{Step, Sum, Split, Apart, AConf, SConf, SProp, LIntro, LValid, CCollapse, CValid, CInj, Card, Join, pairCount, lastCount, shape}
-use Rattle.calculus.specs.Rules.{pairsWith, pairs}
+use Rattle.calculus.specs.Children.{pairsWith, pairs}
 use Rattle.calculus.specs.Instances.{LastChild, Instance}
-use Rattle.calculus.specs.Walk.{working, Waiting, Walk, closed, wait, cutBack, enter}
+use Rattle.calculus.specs.Walk.{Waiting, Walk, working, closed, wait, cutBack, enter}
 
-sizes : List (List Fact) → List ℕ
-sizes cs = map length cs
+recount : (cs : List (List Fact)) (j k : ℕ) → j ≡ k → map length cs ≡ replicate j 1 → map length cs ≡ replicate k 1
+recount cs j k e h = h ∙ ap (λ n. replicate n 1) e
 
-pairs-with-sizes : (x : ℕ) (ys : List ℕ) (more : List (List Fact)) (k : ℕ) → sizes more ≡ replicate k 1 → sizes (pairsWith x ys more) ≡ replicate (length ys + k) 1
-unfolding sizes
-pairs-with-sizes x [] more k e = e ∙ ap (λ n. replicate n 1) z
-  where
-    z : k ≡ 0 + k
-    z = omega arith
-pairs-with-sizes x (y ∷ ys) more k e = ap (λ l. 1 ∷ l) (pairs-with-sizes x ys more k e) ∙ ap (λ n. replicate n 1) z
-  where
-    z : suc (length ys + k) ≡ suc (length ys) + k
-    z = omega arith
+pairs-with-sizes : (x : ℕ) (ys : List ℕ) (more : List (List Fact)) (k : ℕ) → map length more ≡ replicate k 1 → map length (pairsWith x ys more) ≡ replicate (length ys + k) 1
+pairs-with-sizes x [] more k h = recount more k (0 + k) (omega arith) h
+pairs-with-sizes x (y ∷ ys) more k h = recount (pairsWith x (y ∷ ys) more) (suc (length ys + k)) (suc (length ys) + k) (omega arith) (ap (λ l. 1 ∷ l) (pairs-with-sizes x ys more k h))
 
-pairs-sizes : (xs : List ℕ) (more : List (List Fact)) (k : ℕ) → sizes more ≡ replicate k 1 → sizes (pairs xs more) ≡ replicate (pairCount (length xs) + k) 1
-pairs-sizes [] more k e = e ∙ ap (λ n. replicate n 1) z
-  where
-    z : k ≡ 0 + k
-    z = omega arith
-pairs-sizes (x ∷ xs) more k e = pairs-with-sizes x xs (pairs xs more) (pairCount (length xs) + k) (pairs-sizes xs more k e) ∙ ap (λ n. replicate n 1) z
-  where
-    z : length xs + (pairCount (length xs) + k) ≡ (length xs + pairCount (length xs)) + k
-    z = omega arith
+pairs-sizes : (xs : List ℕ) (more : List (List Fact)) (k : ℕ) → map length more ≡ replicate k 1 → map length (pairs xs more) ≡ replicate (pairCount (length xs) + k) 1
+pairs-sizes [] more k h = recount more k (0 + k) (omega arith) h
+pairs-sizes (x ∷ xs) more k h = recount (pairs (x ∷ xs) more) (length xs + (pairCount (length xs) + k)) ((length xs + pairCount (length xs)) + k) (omega arith)
+    (pairs-with-sizes x xs (pairs xs more) (pairCount (length xs) + k) (pairs-sizes xs more k h))
 
-last-sizes : (u : Question) (x m : ℕ) (cs : List (List Fact)) → 1 ≤ u .n → LastChild u x m cs → sizes cs ≡ replicate (lastCount (u .n)) 1
-unfolding sizes
+last-sizes : (u : Question) (x m : ℕ) (cs : List (List Fact)) → 1 ≤ u .n → LastChild u x m cs → map length cs ≡ replicate (lastCount (characterCount (u .n))) 1
 last-sizes u x m cs h (inl (e, p)) = ap (map length) p ∙ ap (λ n. replicate (lastCount n) 1) (sym e)
 last-sizes u x m cs h (inr (e, p)) = ap (map length) (p .adds) ∙ ap (λ k. replicate k 1) (sym (one-more (u .n) h e))
   where
-    one-more : (n : ℕ) → 1 ≤ n → (n ≡ 1 → ⊥) → lastCount n ≡ 1
+    one-more : (n : ℕ) → 1 ≤ n → n ≢ 1 → lastCount n ≡ 1
     one-more zero h f = absurd (omega arith)
     one-more (suc zero) h f = absurd (f refl)
     one-more (suc (suc n)) h f = refl
 
 -- how many children, how many facts each adds, or that the rule closes
 pub instance-shape : (u : Question) → 1 ≤ u .n → (b : Branch) (st : Step) (cs : List (List Fact)) → Instance u b st cs → map length cs ≡ shape (u .n) st
-unfolding Instance shape sizes
+unfolding Instance shape
 instance-shape u h b (Sum d ts) cs i = ap (map length) (i .adds)
 instance-shape u h b (Split e) cs i = ap (map length) i
 instance-shape u h b (Apart k) cs i = ap (map length) (i .adds)
@@ -60,7 +48,7 @@ instance-shape u h b (CCollapse x) cs i = ap (map length) (i .adds)
 instance-shape u h b (CValid x) cs i = ap (map length) i
 instance-shape u h b (CInj x y) cs i = ap (map length) (i .adds)
 instance-shape u h b (Card []) cs i = absurd i
-instance-shape u h b (Card (x ∷ xs)) cs i = ap (map length) (i .adds) ∙ pairs-sizes (x ∷ xs) (i .last) (lastCount (u .n)) (last-sizes u x (suc (length xs)) (i .last) h (i .last-child))
+instance-shape u h b (Card (x ∷ xs)) cs i = ap (map length) (i .adds) ∙ pairs-sizes (x ∷ xs) (i .last) (lastCount (characterCount (u .n))) (last-sizes u x (suc (length xs)) (i .last) h (i .last-child))
 instance-shape u h b (Join j k) cs i = ap (map length) (i .adds)
 
 -- ---- the walk counted

@@ -1,524 +1,263 @@
--- Soundness: an accepted derivation leaves no assignment that meets the question.
-use Prim.Native.Nat.{ℕ, zero, suc, _+_, _*_, _-_, _/_, _%_, _^_, _<_, _≤_}
-use native.Mathlib.Nat.{pow-le-pow-left}
+-- Every rule keeps an assignment alive: what meets a branch meets a child of each instance on it.
+use Prim.Native.Nat.{ℕ, zero, suc, _+_, _*_, _/_, _%_, _^_, _<_, _≤_}
 use native.Mathlib.Omega.{arith}
 use native.Mathlib.Decide.{ℕ-discrete}
 use mathlib.Core.Path.{_≡_, refl, sym, _∙_, ap, ap₂, subst}
 use mathlib.Core.Logic.{_≢_, _⊎_, inl, inr}
-use mathlib.Core.Bool.{Bool, true, false, not, cond, _&&_, _||_}
-use mathlib.Core.Option.{Option, none, some}
-use mathlib.Core.List.{List, [], _∷_, _++_, map, List-discrete}
-use lib.ListN.{length, getD, getElem?, length-map, List·getD-append}
+use mathlib.Core.Bool.{cond}
+use mathlib.Core.List.{List, [], _∷_, _++_, map, tail, List-discrete}
+use lib.ListN.{length, getD, length-map, List·getD-append}
 use lib.Seq.{getD-append-add}
-use lib.Dec.{T, ltb, leb, eqb, ltb→lt, leb→le}
-use borrow.Author.Tests.{le-ltb, leb-true}
-use lib.IntN.{ℤ, pos, negsuc, negℤ, predℤ, _+ℤ_, _*ℤ_, +ℤ-idl, +ℤ-idr, *ℤ-zero, *ℤ-comm, -ℤ-one, +ℤ-invr, +ℤ-assoc, ℤ-discrete}
-use Rattle.lists.specs.Lists.{NotIn, Distinct, All}
-use Rattle.calculus.specs.Alphabet.{Over}
-use Rattle.calculus.specs.Rows.{nonneg, isZero, plus, scale, column, minus, eqRow, allZero, floorDiv, divRow, dot, number}
-use Rattle.calculus.specs.Facts.{Question, Fact, same, apart, isLiteral, arithmetic, Branch, ge, eq, ne, holds, Function, len, code, literal, apply, codeOf, valueOf}
-use Rattle.calculus.specs.Chains.{varNode, litNode, Edge, AnyEdge}
-use Rattle.calculus.specs.Classes.{lowest, labels, sameClass, classLiteral, anyBelow, literalsMeet, apartMeet, conflict}
+use lib.Dec.{eqb}
+use lib.IntN.{ℤ, pos, negsuc, negℤ, _+ℤ_, _-ℤ_, _*ℤ_, +ℤ-idr, *ℤ-zero, ℤ-discrete, pos-ne-negsuc}
+use lib.Signed.{_≤ℤ_, ≤ℤ-refl}
+use Rattle.integers.proofs.Laws.{minus-one-*ℤ, pos-injective, pos-≤ℤ, ≤ℤ-antisym, ≤ℤ-trans, +ℤ-mono, *ℤ-mono, -ℤ-zero→, →-ℤ-zero, →-ℤ-nonneg, neg-nonneg→, split-cases, apart-cases, tighten}
+use Rattle.lists.specs.Lists.{All, Distinct}
+use Rattle.lists.proofs.Options.{some-injective, none-some}
+use Rattle.lists.proofs.Lists.{Any, distinct-at, getD-map}
+use Rattle.calculus.specs.Alphabet.{lastCharacter, Over}
+use Rattle.calculus.specs.Rows.{scale, number, minus, less, below, dot}
+use Rattle.calculus.specs.Facts.{Question, Fact, same, apart, isLiteral, arithmetic, Branch, Relation, ge, eq, ne, Function, len, code, literal, apply, codeOf, valueOf}
+use Rattle.calculus.specs.Chains.{varNode, litNode, Edge, AnyEdge, Chain, here, along, back}
 use Rattle.calculus.specs.Steps.{Step, Sum, Split, Apart, AConf, SConf, SProp, LIntro, LValid, CCollapse, CValid, CInj, Card, Join}
-use Rattle.calculus.specs.Rules.{guard, then, summand, sumOf, divided, apartChildren, falsum, joined, statesZero, anyFact, sameLength, neighbours, distinct, pairsWith, pairs, logUp, lastChild, cardChildren, children}
-use Rattle.calculus.specs.Instances.{StepInRange}
-use Rattle.calculus.specs.Walk.{Walk, working, closed, enter}
+use Rattle.calculus.specs.Children.{pairs}
+use Rattle.calculus.specs.Instances.{entry, FactAt, Multiplier, Summands, total, IsSum, False, IsAConf, LiteralsMeet, ApartMeet, IsLiteral, LengthsStated, Neighbours, LastChild, IsCard, IsJoin, Instance, StepInRange}
 use Rattle.calculus.specs.Meaning.{Assignment, str, For, columns, value, Meets, Met}
-use Rattle.calculus.proofs.Classes.{same-class}
-use Rattle.calculus.proofs.Count.{Word, count, distinct-at}
-use Rattle.calculus.proofs.Ints.{isZero→, nonneg-+, nonneg-*, nonneg-divided, floor-rem, one-*ℤ, *ℤ-distrib-l}
-use Rattle.calculus.proofs.Logs.{log-least}
-use Rattle.calculus.proofs.Rows.{and→, dot-plus, dot-scale, dot-neg, dot-minus, dot-zeros, dot-unit, eqRow→, dot-allZero}
+use Rattle.calculus.proofs.Rows.{dot-plus, dot-scale, dot-neg, dot-minus, dot-number, dot-column, dot-less, dot-below}
+use Rattle.calculus.proofs.Relations.{holds→, →holds, false-not}
+use Rattle.calculus.proofs.Entries.{entry-scale, entry-tail, dot-entries, dot-split, summed, entry-summed}
+use Rattle.calculus.proofs.Powers.{one-power}
+use Rattle.calculus.proofs.Words.{one-or-no-code, Word, count}
+use Rattle.calculus.proofs.Pairs.{pairs-last, pairs-or-distinct}
 
--- ---- tests and partial results
+-- the assignment meets one of the children
+abbrev pub AnyMet : Question → Assignment → List (List Fact) → Type 0
+AnyMet u a cs = Any (Met u a) cs
 
-pub or→ : (a b : Bool) → T (a || b) → T a ⊎ T b
-or→ true b t = inl tt
-or→ false b t = inr t
+pub met-append : (u : Question) (a : Assignment) (b c : Branch) → Met u a b → Met u a c → Met u a (b ++ c)
+met-append u a [] c m k = k
+met-append u a (f ∷ b) c m k = (m .0, met-append u a b c (m .1) k)
 
-pub not→ : (a : Bool) → T (not a) → T a → ⊥
-not→ true t s = t
-not→ false t s = s
+pub met-left : (u : Question) (a : Assignment) (b c : Branch) → Met u a (b ++ c) → Met u a b
+met-left u a [] c m = tt
+met-left u a (f ∷ b) c m = (m .0, met-left u a b c (m .1))
 
-pub any→ : (m : ℕ) (t : ℕ → Bool) → T (anyBelow m t) → (i : ℕ) × (i < m) × T (t i)
-any→ zero t h = absurd h
-any→ (suc m) t h = go (or→ (t m) (anyBelow m t) h) (any→ m t)
+pub met-at : (u : Question) (a : Assignment) (b : Branch) (k : ℕ) {f : Fact} → Met u a b → FactAt b k f → Meets u a f
+met-at u a [] k m e = absurd (none-some e)
+met-at u a (g ∷ b) zero m e = subst (Meets u a) (some-injective e) (m .0)
+met-at u a (g ∷ b) (suc k) m e = met-at u a b k (m .1) e
+
+-- ---- strings and their codes
+
+no-code-or-equal : (s t : List ℕ) → (codeOf s ≡ negsuc 0) ⊎ ((codeOf s ≢ codeOf t) ⊎ (s ≡ t))
+no-code-or-equal s t = go (one-or-no-code s) (one-or-no-code t) (ℤ-discrete (codeOf s) (codeOf t))
   where
-    up : (i : ℕ) × (i < m) × T (t i) → (i : ℕ) × (i < suc m) × T (t i)
-    up (i, g, s) = (i, omega arith, s)
+    go : ((c : ℕ) × (s ≡ c ∷ [])) ⊎ ((length s ≢ 1) × (codeOf s ≡ negsuc 0)) → ((d : ℕ) × (t ≡ d ∷ [])) ⊎ ((length t ≢ 1) × (codeOf t ≡ negsuc 0)) → Dec (codeOf s ≡ codeOf t)
+        → (codeOf s ≡ negsuc 0) ⊎ ((codeOf s ≢ codeOf t) ⊎ (s ≡ t))
+    go (inr (f, p)) h d = inl p
+    go (inl (c, p)) h (no f) = inr (inl f)
+    go (inl (c, p)) (inl (d, q)) (yes e) = inr (inr (p ∙ ap (λ c. c ∷ []) (pos-injective (sym (ap codeOf p) ∙ e ∙ ap codeOf q)) ∙ sym q))
+    go (inl (c, p)) (inr (f, q)) (yes e) = absurd (pos-ne-negsuc c 0 (sym (ap codeOf p) ∙ e ∙ q))
 
-    go : T (t m) ⊎ T (anyBelow m t) → (T (anyBelow m t) → (i : ℕ) × (i < m) × T (t i)) → (i : ℕ) × (i < suc m) × T (t i)
-    go (inl s) ih = (m, omega arith, s)
-    go (inr s) ih = up (ih s)
-
-abbrev pub OnSome : {A : Type 0} → (A → Type 0) → Option A → Type 0
-OnSome P none = Unit {0}
-OnSome P (some x) = P x
-
-on-guard : {A : Type 0} (P : A → Type 0) (c : Bool) (x : A) → (T c → P x) → OnSome P (guard c x)
-on-guard P true x h = h tt
-on-guard P false x h = tt
-
-on-then : {A B : Type 0} (P : A → Type 0) (Q : B → Type 0) (o : Option A) (f : A → Option B) → OnSome P o → ((x : A) → P x → OnSome Q (f x)) → OnSome Q (then o f)
-on-then P Q none f p h = tt
-on-then P Q (some x) f p h = h x p
-
--- ---- integers
-
-nonneg-sub : (k l : ℕ) → l ≤ k → T (nonneg (pos k +ℤ negℤ (pos l)))
-nonneg-sub k zero h = tt
-nonneg-sub k (suc l) h = subst (λ b. T (nonneg (cond b (negsuc (suc l - suc k)) (pos (k - suc l))))) (sym (le-ltb k (suc l) h)) tt
-
-difference : (x y : ℤ) → x +ℤ negℤ y ≡ pos 0 → x ≡ y
-difference x y e = sym (+ℤ-idr x) ∙ ap (λ z. x +ℤ z) (sym (+ℤ-comm' (negℤ y) y ∙ +ℤ-invr y)) ∙ sym (+ℤ-assoc x (negℤ y) y) ∙ ap (λ z. z +ℤ y) e ∙ +ℤ-idl y
-  where
-    +ℤ-comm' : (a b : ℤ) → a +ℤ b ≡ b +ℤ a
-    +ℤ-comm' a b = lib.IntN.+ℤ-comm a b
-
-zero-test : (z : ℤ) → z ≡ pos 0 → T (isZero z)
-zero-test z e = subst (λ z. T (isZero z)) (sym e) tt
-
-pos-injective : (m n : ℕ) → pos m ≡ pos n → m ≡ n
-pos-injective m n e = ap lib.IntN.natAbs e
-
-module _ (u : Question) (a : Assignment) (w : For u a) where
-  abbrev v : List ℤ
-  v = columns a
-
+module _ (u : Question) (a : Assignment) (f : For u a) where
   -- ---- values
 
-  number-value : (k : ℤ) → value a (number k) ≡ k
-  number-value k = ap₂ _+ℤ_ (*ℤ-comm k (pos 1) ∙ one-*ℤ k) (dot-zeros 48 (a .ints ++ (map (valueOf len) (a .strs) ++ map (valueOf code) (a .strs)))) ∙ +ℤ-idr k
+  -- the values of the columns
+  abbrev v : List ℤ
+  v = a .ints ++ (map (valueOf len) (a .strs) ++ map (valueOf code) (a .strs))
 
-  getD-map : (f : List ℕ → ℤ) (l : List (List ℕ)) (x : ℕ) (d : ℤ) → x < length l → getD (map f l) x d ≡ f (getD l x [])
-  getD-map f [] x d h = absurd (omega arith)
-  getD-map f (s ∷ l) zero d h = refl
-  getD-map f (s ∷ l) (suc x) d h = getD-map f l x d (omega arith)
-
-  column-value : (j : ℕ) → value a (column j) ≡ getD (a .ints ++ (map (valueOf len) (a .strs) ++ map (valueOf code) (a .strs))) j (pos 0)
-  column-value j = +ℤ-idl _ ∙ dot-unit j (47 - j) (a .ints ++ (map (valueOf len) (a .strs) ++ map (valueOf code) (a .strs)))
-
-  apply-value : (f : Function) (x : ℕ) → x < u .p → value a (apply u f x) ≡ valueOf f (str a x)
-  apply-value len x h = column-value (u .q + x)
-      ∙ ap (λ q. getD (a .ints ++ (map (valueOf len) (a .strs) ++ map (valueOf code) (a .strs))) (q + x) (pos 0)) (sym (w .integers))
+  apply-value : (g : Function) (x : ℕ) → x < u .p → value a (apply u g x) ≡ valueOf g (str a x)
+  apply-value len x h = dot-column v (u .q + x)
+      ∙ ap (λ q. getD v (q + x) (pos 0)) (sym (f .integers))
       ∙ getD-append-add (a .ints) (map (valueOf len) (a .strs) ++ map (valueOf code) (a .strs)) x (pos 0)
-      ∙ List·getD-append (map (valueOf len) (a .strs)) (map (valueOf code) (a .strs)) (pos 0) x (rw length-map (rw (w .strings) h))
-      ∙ getD-map (valueOf len) (a .strs) x (pos 0) (rw (w .strings) h)
-  apply-value code x h = column-value (u .q + (u .p + x))
-      ∙ ap (λ q. getD (a .ints ++ (map (valueOf len) (a .strs) ++ map (valueOf code) (a .strs))) (q + (u .p + x)) (pos 0)) (sym (w .integers))
+      ∙ List·getD-append (map (valueOf len) (a .strs)) (map (valueOf code) (a .strs)) (pos 0) x (rw length-map (rw (f .strings) h))
+      ∙ getD-map (valueOf len) (a .strs) x [] (pos 0) (rw (f .strings) h)
+  apply-value code x h = dot-column v (u .q + (u .p + x))
+      ∙ ap (λ q. getD v (q + (u .p + x)) (pos 0)) (sym (f .integers))
       ∙ getD-append-add (a .ints) (map (valueOf len) (a .strs) ++ map (valueOf code) (a .strs)) (u .p + x) (pos 0)
-      ∙ ap (λ p. getD (map (valueOf len) (a .strs) ++ map (valueOf code) (a .strs)) (p + x) (pos 0)) (sym (length-map (a .strs) (valueOf len) ∙ w .strings))
+      ∙ ap (λ p. getD (map (valueOf len) (a .strs) ++ map (valueOf code) (a .strs)) (p + x) (pos 0)) (sym (length-map (a .strs) (valueOf len) ∙ f .strings))
       ∙ getD-append-add (map (valueOf len) (a .strs)) (map (valueOf code) (a .strs)) x (pos 0)
-      ∙ getD-map (valueOf code) (a .strs) x (pos 0) (rw (w .strings) h)
+      ∙ getD-map (valueOf code) (a .strs) x [] (pos 0) (rw (f .strings) h)
 
-  minus-value : (e g : List ℤ) (x y : ℤ) → value a e ≡ x → value a g ≡ y → value a (minus e g) ≡ x +ℤ negℤ y
-  minus-value e g x y p q = dot-minus e g v ∙ ap₂ (λ s t. s +ℤ negℤ t) p q
+  less-length : (x : ℕ) → x < u .p → value a (less (apply u len x)) ≡ pos (length (str a x)) -ℤ pos 1
+  less-length x h = dot-less v (apply u len x) (apply-value len x h)
 
-  less-value : (e : List ℤ) → value a (plus e (number (negsuc 0))) ≡ predℤ (value a e)
-  less-value e = dot-plus e (number (negsuc 0)) v ∙ ap (λ z. value a e +ℤ z) (number-value (negsuc 0)) ∙ -ℤ-one (value a e)
+  -- an equation f(x) − k = 0 holds where f(x) is k
+  equals-number : (g : Function) (x : ℕ) (k : ℤ) → x < u .p → valueOf g (str a x) ≡ k → Meets u a (arithmetic eq (minus (apply u g x) (number k)))
+  equals-number g x k h e = →holds eq _ (dot-minus (apply u g x) (number k) (columns a) (apply-value g x h) (dot-number v k) ∙ →-ℤ-zero e)
 
-  neg-less-value : (e : List ℤ) → value a (plus (scale (negsuc 0) e) (number (negsuc 0))) ≡ predℤ (negℤ (value a e))
-  neg-less-value e = less-value (scale (negsuc 0) e) ∙ ap predℤ (dot-neg e v)
+  -- ---- 1 Sum
 
-  -- ---- facts of a branch
+  summand-met : (r : Relation) (k : ℤ) (e : List ℤ) → Multiplier r k → Meets u a (arithmetic r e) → pos 0 ≤ℤ (k *ℤ value a e)
+  summand-met ge k e h m = subst (λ z. z ≤ℤ (k *ℤ value a e)) (*ℤ-zero k) (*ℤ-mono k (≤ℤ-trans (pos-≤ℤ (omega arith)) h) (holds→ ge (value a e) m))
+  summand-met eq k e h m = subst (λ z. pos 0 ≤ℤ z) (sym (ap (λ z. k *ℤ z) (holds→ eq (value a e) m) ∙ *ℤ-zero k)) (≤ℤ-refl (pos 0))
+  summand-met ne k e h m = absurd h
 
-  pub met-append : (b c : Branch) → Met u a b → Met u a c → Met u a (b ++ c)
-  met-append [] c m k = k
-  met-append (f ∷ b) c m k = (m .0, met-append b c (m .1) k)
+  sum-met : (b : Branch) (ts : List (ℕ × ℤ)) (es : List (List ℤ)) → Met u a b → Summands b ts es → pos 0 ≤ℤ value a (summed ts es)
+  sum-met b [] [] m h = ≤ℤ-refl (pos 0)
+  sum-met b [] (e ∷ es) m h = absurd h
+  sum-met b (t ∷ ts) [] m h = absurd h
+  sum-met b (t ∷ ts) (e ∷ es) m (h, hs) = subst (λ z. pos 0 ≤ℤ z) (sym (dot-plus (scale (t .1) e) (summed ts es) (columns a) ∙ ap (λ z. z +ℤ value a (summed ts es)) (dot-scale (t .1) e (columns a))))
+      (+ℤ-mono (summand-met (h .relation) (t .1) e (h .multiplier) (met-at u a b (t .0) m (h .named))) (sum-met b ts es m hs))
 
-  met-at : (b : Branch) (k : ℕ) → Met u a b → OnSome (Meets u a) (getElem? b k)
-  met-at [] k m = tt
-  met-at (f ∷ b) zero m = m .0
-  met-at (f ∷ b) (suc k) m = met-at b k (m .1)
-
-  abbrev pub AnyMet : List (List Fact) → Type 0
-  AnyMet [] = ⊥
-  AnyMet (c ∷ cs) = Met u a c ⊎ AnyMet cs
-
-  abbrev pub Sound : Option (List (List Fact)) → Type 0
-  Sound o = OnSome AnyMet o
-
-  -- ---- Sum
-
-  abbrev NonNeg : List ℤ → Type 0
-  NonNeg e = T (nonneg (value a e))
-
-  summand-sound : (m : ℤ) (f : Fact) → Meets u a f → OnSome NonNeg (summand m f)
-  summand-sound m (same x y) h = tt
-  summand-sound m (apart x y) h = tt
-  summand-sound m (isLiteral x y) h = tt
-  summand-sound m (arithmetic ge e) h = on-guard NonNeg (nonneg m && not (isZero m)) (scale m e) (λ t.
-      rw dot-scale (nonneg-* m (value a e) (and→ (nonneg m) (not (isZero m)) t .0) h))
-  summand-sound m (arithmetic eq e) h = on-guard NonNeg (not (isZero m)) (scale m e) (λ t.
-      rw (dot-scale, isZero→ (value a e) h, *ℤ-zero) tt)
-  summand-sound m (arithmetic ne e) h = tt
-
-  sum-sound : (b : Branch) (ts : List (ℕ × ℤ)) → Met u a b → OnSome NonNeg (sumOf b ts)
-  sum-sound b [] m = tt
-  sum-sound b (t ∷ ts) m = on-then (Meets u a) NonNeg (getElem? b (t .0)) _ (met-at b (t .0) m) (λ f hf.
-      on-then NonNeg NonNeg (summand (t .1) f) _ (summand-sound (t .1) f hf) (λ e he.
-      on-then NonNeg NonNeg (sumOf b ts) _ (sum-sound b ts m) (λ r hr. rw dot-plus (nonneg-+ (value a e) (value a r) he hr))))
-
-  divided-sound : (d : ℕ) (r : List ℤ) → NonNeg r → OnSome NonNeg (divided d r)
-  divided-sound d [] h = tt
-  divided-sound d (c ∷ cs) h = on-guard NonNeg (leb 1 d && eqRow (scale (pos d) (divRow cs d)) cs) (floorDiv c d ∷ divRow cs d) (λ t.
-      let p = and→ (leb 1 d) (eqRow (scale (pos d) (divRow cs d)) cs) t in
-      go (floor-rem d c (leb→le 1 d (p .0))) (eqRow→ (scale (pos d) (divRow cs d)) cs (p .1)))
+  new-met : (b : Branch) (d : ℕ) (ts : List (ℕ × ℤ)) (cs : List (List Fact)) → Met u a b → (i : IsSum b d ts cs) → pos 0 ≤ℤ value a (i .new)
+  new-met b d ts cs m i = subst (λ z. pos 0 ≤ℤ z) (sym (dot-split (i .new) v))
+      (tighten d (dot-tail (i .new)) (total 0 ts (i .forms)) (entry (i .new) 0) (i .floor-high)
+      (subst (λ z. pos 0 ≤ℤ z) (dot-split (summed ts (i .forms)) v ∙ ap₂ _+ℤ_ (entry-summed ts (i .forms) 0) quotient) (sum-met b ts (i .forms) m (i .summands))))
     where
-      rest : List ℤ
-      rest = a .ints ++ (map (valueOf len) (a .strs) ++ map (valueOf code) (a .strs))
+      dot-tail : List ℤ → ℤ
+      dot-tail e = dot (tail e) v
 
-      regroup : (x y r : ℤ) → (x +ℤ r) +ℤ y ≡ (x +ℤ y) +ℤ r
-      regroup x y r = +ℤ-assoc x r y ∙ ap (λ z. x +ℤ z) (lib.IntN.+ℤ-comm r y) ∙ sym (+ℤ-assoc x y r)
+      quotient : dot-tail (summed ts (i .forms)) ≡ pos d *ℤ dot-tail (i .new)
+      quotient = dot-entries (tail (summed ts (i .forms))) (scale (pos d) (tail (i .new))) v (λ j.
+          entry-tail (summed ts (i .forms)) j ∙ entry-summed ts (i .forms) (suc j) ∙ sym (i .columns j) ∙ ap (λ c. pos d *ℤ c) (sym (entry-tail (i .new) j)) ∙ sym (entry-scale (pos d) (tail (i .new)) j))
+          ∙ dot-scale (pos d) (tail (i .new)) v
 
-      times-one : (x : ℤ) → x *ℤ pos 1 ≡ x
-      times-one x = *ℤ-comm x (pos 1) ∙ one-*ℤ x
+  -- ---- 4 A-Conf, 13 Join
 
-      go : (r : ℕ) × (r < d) × (c ≡ pos d *ℤ floorDiv c d +ℤ pos r) → scale (pos d) (divRow cs d) ≡ cs → T (nonneg (floorDiv c d *ℤ pos 1 +ℤ dot (divRow cs d) rest))
-      go (r, k, e) g = nonneg-divided d r (floorDiv c d *ℤ pos 1 +ℤ dot (divRow cs d) rest) k (subst (λ z. T (nonneg z)) same-value h)
-        where
-          same-value : c *ℤ pos 1 +ℤ dot cs rest ≡ pos d *ℤ (floorDiv c d *ℤ pos 1 +ℤ dot (divRow cs d) rest) +ℤ pos r
-          same-value = ap₂ _+ℤ_ (times-one c ∙ e) (ap (λ l. dot l rest) (sym g) ∙ dot-scale (pos d) (divRow cs d) rest)
-              ∙ regroup (pos d *ℤ floorDiv c d) (pos d *ℤ dot (divRow cs d) rest) (pos r)
-              ∙ ap (λ z. z +ℤ pos r) (sym (*ℤ-distrib-l (pos d) (floorDiv c d) (dot (divRow cs d) rest)) ∙ ap (λ z. pos d *ℤ (z +ℤ dot (divRow cs d) rest)) (sym (times-one (floorDiv c d))))
-
-  -- ---- Branch, Apart, A-Conf, Join
-
-  split-cases : (z : ℤ) → T (nonneg z) ⊎ T (nonneg (predℤ (negℤ z)))
-  split-cases (pos n) = inl tt
-  split-cases (negsuc n) = inr tt
-
-  apart-cases : (z : ℤ) → T (not (isZero z)) → T (nonneg (predℤ z)) ⊎ T (nonneg (predℤ (negℤ z)))
-  apart-cases (pos zero) t = absurd t
-  apart-cases (pos (suc n)) t = inl tt
-  apart-cases (negsuc n) t = inr tt
-
-  two : {P Q : Type 0} (c d : Fact) → (P → Meets u a c) → (Q → Meets u a d) → P ⊎ Q → AnyMet ((c ∷ []) ∷ (d ∷ []) ∷ [])
-  two c d f g (inl p) = inl (f p, tt)
-  two c d f g (inr q) = inr (inl (g q, tt))
-
-  apart-sound : (f : Fact) → Meets u a f → Sound (apartChildren f)
-  apart-sound (same x y) h = tt
-  apart-sound (apart x y) h = tt
-  apart-sound (isLiteral x y) h = tt
-  apart-sound (arithmetic ge e) h = tt
-  apart-sound (arithmetic eq e) h = tt
-  apart-sound (arithmetic ne e) h = two (arithmetic ge (plus e (number (negsuc 0)))) (arithmetic ge (plus (scale (negsuc 0) e) (number (negsuc 0)))) (λ p. rw less-value p) (λ q. rw neg-less-value q) (apart-cases (value a e) h)
-
-  falsum-sound : (f : Fact) → Meets u a f → T (falsum f) → ⊥
-  falsum-sound (same x y) h t = t
-  falsum-sound (apart x y) h t = t
-  falsum-sound (isLiteral x y) h t = t
-  falsum-sound (arithmetic r []) h t = not→ (holds r (pos 0)) t h
-  falsum-sound (arithmetic r (c ∷ cs)) h t = let p = and→ (allZero cs) (not (holds r c)) t in
-      not→ (holds r c) (p .1) (subst (λ z. T (holds r z)) (constant (p .0)) h)
+  conf-dead : (b : Branch) (k : ℕ) (cs : List (List Fact)) → Met u a b → IsAConf b k cs → ⊥
+  conf-dead b k cs m i = false-not (i .relation) (value a (i .form)) (subst (False (i .relation)) (sym constant) (i .false-constant)) (holds→ (i .relation) (value a (i .form)) (met-at u a b k m (i .named)))
     where
-      constant : T (allZero cs) → value a (c ∷ cs) ≡ c
-      constant s = ap₂ _+ℤ_ (*ℤ-comm c (pos 1) ∙ one-*ℤ c) (dot-allZero cs _ s) ∙ +ℤ-idr c
+      constant : value a (i .form) ≡ entry (i .form) 0
+      constant = dot-split (i .form) v ∙ ap (λ z. entry (i .form) 0 +ℤ z) (dot-entries (tail (i .form)) [] v (λ j. entry-tail (i .form) j ∙ i .no-coefficient j)) ∙ +ℤ-idr (entry (i .form) 0)
 
-  both : (z : ℤ) → T (nonneg z) → T (nonneg (negℤ z)) → T (isZero z)
-  both (pos zero) s t = tt
-  both (pos (suc n)) s t = absurd t
-  both (negsuc n) s t = absurd s
-
-  joined-sound : (f g : Fact) → Meets u a f → Meets u a g → Sound (joined f g)
-  joined-sound (arithmetic ge e) (arithmetic ge g) h k = on-guard AnyMet (eqRow (scale (negsuc 0) e) g) _ (λ t.
-      inl (both (value a e) h (subst (λ z. T (nonneg z)) (sym (ap (value a) (eqRow→ (scale (negsuc 0) e) g t)) ∙ dot-neg e v) k), tt))
-  joined-sound (arithmetic ge e) (arithmetic eq g) h k = tt
-  joined-sound (arithmetic ge e) (arithmetic ne g) h k = tt
-  joined-sound (arithmetic ge e) (same x y) h k = tt
-  joined-sound (arithmetic ge e) (apart x y) h k = tt
-  joined-sound (arithmetic ge e) (isLiteral x y) h k = tt
-  joined-sound (arithmetic eq e) g h k = tt
-  joined-sound (arithmetic ne e) g h k = tt
-  joined-sound (same x y) g h k = tt
-  joined-sound (apart x y) g h k = tt
-  joined-sound (isLiteral x y) g h k = tt
+  join-met : (b : Branch) (j k : ℕ) (cs : List (List Fact)) → Met u a b → (i : IsJoin b j k cs) → value a (i .form) ≡ pos 0
+  join-met b j k cs m i = ≤ℤ-antisym (neg-nonneg→ (subst (λ z. pos 0 ≤ℤ z) negative (holds→ ge (value a (i .negative)) (met-at u a b k m (i .second))))) (holds→ ge (value a (i .form)) (met-at u a b j m (i .first)))
+    where
+      negative : value a (i .negative) ≡ negℤ (value a (i .form))
+      negative = dot-entries (i .negative) (scale (negsuc 0) (i .form)) (columns a) (λ p. i .negated p ∙ sym (entry-scale (negsuc 0) (i .form) p ∙ minus-one-*ℤ (entry (i .form) p))) ∙ dot-neg (i .form) (columns a)
 
   -- ---- classes
 
+  -- the string at a node
   node : ℕ → List ℕ
   node i = cond (eqb (i % 2) 0) (str a (i / 2)) (literal u (i / 2))
 
-  node-var : (x : ℕ) → node (varNode x) ≡ str a x
+  node-is : (i r q : ℕ) → i % 2 ≡ r → i / 2 ≡ q → node i ≡ cond (eqb r 0) (str a q) (literal u q)
   unfolding node
-  node-var x = ap₂ (λ r q. cond (eqb r 0) (str a q) (literal u q)) (even x) (half x)
-    where
-      even : (x : ℕ) → 2 * x % 2 ≡ 0
-      even x = omega arith
+  node-is i r q e h = ap₂ (λ r q. cond (eqb r 0) (str a q) (literal u q)) e h
 
-      half : (x : ℕ) → 2 * x / 2 ≡ x
-      half x = omega arith
+  node-variable : (x : ℕ) → node (varNode x) ≡ str a x
+  node-variable x = node-is (2 * x) 0 x (omega arith) (omega arith)
 
-  node-lit : (l : ℕ) → node (litNode l) ≡ literal u l
-  unfolding node
-  node-lit l = ap₂ (λ r q. cond (eqb r 0) (str a q) (literal u q)) (odd l) (half l)
-    where
-      odd : (l : ℕ) → (2 * l + 1) % 2 ≡ 1
-      odd l = omega arith
+  node-literal : (l : ℕ) → node (litNode l) ≡ literal u l
+  node-literal l = node-is (2 * l + 1) 1 l (omega arith) (omega arith)
 
-      half : (l : ℕ) → (2 * l + 1) / 2 ≡ l
-      half l = omega arith
-
-  edge-met : (f : Fact) (i j : ℕ) → Meets u a f → Edge f i j → node i ≡ node j
-  edge-met (same x y) i j h e = ap node (e .0) ∙ node-var x ∙ h ∙ sym (node-var y) ∙ ap node (sym (e .1))
+  edge-met : (g : Fact) (i j : ℕ) → Meets u a g → Edge g i j → node i ≡ node j
+  edge-met (same x y) i j h (p, q) = ap node p ∙ node-variable x ∙ h ∙ sym (node-variable y) ∙ ap node (sym q)
   edge-met (apart x y) i j h e = absurd e
-  edge-met (isLiteral x l) i j h e = ap node (e .0) ∙ node-var x ∙ h ∙ sym (node-lit l) ∙ ap node (sym (e .1))
+  edge-met (isLiteral x l) i j h (p, q) = ap node p ∙ node-variable x ∙ h ∙ sym (node-literal l) ∙ ap node (sym q)
   edge-met (arithmetic r t) i j h e = absurd e
 
   any-edge-met : (b : Branch) (i j : ℕ) → Met u a b → AnyEdge b i j → node i ≡ node j
   any-edge-met [] i j m e = absurd e
-  any-edge-met (f ∷ b) i j m (inl e) = edge-met f i j (m .0) e
-  any-edge-met (f ∷ b) i j m (inr e) = any-edge-met b i j (m .1) e
+  any-edge-met (g ∷ b) i j m (inl e) = edge-met g i j (m .0) e
+  any-edge-met (g ∷ b) i j m (inr e) = any-edge-met b i j (m .1) e
 
-  class-met : (b : Branch) → Met u a b → (i j : ℕ) → T (sameClass (labels b) i j) → node i ≡ node j
-  class-met b m = same-class (λ i j. node i ≡ node j) (λ i. refl) (λ i j p. sym p) (λ i j k p q. p ∙ q) b (λ i j e. any-edge-met b i j m e)
+  chain-met : {b : Branch} {i j : ℕ} → Met u a b → Chain b i j → node i ≡ node j
+  chain-met m here = refl
+  chain-met {b} m (along {i = i} {j = j} e c) = any-edge-met b i j m e ∙ chain-met m c
+  chain-met {b} m (back {i = i} {j = j} e c) = sym (any-edge-met b j i m e) ∙ chain-met m c
 
-  vars-met : (b : Branch) → Met u a b → (x y : ℕ) → T (sameClass (labels b) (varNode x) (varNode y)) → str a x ≡ str a y
-  vars-met b m x y t = sym (node-var x) ∙ class-met b m (varNode x) (varNode y) t ∙ node-var y
+  literal-met : (b : Branch) (g : Function) (x : ℕ) (cs : List (List Fact)) → Met u a b → x < u .p → IsLiteral u b g x cs → AnyMet u a cs
+  literal-met b g x cs m h i = subst (AnyMet u a) (sym (i .adds)) (inl (equals-number g x (valueOf g (literal u (i .held))) h (ap (valueOf g) (sym (node-variable x) ∙ chain-met m (i .counts .held) ∙ node-literal (i .held))), tt))
 
-  -- the literal of a class
-  lowest-met : (b : Branch) → Met u a b → (x k c : ℕ) → OnSome (λ l. str a x ≡ literal u l) (lowest (labels b) x k c)
-  lowest-met b m x k zero = tt
-  lowest-met b m x k (suc c) = go (sameClass (labels b) (varNode x) (litNode k)) refl (lowest-met b m x (suc k) c)
+  clash-dead : (b : Branch) → Distinct ([] ∷ u .literals) → Met u a b → LiteralsMeet u b ⊎ ApartMeet b → ⊥
+  clash-dead b d m (inl i) = distinct-at [] ([] ∷ u .literals) (i .first) (i .second) d (omega (arith, i .first-defined)) (omega (arith, i .second-defined)) (i .different)
+      (sym (node-literal (i .first)) ∙ chain-met m (i .joined) ∙ node-literal (i .second))
+  clash-dead b d m (inr i) = met-at u a b (i .stands .0) m (i .stands .1) (sym (node-variable (i .left)) ∙ chain-met m (i .joined) ∙ node-variable (i .right))
+
+  -- ---- 12 Card
+
+  stated-met : (b : Branch) (x y k : ℕ) → Met u a b → x < u .p → y < u .p → FactAt b k (arithmetic eq (minus (apply u len x) (apply u len y))) → length (str a x) ≡ length (str a y)
+  stated-met b x y k m hx hy h = pos-injective (-ℤ-zero→ (sym (dot-minus (apply u len x) (apply u len y) (columns a) (apply-value len x hx) (apply-value len y hy)) ∙ holds→ eq _ (met-at u a b k m h)))
+
+  lengths-met : (b : Branch) (x y : ℕ) → Met u a b → x < u .p → y < u .p → LengthsStated u b x y → length (str a x) ≡ length (str a y)
+  lengths-met b x y m hx hy (inl (k, h)) = stated-met b x y k m hx hy h
+  lengths-met b x y m hx hy (inr (k, h)) = sym (stated-met b y x k m hy hx h)
+
+  words-met : (b : Branch) (l x : ℕ) (ys : List ℕ) → Met u a b → x < u .p → All (λ y. y < u .p) ys → Neighbours u b x ys → length (str a x) ≡ l → All (Word (u .n) l) (map (str a) ys)
+  words-met b l x [] m hx g h e = tt
+  words-met b l x (y ∷ ys) m hx (hy, g) (s, h) e =
+      let k : length (str a y) ≡ l = sym (lengths-met b x y m hx hy s) ∙ e in
+      ((f .over y, k), words-met b l y ys m hy g h k)
+
+  last-met : (x m : ℕ) (cs : List (List Fact)) → x < u .p → 2 ≤ m → m ≤ u .n ^ length (str a x) → LastChild u x m cs → AnyMet u a cs
+  last-met x m cs hx h g (inl (e, p)) = absurd (let k : m ≤ 1 = subst (λ z. m ≤ z) (ap (λ n. n ^ length (str a x)) e ∙ one-power (length (str a x))) g in omega arith)
+  last-met x m cs hx h g (inr (e, p)) = subst (AnyMet u a) (sym (p .adds)) (inl (
+    →holds ge _ (subst (λ z. pos 0 ≤ℤ z) (sym (dot-minus (apply u len x) (number (pos (p .power))) (columns a) (apply-value len x hx) (dot-number v (pos (p .power)))))
+        (→-ℤ-nonneg (pos-≤ℤ (p .least .least (length (str a x)) g)))),
+    tt,
+  ))
+
+  card-met : (b : Branch) (x : ℕ) (xs : List ℕ) (cs : List (List Fact)) → Met u a b → All (λ y. y < u .p) (x ∷ xs) → 2 ≤ length (x ∷ xs) → IsCard u b x xs cs → AnyMet u a cs
+  card-met b x xs cs m (hx, g) l i = subst (AnyMet u a) (sym (i .adds)) (go (pairs-or-distinct (str a) (Met u a) (List-discrete ℕ-discrete) (λ x y e. (e, tt)) (x ∷ xs) (i .last)))
     where
-      go : (t : Bool) → sameClass (labels b) (varNode x) (litNode k) ≡ t → OnSome (λ l. str a x ≡ literal u l) (lowest (labels b) x (suc k) c)
-          → OnSome (λ l. str a x ≡ literal u l) (elim t as (λ _. Option ℕ) [ true ↦ some k | false ↦ lowest (labels b) x (suc k) c ])
-      go true e ih = sym (node-var x) ∙ class-met b m (varNode x) (litNode k) (subst T (sym e) tt) ∙ node-lit k
-      go false e ih = ih
+      few : Distinct (map (str a) (x ∷ xs)) → length (x ∷ xs) ≤ u .n ^ length (str a x)
+      few d = subst (λ k. k ≤ u .n ^ length (str a x)) (length-map (x ∷ xs) (str a))
+          (count (u .n) (length (str a x)) (map (str a) (x ∷ xs)) ((f .over x, refl), words-met b (length (str a x)) x xs m hx g (i .lengths) refl) d)
 
-  literal-met : (b : Branch) → Met u a b → (x : ℕ) → OnSome (λ l. str a x ≡ literal u l) (classLiteral u b x)
-  literal-met b m x = lowest-met b m x 0 (suc (length (u .literals)))
+      go : AnyMet u a (pairs (x ∷ xs) (i .last)) ⊎ Distinct (map (str a) (x ∷ xs)) → AnyMet u a (pairs (x ∷ xs) (i .last))
+      go (inl h) = h
+      go (inr d) = pairs-last (str a) (Met u a) (x ∷ xs) (i .last) (last-met x (length (x ∷ xs)) (i .last) hx l (few d) (i .last-child))
 
-  apart-meet-sound : (ls : List ℕ) (g : (x y : ℕ) → T (sameClass ls (varNode x) (varNode y)) → str a x ≡ str a y) (b : Branch) → Met u a b → T (apartMeet ls b) → ⊥
-  apart-meet-sound ls g [] m t = t
-  apart-meet-sound ls g (same x y ∷ b) m t = apart-meet-sound ls g b (m .1) t
-  apart-meet-sound ls g (apart x y ∷ b) m t = go (or→ (sameClass ls (varNode x) (varNode y)) (apartMeet ls b) t) (apart-meet-sound ls g b (m .1))
+  -- ---- every rule
+
+  two : {P Q : Type 0} (c d : Fact) → (P → Meets u a c) → (Q → Meets u a d) → P ⊎ Q → AnyMet u a ((c ∷ []) ∷ (d ∷ []) ∷ [])
+  two c d g h (inl p) = inl (g p, tt)
+  two c d g h (inr q) = inr (inl (h q, tt))
+
+  at-least : (e : List ℤ) {z : ℤ} → value a e ≡ z → pos 0 ≤ℤ z → Meets u a (arithmetic ge e)
+  at-least e p h = →holds ge (value a e) (subst (λ z. pos 0 ≤ℤ z) (sym p) h)
+
+  pub instance-sound : Distinct ([] ∷ u .literals) → (b : Branch) (st : Step) (cs : List (List Fact)) → StepInRange u st → Instance u b st cs → Met u a b → AnyMet u a cs
+  unfolding Instance StepInRange
+  instance-sound d b (Sum k ts) cs g i m = subst (AnyMet u a) (sym (i .adds)) (inl (→holds ge _ (new-met b k ts cs m i), tt))
+  instance-sound d b (Split e) cs g i m = subst (AnyMet u a) (sym i) (two (arithmetic ge e) (arithmetic ge (below e)) (at-least e refl) (at-least (below e) (dot-below v e refl)) (split-cases (value a e)))
+  instance-sound d b (Apart k) cs g i m = let e = i .form in
+      subst (AnyMet u a) (sym (i .adds)) (two (arithmetic ge (less e)) (arithmetic ge (below e)) (at-least (less e) (dot-less v e refl)) (at-least (below e) (dot-below v e refl))
+      (apart-cases (value a e) (holds→ ne (value a e) (met-at u a b k m (i .named)))))
+  instance-sound d b (AConf k) cs g i m = absurd (conf-dead b k cs m i)
+  instance-sound d b SConf cs g i m = absurd (clash-dead b d m (i .clash))
+  instance-sound d b (SProp h x y) cs (hx, hy) i m = subst (AnyMet u a) (sym (i .adds)) (inl (
+    →holds eq _ (dot-minus (apply u h x) (apply u h y) (columns a) (apply-value h x hx) (apply-value h y hy) ∙ →-ℤ-zero (ap (valueOf h) (sym (node-variable x) ∙ chain-met m (i .joined) ∙ node-variable y))),
+    tt,
+  ))
+  instance-sound d b (LIntro x) cs g i m = literal-met b len x cs m g i
+  instance-sound d b (LValid x) cs g i m = subst (AnyMet u a) (sym i) (two (isLiteral x 0) (arithmetic ge (less (apply u len x))) (λ e. e) (at-least (less (apply u len x)) (less-length x g)) (empty-or-longer (str a x)))
     where
-      go : T (sameClass ls (varNode x) (varNode y)) ⊎ T (apartMeet ls b) → (T (apartMeet ls b) → ⊥) → ⊥
-      go (inl s) ih = m .0 (g x y s)
-      go (inr s) ih = ih s
-  apart-meet-sound ls g (isLiteral x y ∷ b) m t = apart-meet-sound ls g b (m .1) t
-  apart-meet-sound ls g (arithmetic x y ∷ b) m t = apart-meet-sound ls g b (m .1) t
+      empty-or-longer : (s : List ℕ) → (s ≡ []) ⊎ (pos 0 ≤ℤ (pos (length s) -ℤ pos 1))
+      empty-or-longer [] = inl refl
+      empty-or-longer (c ∷ s) = inr (→-ℤ-nonneg (pos-≤ℤ {m = 1} {n = suc (length s)} (omega arith)))
+  instance-sound d b (CCollapse x) cs g i m = literal-met b code x cs m g i
+  instance-sound d b (CValid x) cs g i m = subst (AnyMet u a) (sym i) (go (one-or-no-code (str a x)))
+    where
+      one-character : (c : ℕ) → str a x ≡ c ∷ [] → c ≤ lastCharacter (u .n)
+      one-character c e = let h : c < u .n = subst (Over (u .n)) e (f .over x) .0 in omega arith
 
-  module _ (differ : Distinct ([] ∷ u .literals)) where
-    literals-meet-sound : (b : Branch) → Met u a b → T (literalsMeet u (labels b)) → ⊥
-    literals-meet-sound b m t = outer (any→ (suc (length (u .literals))) (λ i. anyBelow i (λ j. sameClass (labels b) (litNode i) (litNode j))) t)
-      where
-        inner : (i : ℕ) → i < suc (length (u .literals)) → (j : ℕ) × (j < i) × T (sameClass (labels b) (litNode i) (litNode j)) → ⊥
-        inner i h (j, g, s) = distinct-at ([] ∷ u .literals) i j differ h g (sym (node-lit i) ∙ class-met b m (litNode i) (litNode j) s ∙ node-lit j)
-
-        outer : (i : ℕ) × (i < suc (length (u .literals))) × T (anyBelow i (λ j. sameClass (labels b) (litNode i) (litNode j))) → ⊥
-        outer (i, h, s) = inner i h (any→ i (λ j. sameClass (labels b) (litNode i) (litNode j)) s)
-
-    conflict-sound : (b : Branch) → Met u a b → T (conflict u b) → ⊥
-    conflict-sound b m t = go (or→ (literalsMeet u (labels b)) (apartMeet (labels b) b) t)
-      where
-        go : T (literalsMeet u (labels b)) ⊎ T (apartMeet (labels b) b) → ⊥
-        go (inl s) = literals-meet-sound b m s
-        go (inr s) = apart-meet-sound (labels b) (vars-met b m) b m s
-
-    -- ---- C-Valid and C-Inj on values
-
-    over-one : (n : ℕ) (s : List ℕ) (c : ℕ) → Over n s → s ≡ c ∷ [] → c < n
-    over-one n s c o e = (subst (Over n) e o) .0
-
-    cvalid-values : (n : ℕ) (s : List ℕ) → Over n s
-        → (T (not (isZero (predℤ (pos (length s))))) × T (isZero (codeOf s +ℤ pos 1)) × Unit {0})
-        ⊎ (T (isZero (predℤ (pos (length s)))) × T (nonneg (codeOf s)) × T (nonneg (pos (n - 1) +ℤ negℤ (codeOf s))) × Unit {0})
-    cvalid-values n [] o = inl (tt, tt, tt)
-    cvalid-values n (c ∷ []) o = inr (tt, tt, (let h : c < n = o .0 in nonneg-sub (n - 1) c (omega arith)), tt)
-    cvalid-values n (c ∷ d ∷ s) o = inl (tt, tt, tt)
-
-    cinj-values : (s t : List ℕ) → (codeOf s ≡ negsuc 0) ⊎ ((codeOf s ≢ codeOf t) ⊎ (s ≡ t))
-    cinj-values [] t = inl refl
-    cinj-values (c ∷ d ∷ s) t = inl refl
-    cinj-values (c ∷ []) t = inr (go (ℤ-discrete (pos c) (codeOf t)))
-      where
-        single : (t : List ℕ) → pos c ≡ codeOf t → c ∷ [] ≡ t
-        single [] e = absurd (lib.IntN.pos-ne-negsuc c 0 e)
-        single (d ∷ []) e = ap (λ c. c ∷ []) (pos-injective c d e)
-        single (d ∷ f ∷ t) e = absurd (lib.IntN.pos-ne-negsuc c 0 e)
-
-        go : Dec (pos c ≡ codeOf t) → (pos c ≢ codeOf t) ⊎ (c ∷ [] ≡ t)
-        go (yes e) = inr (single t e)
-        go (no f) = inl f
-
-    lvalid-values : (s : List ℕ) → (s ≡ []) ⊎ T (nonneg (predℤ (pos (length s))))
-    lvalid-values [] = inl refl
-    lvalid-values (c ∷ s) = inr tt
-
-    not-zero-test : (z : ℤ) → z ≢ pos 0 → T (not (isZero z))
-    not-zero-test z f = lib.Dec.not-T (isZero z) (λ t. f (isZero→ z t))
-
-    eq-zero : (x y : ℤ) → x ≡ y → T (isZero (x +ℤ negℤ y))
-    eq-zero x y e = zero-test (x +ℤ negℤ y) (ap (λ z. z +ℤ negℤ y) e ∙ +ℤ-invr y)
-
-    -- ---- Card
-
-    states-zero : (e : List ℤ) (f : Fact) → Meets u a f → T (statesZero e f) → value a e ≡ pos 0
-    states-zero e (same x y) h t = absurd t
-    states-zero e (apart x y) h t = absurd t
-    states-zero e (isLiteral x y) h t = absurd t
-    states-zero e (arithmetic ge g) h t = absurd t
-    states-zero e (arithmetic eq g) h t = ap (value a) (eqRow→ e g t) ∙ isZero→ (value a g) h
-    states-zero e (arithmetic ne g) h t = absurd t
-
-    any-states-zero : (e : List ℤ) (b : Branch) → Met u a b → T (anyFact (statesZero e) b) → value a e ≡ pos 0
-    any-states-zero e [] m t = absurd t
-    any-states-zero e (f ∷ b) m t = go (or→ (statesZero e f) (anyFact (statesZero e) b) t) (any-states-zero e b (m .1))
-      where
-        go : T (statesZero e f) ⊎ T (anyFact (statesZero e) b) → (T (anyFact (statesZero e) b) → value a e ≡ pos 0) → value a e ≡ pos 0
-        go (inl s) ih = states-zero e f (m .0) s
-        go (inr s) ih = ih s
-
-    difference-zero : (x y : ℕ) → x < u .p → y < u .p → value a (minus (apply u len x) (apply u len y)) ≡ pos 0 → length (str a x) ≡ length (str a y)
-    difference-zero x y hx hy e = pos-injective (length (str a x)) (length (str a y)) (difference (pos (length (str a x))) (pos (length (str a y)))
-        (sym (minus-value (apply u len x) (apply u len y) _ _ (apply-value len x hx) (apply-value len y hy)) ∙ e))
-
-    same-length-met : (b : Branch) → Met u a b → (x y : ℕ) → x < u .p → y < u .p → T (sameLength u b x y) → length (str a x) ≡ length (str a y)
-    same-length-met b m x y hx hy t = go (or→ (anyFact (statesZero (minus (apply u len x) (apply u len y))) b) (anyFact (statesZero (minus (apply u len y) (apply u len x))) b) t)
-      where
-        go : T (anyFact (statesZero (minus (apply u len x) (apply u len y))) b) ⊎ T (anyFact (statesZero (minus (apply u len y) (apply u len x))) b) → length (str a x) ≡ length (str a y)
-        go (inl s) = difference-zero x y hx hy (any-states-zero (minus (apply u len x) (apply u len y)) b m s)
-        go (inr s) = sym (difference-zero y x hy hx (any-states-zero (minus (apply u len y) (apply u len x)) b m s))
-
-    words : (b : Branch) → Met u a b → (k x : ℕ) (xs : List ℕ) → x < u .p → All (λ x. x < u .p) xs → T (neighbours u b x xs) → length (str a x) ≡ k → All (Word (u .n) k) (map (str a) xs)
-    words b m k x [] hx r t e = tt
-    words b m k x (y ∷ ys) hx r t e =
-        let q = and→ (sameLength u b x y) (neighbours u b y ys) t in
-        let hy = r .0 in
-        let g = sym (same-length-met b m x y hx hy (q .0)) ∙ e in
-        ((w .over y, g), words b m k y ys hy (r .1) (q .1) g)
-
-    -- some pair is equal, or all differ
-    pairs-with : (x : ℕ) (ys : List ℕ) (more : List (List Fact)) → AnyMet (pairsWith x ys more) ⊎ NotIn (str a x) (map (str a) ys)
-    pairs-with x [] more = inr tt
-    pairs-with x (y ∷ ys) more = go (List-discrete ℕ-discrete (str a x) (str a y)) (pairs-with x ys more)
-      where
-        go : Dec (str a x ≡ str a y) → AnyMet (pairsWith x ys more) ⊎ NotIn (str a x) (map (str a) ys) → AnyMet (pairsWith x (y ∷ ys) more) ⊎ NotIn (str a x) (map (str a) (y ∷ ys))
-        go (yes e) ih = inl (inl (e, tt))
-        go (no f) (inl s) = inl (inr s)
-        go (no f) (inr s) = inr (f, s)
-
-    behind : (x : ℕ) (ys : List ℕ) (more : List (List Fact)) → AnyMet more → AnyMet (pairsWith x ys more)
-    behind x [] more s = s
-    behind x (y ∷ ys) more s = inr (behind x ys more s)
-
-    pairs-met : (xs : List ℕ) (more : List (List Fact)) → AnyMet (pairs xs more) ⊎ Distinct (map (str a) xs)
-    pairs-met [] more = inr tt
-    pairs-met (x ∷ xs) more = go (pairs-with x xs (pairs xs more)) (pairs-met xs more)
-      where
-        go : AnyMet (pairsWith x xs (pairs xs more)) ⊎ NotIn (str a x) (map (str a) xs) → AnyMet (pairs xs more) ⊎ Distinct (map (str a) xs) → AnyMet (pairs (x ∷ xs) more) ⊎ Distinct (map (str a) (x ∷ xs))
-        go (inl s) d = inl s
-        go (inr s) (inl t) = inl (behind x xs (pairs xs more) t)
-        go (inr s) (inr t) = inr (s, t)
-
-    pairs-behind : (xs : List ℕ) (more : List (List Fact)) → AnyMet more → AnyMet (pairs xs more)
-    pairs-behind [] more s = s
-    pairs-behind (x ∷ xs) more s = behind x xs (pairs xs more) (pairs-behind xs more s)
-
-    one-pow : (k : ℕ) → 1 ^ k ≡ 1
-    one-pow zero = refl
-    one-pow (suc k) = native.Mathlib.Nat.pow-suc 1 k ∙ ap (λ z. z * 1) (one-pow k)
-
-    last-met : (x m : ℕ) → x < u .p → 2 ≤ m → m ≤ u .n ^ length (str a x) → AnyMet (lastChild u x m)
-    last-met x m hx h g = go (leb (u .n) 1) refl
-      where
-        bound : List ℤ
-        bound = minus (apply u len x) (number (pos (logUp m (u .n) m 0)))
-
-        go : (t : Bool) → leb (u .n) 1 ≡ t → AnyMet (elim t as (λ _. List (List Fact)) [ true ↦ [] | false ↦ (arithmetic ge (minus (apply u len x) (number (pos (logUp m (u .n) m 0)))) ∷ []) ∷ [] ])
-        go true e = absurd (let f : u .n ^ length (str a x) ≤ 1 ^ length (str a x) = pow-le-pow-left (leb-true (u .n) 1 e) (length (str a x)) in let i : 1 ^ length (str a x) ≡ 1 = one-pow (length (str a x)) in omega arith)
-        go false e = inl (
-          subst (λ z. T (nonneg z)) (sym (minus-value (apply u len x) (number (pos (logUp m (u .n) m 0))) _ _ (apply-value len x hx) (number-value (pos (logUp m (u .n) m 0)))))
-              (nonneg-sub (length (str a x)) (logUp m (u .n) m 0) (log-least m (u .n) m 0 (length (str a x)) g (omega arith))),
-          tt,
-        )
-
-    card-sound : (b : Branch) → Met u a b → (xs : List ℕ) → All (λ x. x < u .p) xs → Sound (cardChildren u b xs)
-    card-sound b m [] r = tt
-    card-sound b m (x ∷ []) r = tt
-    card-sound b m (x ∷ y ∷ xs) r = on-guard AnyMet (distinct (x ∷ y ∷ xs) && neighbours u b x (y ∷ xs)) (pairs (x ∷ y ∷ xs) more) (λ t.
-        go (and→ (distinct (x ∷ y ∷ xs)) (neighbours u b x (y ∷ xs)) t .1) (pairs-met (x ∷ y ∷ xs) more))
-      where
-        more : List (List Fact)
-        more = lastChild u x (length (x ∷ y ∷ xs))
-
-        go : T (neighbours u b x (y ∷ xs)) → AnyMet (pairs (x ∷ y ∷ xs) more) ⊎ Distinct (map (str a) (x ∷ y ∷ xs)) → AnyMet (pairs (x ∷ y ∷ xs) more)
-        go t (inl s) = s
-        go t (inr d) = pairs-behind (x ∷ y ∷ xs) more (last-met x (length (x ∷ y ∷ xs)) (r .0) (omega arith)
-            (subst (λ m. m ≤ u .n ^ length (str a x)) (length-map (x ∷ y ∷ xs) (str a))
-            (count (u .n) (length (str a x)) (map (str a) (x ∷ y ∷ xs)) ((w .over x, refl), words b m (length (str a x)) x (y ∷ xs) (r .0) (r .1) t refl) d)))
-
-    -- ---- every rule
-
-    turn : (P : ℤ → Bool) (x y : ℤ) → x ≡ y → T (P y) → T (P x)
-    turn P x y e t = subst (λ z. T (P z)) (sym e) t
-
-    pub rule-sound : (b : Branch) (st : Step) → Met u a b → StepInRange u st → Sound (children u b st)
-    unfolding StepInRange
-    rule-sound b (Sum d ts) m r = on-then NonNeg AnyMet (sumOf b ts) _ (sum-sound b ts m) (λ s hs.
-        on-then NonNeg AnyMet (divided d s) _ (divided-sound d s hs) (λ e he. inl (he, tt)))
-    rule-sound b (Split e) m r = two (arithmetic ge e) (arithmetic ge (plus (scale (negsuc 0) e) (number (negsuc 0)))) (λ p. p) (λ q. rw neg-less-value q) (split-cases (value a e))
-    rule-sound b (Apart k) m r = on-then (Meets u a) AnyMet (getElem? b k) apartChildren (met-at b k m) apart-sound
-    rule-sound b (AConf k) m r = on-then (Meets u a) AnyMet (getElem? b k) _ (met-at b k m) (λ f hf. on-guard AnyMet (falsum f) [] (λ t. falsum-sound f hf t))
-    rule-sound b SConf m r = on-guard AnyMet (conflict u b) [] (conflict-sound b m)
-    rule-sound b (SProp f x y) m r = on-guard AnyMet (not (eqb x y) && sameClass (labels b) (varNode x) (varNode y)) _ (λ t.
-        inl (
-          turn isZero _ _ (minus-value (apply u f x) (apply u f y) _ _ (apply-value f x (r .0)) (apply-value f y (r .1)))
-              (eq-zero (valueOf f (str a x)) (valueOf f (str a y)) (ap (valueOf f) (vars-met b m x y (and→ (not (eqb x y)) (sameClass (labels b) (varNode x) (varNode y)) t .1)))),
-          tt,
-        ))
-    rule-sound b (LIntro x) m r = on-then (λ l. str a x ≡ literal u l) AnyMet (classLiteral u b x) _ (literal-met b m x) (λ l hl.
-        inl (
-          turn isZero _ _ (minus-value (apply u len x) (number (valueOf len (literal u l))) _ _ (apply-value len x r) (number-value (valueOf len (literal u l))))
-              (eq-zero (valueOf len (str a x)) (valueOf len (literal u l)) (ap (valueOf len) hl)),
-          tt,
-        ))
-    rule-sound b (LValid x) m r = two (isLiteral x 0) (arithmetic ge (plus (apply u len x) (number (negsuc 0)))) (λ p. p)
-        (λ q. turn nonneg _ _ (less-value (apply u len x) ∙ ap predℤ (apply-value len x r)) q) (lvalid-values (str a x))
-    rule-sound b (CCollapse x) m r = on-then (λ l. str a x ≡ literal u l) AnyMet (classLiteral u b x) _ (literal-met b m x) (λ l hl.
-        inl (
-          turn isZero _ _ (minus-value (apply u code x) (number (valueOf code (literal u l))) _ _ (apply-value code x r) (number-value (valueOf code (literal u l))))
-              (eq-zero (valueOf code (str a x)) (valueOf code (literal u l)) (ap (valueOf code) hl)),
-          tt,
-        ))
-    rule-sound b (CValid x) m r = go (cvalid-values (u .n) (str a x) (w .over x))
-      where
-        hx : x < u .p
-        hx = r
-
-        less : value a (plus (apply u len x) (number (negsuc 0))) ≡ predℤ (pos (length (str a x)))
-        less = less-value (apply u len x) ∙ ap predℤ (apply-value len x hx)
-
-        go : (T (not (isZero (predℤ (pos (length (str a x)))))) × T (isZero (codeOf (str a x) +ℤ pos 1)) × Unit {0})
-            ⊎ (T (isZero (predℤ (pos (length (str a x))))) × T (nonneg (codeOf (str a x))) × T (nonneg (pos (u .n - 1) +ℤ negℤ (codeOf (str a x)))) × Unit {0})
-            → Sound (children u b (CValid x))
-        go (inl (p, q, _)) = inl (turn (λ z. not (isZero z)) _ _ less p, (turn isZero _ _ (minus-value (apply u code x) (number (negsuc 0)) _ _ (apply-value code x hx) (number-value (negsuc 0))) q, tt))
-        go (inr (p, q, s, _)) = inr (inl (
-          turn isZero _ _ less p,
+      go : ((c : ℕ) × (str a x ≡ c ∷ [])) ⊎ ((length (str a x) ≢ 1) × (codeOf (str a x) ≡ negsuc 0))
+          → AnyMet u a ((arithmetic ne (less (apply u len x)) ∷ arithmetic eq (minus (apply u code x) (number (negsuc 0))) ∷ [])
+          ∷ (arithmetic eq (less (apply u len x)) ∷ arithmetic ge (apply u code x) ∷ arithmetic ge (minus (number (pos (lastCharacter (u .n)))) (apply u code x)) ∷ [])
+          ∷ [])
+      go (inr (h, e)) = inl (→holds ne _ (λ z. h (pos-injective (-ℤ-zero→ (sym (less-length x g) ∙ z)))), (equals-number code x (negsuc 0) g e, tt))
+      go (inl (c, e)) = inr (inl (
+        →holds eq _ (less-length x g ∙ →-ℤ-zero (ap (λ s. pos (length s)) e)),
+        (
+          at-least (apply u code x) (apply-value code x g ∙ ap codeOf e) (pos-≤ℤ {m = 0} {n = c} (omega arith)),
           (
-            turn nonneg _ _ (apply-value code x hx) q,
-            (turn nonneg _ _ (minus-value (number (pos (u .n - 1))) (apply u code x) _ _ (number-value (pos (u .n - 1))) (apply-value code x hx)) s, tt),
+            at-least (minus (number (pos (lastCharacter (u .n)))) (apply u code x)) (dot-minus (number (pos (lastCharacter (u .n)))) (apply u code x) (columns a) (dot-number v (pos (lastCharacter (u .n)))) (apply-value code x g ∙ ap codeOf e))
+                (→-ℤ-nonneg (pos-≤ℤ (one-character c e))),
+            tt,
           ),
-        ))
-    rule-sound b (CInj x y) m r = on-guard AnyMet (not (eqb x y)) _ (λ t. go (cinj-values (str a x) (str a y)))
-      where
-        hx : x < u .p
-        hx = r .0
-
-        hy : y < u .p
-        hy = r .1
-
-        go : (codeOf (str a x) ≡ negsuc 0) ⊎ ((codeOf (str a x) ≢ codeOf (str a y)) ⊎ (str a x ≡ str a y))
-            → AnyMet ((arithmetic eq (minus (apply u code x) (number (negsuc 0))) ∷ []) ∷ (arithmetic ne (minus (apply u code x) (apply u code y)) ∷ []) ∷ (same x y ∷ []) ∷ [])
-        go (inl e) = inl (turn isZero _ _ (minus-value (apply u code x) (number (negsuc 0)) _ _ (apply-value code x hx) (number-value (negsuc 0))) (eq-zero (codeOf (str a x)) (negsuc 0) e), tt)
-        go (inr (inl f)) = inr (inl (
-          turn (λ z. not (isZero z)) _ _ (minus-value (apply u code x) (apply u code y) _ _ (apply-value code x hx) (apply-value code y hy))
-              (not-zero-test (codeOf (str a x) +ℤ negℤ (codeOf (str a y))) (λ e. f (difference (codeOf (str a x)) (codeOf (str a y)) e))),
-          tt,
-        ))
-        go (inr (inr e)) = inr (inr (inl (e, tt)))
-    rule-sound b (Card xs) m r = card-sound b m xs (r .0)
-    rule-sound b (Join j k) m r = on-then (Meets u a) AnyMet (getElem? b j) _ (met-at b j m) (λ f hf. on-then (Meets u a) AnyMet (getElem? b k) _ (met-at b k m) (λ g hg. joined-sound f g hf hg))
+        ),
+      ))
+  instance-sound d b (CInj x y) cs (hx, hy) i m = subst (AnyMet u a) (sym (i .adds)) (go (no-code-or-equal (str a x) (str a y)))
+    where
+      go : (codeOf (str a x) ≡ negsuc 0) ⊎ ((codeOf (str a x) ≢ codeOf (str a y)) ⊎ (str a x ≡ str a y))
+          → AnyMet u a ((arithmetic eq (minus (apply u code x) (number (negsuc 0))) ∷ []) ∷ (arithmetic ne (minus (apply u code x) (apply u code y)) ∷ []) ∷ (same x y ∷ []) ∷ [])
+      go (inl e) = inl (equals-number code x (negsuc 0) hx e, tt)
+      go (inr (inl h)) = inr (inl (→holds ne _ (λ z. h (-ℤ-zero→ (sym (dot-minus (apply u code x) (apply u code y) (columns a) (apply-value code x hx) (apply-value code y hy)) ∙ z))), tt))
+      go (inr (inr e)) = inr (inr (inl (e, tt)))
+  instance-sound d b (Card []) cs g i m = absurd i
+  instance-sound d b (Card (x ∷ xs)) cs (g, l) i m = card-met b x xs cs m g l i
+  instance-sound d b (Join j k) cs g i m = subst (AnyMet u a) (sym (i .adds)) (inl (→holds eq _ (join-met b j k cs m i), tt))

@@ -1,33 +1,30 @@
 -- Walking by what checking computes: the steps of claim 1 fit one after another and close every branch exactly when they are one closed tree; the children of claim 2 are taken exactly when the path is proper.
 use Prim.Native.Nat.{ℕ, zero, suc, _-_}
+use native.Mathlib.Omega.{arith}
 use mathlib.Core.Path.{_≡_, refl, sym, _∙_, ap, subst}
 use mathlib.Core.Option.{Option, some}
-use mathlib.Core.List.{List, [], _∷_, _++_, append-assoc}
+use mathlib.Core.List.{List, [], _∷_, _++_, append-nil, append-assoc}
 use lib.ListN.{getElem?}
 use Rattle.lists.specs.Lists.{All}
+use Rattle.lists.proofs.Options.{none-some}
+use Rattle.lists.proofs.Lists.{all-append, all-left, all-right, all-at}
 use Rattle.calculus.specs.Facts.{Question, Fact, Branch}
 use Rattle.calculus.specs.Steps.{Step}
+use Rattle.calculus.specs.Children.{childAt}
 use Rattle.calculus.specs.Rules.{then, children}
 use Rattle.calculus.specs.Instances.{Instance, HeadInRange, FactsInRange, StepInRange}
 use Rattle.calculus.specs.Walk.{Waiting, Walk, working, closed, wait, cutBack, enter}
 use Rattle.calculus.specs.Derivations.{Closes, by, ClosesAll, none-left, child, Takes, Path}
-use Rattle.calculus.proofs.Options.{then→, →then, some-injective, none-some}
+use Rattle.calculus.specs.Meaning.{Assignment, Met}
+use Rattle.calculus.proofs.Tests.{then→, →then}
 use Rattle.calculus.proofs.Fits.{fits→instance, instance→fits}
-use Rattle.calculus.proofs.Ranges.{all-append, children-in-range}
-
-pub append-nil : {A : Type 0} (l : List A) → l ++ [] ≡ l
-append-nil [] = refl
-append-nil (x ∷ l) = ap (λ m. x ∷ m) (append-nil l)
-
-pub all-left : {A : Type 0} (P : A → Type 0) (xs ys : List A) → All P (xs ++ ys) → All P xs
-all-left P [] ys h = tt
-all-left P (x ∷ xs) ys (h, hs) = (h, all-left P xs ys hs)
-
-pub all-right : {A : Type 0} (P : A → Type 0) (xs ys : List A) → All P (xs ++ ys) → All P ys
-all-right P [] ys h = h
-all-right P (x ∷ xs) ys (h, hs) = all-right P xs ys hs
+use Rattle.calculus.proofs.Ranges.{children-in-range}
+use Rattle.calculus.proofs.Sound.{met-left}
 
 -- ---- claim 1
+
+abbrev pub Pending : Type 0
+Pending = List (Waiting Branch (List Fact))
 
 abbrev pub State : Type 0
 State = Walk Branch (List Fact)
@@ -39,11 +36,15 @@ Walked u (working b ss) [] = ⊥
 Walked u closed (st ∷ sts) = ⊥
 Walked u (working b ss) (st ∷ sts) = (cs : List (List Fact)) × (children u b st ≡ some cs) × Walked u (enter _++_ b cs ss) sts
 
-cut-back-wait : (b : Branch) (cs : List (List Fact)) (ss : List (Waiting Branch (List Fact))) → cutBack _++_ (wait b cs ss) ≡ enter _++_ b cs ss
+-- the steps are a first part with P, and a rest with Q
+abbrev Parts : (List Step → Type 0) → (List Step → Type 0) → List Step → Type 0
+Parts P Q s = (f : List Step) × (r : List Step) × (s ≡ f ++ r) × P f × Q r
+
+cut-back-wait : (b : Branch) (cs : List (List Fact)) (ss : Pending) → cutBack _++_ (wait b cs ss) ≡ enter _++_ b cs ss
 cut-back-wait b [] ss = refl
 cut-back-wait b (c ∷ cs) ss = refl
 
-module _ (u : Question) (w : HeadInRange u) where
+module _ (u : Question) where
   -- ---- every branch of a state is in range
 
   abbrev pub WaitingInRange : Waiting Branch (List Fact) → Type 0
@@ -53,69 +54,68 @@ module _ (u : Question) (w : HeadInRange u) where
   StateInRange (working b ss) = FactsInRange u b × All WaitingInRange ss
   StateInRange closed = Unit {0}
 
-  wait-in-range : (b : Branch) (cs : List (List Fact)) (ss : List (Waiting Branch (List Fact))) → FactsInRange u b → All (FactsInRange u) cs → All WaitingInRange ss → All WaitingInRange (wait b cs ss)
+  wait-in-range : (b : Branch) (cs : List (List Fact)) (ss : Pending) → FactsInRange u b → All (FactsInRange u) cs → All WaitingInRange ss → All WaitingInRange (wait b cs ss)
   wait-in-range b [] ss h g r = r
   wait-in-range b (c ∷ cs) ss h (g, gs) r = ((h, g, gs), r)
 
-  cut-back-in-range : (ss : List (Waiting Branch (List Fact))) → All WaitingInRange ss → StateInRange (cutBack _++_ ss)
+  cut-back-in-range : (ss : Pending) → All WaitingInRange ss → StateInRange (cutBack _++_ ss)
   cut-back-in-range [] r = tt
   cut-back-in-range (s ∷ ss) ((h, g, gs), r) = (all-append _ (s .mark) (s .child) h g, wait-in-range (s .mark) (s .rest) ss h gs r)
 
-  pub enter-in-range : (b : Branch) (cs : List (List Fact)) (ss : List (Waiting Branch (List Fact))) → FactsInRange u b → All (FactsInRange u) cs → All WaitingInRange ss → StateInRange (enter _++_ b cs ss)
+  pub enter-in-range : (b : Branch) (cs : List (List Fact)) (ss : Pending) → FactsInRange u b → All (FactsInRange u) cs → All WaitingInRange ss → StateInRange (enter _++_ b cs ss)
   enter-in-range b [] ss h g r = cut-back-in-range ss r
   enter-in-range b (c ∷ cs) ss h (g, gs) r = (all-append _ b c h g, wait-in-range b cs ss h gs r)
 
   -- ---- a walk is a closed tree
 
   -- parts of the steps close every pending split, the last first, and no step is left
-  abbrev ClosesWaiting : List (Waiting Branch (List Fact)) → List Step → Type 0
+  abbrev ClosesWaiting : Pending → List Step → Type 0
   ClosesWaiting [] s = s ≡ []
-  ClosesWaiting (p ∷ ps) s = (f : List Step) × (r : List Step) × (s ≡ f ++ r) × ClosesAll u (p .mark) (p .child ∷ p .rest) f × ClosesWaiting ps r
+  ClosesWaiting (p ∷ ps) s = Parts (ClosesAll u (p .mark) (p .child ∷ p .rest)) (ClosesWaiting ps) s
 
   abbrev ClosesState : State → List Step → Type 0
-  ClosesState (working b ss) s = (f : List Step) × (r : List Step) × (s ≡ f ++ r) × Closes u b f × ClosesWaiting ss r
+  ClosesState (working b ss) s = Parts (Closes u b) (ClosesWaiting ss) s
   ClosesState closed s = s ≡ []
 
-  pop : (b : Branch) (cs : List (List Fact)) (ss : List (Waiting Branch (List Fact))) (s : List Step) → ClosesWaiting (wait b cs ss) s
-      → (f : List Step) × (r : List Step) × (s ≡ f ++ r) × ClosesAll u b cs f × ClosesWaiting ss r
+  pop : (b : Branch) (cs : List (List Fact)) (ss : Pending) (s : List Step) → ClosesWaiting (wait b cs ss) s → Parts (ClosesAll u b cs) (ClosesWaiting ss) s
   pop b [] ss s h = ([], s, refl, none-left, h)
   pop b (c ∷ cs) ss s h = h
 
-  joined : (b : Branch) (c : List Fact) (cs : List (List Fact)) (ss : List (Waiting Branch (List Fact))) (s : List Step) → ClosesState (working (b ++ c) (wait b cs ss)) s
-      → (f : List Step) × (r : List Step) × (s ≡ f ++ r) × ClosesAll u b (c ∷ cs) f × ClosesWaiting ss r
+  joined : (b : Branch) (c : List Fact) (cs : List (List Fact)) (ss : Pending) (s : List Step) → ClosesState (working (b ++ c) (wait b cs ss)) s → Parts (ClosesAll u b (c ∷ cs)) (ClosesWaiting ss) s
   joined b c cs ss s (f, r, e, k, h) =
       let (f', r', e', k', h') = pop b cs ss r h in
       (f ++ f', r', e ∙ ap (λ l. f ++ l) e' ∙ sym (append-assoc f f' r'), child refl k k', h')
 
-  cut-back-closes : (ss : List (Waiting Branch (List Fact))) (s : List Step) → ClosesState (cutBack _++_ ss) s → ClosesWaiting ss s
+  cut-back-closes : (ss : Pending) (s : List Step) → ClosesState (cutBack _++_ ss) s → ClosesWaiting ss s
   cut-back-closes [] s h = h
   cut-back-closes (p ∷ ps) s h = joined (p .mark) (p .child) (p .rest) ps s h
 
-  step-closes : (b : Branch) (st : Step) (cs : List (List Fact)) (ss : List (Waiting Branch (List Fact))) (s : List Step) → Instance u b st cs → ClosesState (enter _++_ b cs ss) s → ClosesState (working b ss) (st ∷ s)
+  step-closes : (b : Branch) (st : Step) (cs : List (List Fact)) (ss : Pending) (s : List Step) → Instance u b st cs → ClosesState (enter _++_ b cs ss) s → ClosesState (working b ss) (st ∷ s)
   step-closes b st [] ss s i h = (st ∷ [], s, refl, by i none-left, cut-back-closes ss s h)
   step-closes b st (c ∷ cs) ss s i h =
       let (f, r, e, k, h') = joined b c cs ss s h in
       (st ∷ f, r, ap (λ l. st ∷ l) e, by i k, h')
 
-  walked-closes : (s : List Step) (k : State) → StateInRange k → All (StepInRange u) s → Walked u k s → ClosesState k s
+module _ (u : Question) (w : HeadInRange u) where
+  walked-closes : (s : List Step) (k : State) → StateInRange u k → All (StepInRange u) s → Walked u k s → ClosesState u k s
   unfolding Walked
   walked-closes [] closed r g h = refl
   walked-closes [] (working b ss) r g h = absurd h
   walked-closes (st ∷ s) closed r g h = absurd h
   walked-closes (st ∷ s) (working b ss) (rb, rs) (g, gs) (cs, e, h) =
       let i : Instance u b st cs = fits→instance u w b rb st g e in
-      step-closes b st cs ss s i (walked-closes s (enter _++_ b cs ss) (enter-in-range b cs ss rb (children-in-range u w b st cs rb g i) rs) gs h)
+      step-closes u b st cs ss s i (walked-closes s (enter _++_ b cs ss) (enter-in-range u b cs ss rb (children-in-range u w b st cs rb g i) rs) gs h)
 
   -- ---- a closed tree is a walk
 
   mutual
     unfolding Walked
 
-    closes-walked : {b : Branch} {s : List Step} → Closes u b s → (ss : List (Waiting Branch (List Fact))) (r : List Step) → FactsInRange u b → All (StepInRange u) s
+    closes-walked : {b : Branch} {s : List Step} → Closes u b s → (ss : Pending) (r : List Step) → FactsInRange u b → All (StepInRange u) s
         → Walked u (cutBack _++_ ss) r → Walked u (working b ss) (s ++ r)
     closes-walked (by {b = b} {st = st} {cs = cs} i k) ss r rb (g, gs) h = (cs, instance→fits u w b rb st g i, all-walked k ss r rb (children-in-range u w b st cs rb g i) gs h)
 
-    all-walked : {b : Branch} {cs : List (List Fact)} {s : List Step} → ClosesAll u b cs s → (ss : List (Waiting Branch (List Fact))) (r : List Step) → FactsInRange u b → All (FactsInRange u) cs → All (StepInRange u) s
+    all-walked : {b : Branch} {cs : List (List Fact)} {s : List Step} → ClosesAll u b cs s → (ss : Pending) (r : List Step) → FactsInRange u b → All (FactsInRange u) cs → All (StepInRange u) s
         → Walked u (cutBack _++_ ss) r → Walked u (enter _++_ b cs ss) (s ++ r)
     all-walked none-left ss r rb rc g h = h
     all-walked (child {b = b} {c = c} {cs = cs} {first = f} {others = m} {sts = s} d k ks) ss r rb (rc, rcs) g h =
@@ -139,25 +139,24 @@ module _ (u : Question) (w : HeadInRange u) where
 
 -- the child number k of the step, from 1
 abbrev pub childTaken : Question → Branch → Step × ℕ → Option (List Fact)
-childTaken u b t = then (children u b (t .0)) (λ cs. getElem? cs (t .1 - 1))
+childTaken u b t = then (children u b (t .0)) (λ cs. childAt cs (t .1))
+
+pub child-at : {A : Type 0} (cs : List A) (k : ℕ) {c : A} → childAt cs k ≡ some c → getElem? cs (k - 1) ≡ some c
+child-at cs zero e = absurd (none-some e)
+child-at cs (suc k) e = let down : suc k - 1 ≡ k = omega arith in rw down e
 
 -- the steps fit one after another, and with the children taken the branch becomes the leaf
 unfoldable pub Followed : Question → Branch → List (Step × ℕ) → Branch → Type 0
 Followed u b [] leaf = b ≡ leaf
 Followed u b (t ∷ ts) leaf = (c : List Fact) × (childTaken u b t ≡ some c) × Followed u (b ++ c) ts leaf
 
-pub all-at : {A : Type 0} (P : A → Type 0) (xs : List A) (k : ℕ) {x : A} → All P xs → getElem? xs k ≡ some x → P x
-all-at P [] k h e = absurd (none-some e)
-all-at P (y ∷ xs) zero h e = subst P (some-injective e) (h .0)
-all-at P (y ∷ xs) (suc k) h e = all-at P xs k (h .1) e
-
 module _ (u : Question) (w : HeadInRange u) where
   pub taken-in-range : (b : Branch) (t : Step × ℕ) (c : List Fact) → FactsInRange u b → StepInRange u (t .0) → Takes u b t c → FactsInRange u (b ++ c)
-  taken-in-range b t c r g k = all-append _ b c r (all-at (FactsInRange u) (k .children) (t .1 - 1) (children-in-range u w b (t .0) (k .children) r g (k .proper)) (k .taken))
+  taken-in-range b t c r g k = all-append _ b c r (all-at (FactsInRange u) (k .children) (t .1 - 1) (children-in-range u w b (t .0) (k .children) r g (k .proper)) (child-at (k .children) (t .1) (k .taken)))
 
   pub taken→takes : (b : Branch) (t : Step × ℕ) (c : List Fact) → FactsInRange u b → StepInRange u (t .0) → childTaken u b t ≡ some c → Takes u b t c
   taken→takes b t c r g e =
-      let (cs, o, h) = then→ (children u b (t .0)) (λ cs. getElem? cs (t .1 - 1)) e in
+      let (cs, o, h) = then→ (children u b (t .0)) (λ cs. childAt cs (t .1)) e in
       record { children = cs; proper = fits→instance u w b r (t .0) g o; taken = h }
 
   pub takes→taken : (b : Branch) (t : Step × ℕ) (c : List Fact) → FactsInRange u b → StepInRange u (t .0) → Takes u b t c → childTaken u b t ≡ some c
@@ -179,3 +178,9 @@ module _ (u : Question) (w : HeadInRange u) where
   unfolding Path
   leaf-in-range [] b leaf r g h = subst (FactsInRange u) h r
   leaf-in-range (t ∷ ts) b leaf r (g, gs) (c, k, h) = leaf-in-range ts (b ++ c) leaf (taken-in-range b t c r g k) gs h
+
+-- what meets the leaf meets what it started from
+pub leaf-met : (u : Question) (a : Assignment) (ts : List (Step × ℕ)) (b leaf : Branch) → Path u b ts leaf → Met u a leaf → Met u a b
+unfolding Path
+leaf-met u a [] b leaf h m = subst (Met u a) (sym h) m
+leaf-met u a (t ∷ ts) b leaf (c, k, h) m = met-left u a b c (leaf-met u a ts (b ++ c) leaf h m)

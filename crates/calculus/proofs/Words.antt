@@ -1,188 +1,81 @@
--- The strings of one length, in order; and the pigeonhole principle for lists.
+-- Strings over the alphabet: those of one length in order, each there once, so that different ones are at most as many; and the first that is not among given ones.
 use Prim.Native.Nat.{ℕ, zero, suc, _+_, _*_, _/_, _%_, _^_, _<_, _≤_}
-use native.Mathlib.Nat.{mod-lt, div-add-mod, div-lt-iff-lt-mul, pow-succ', pow-zero, pow-le-pow-right}
 use native.Mathlib.Omega.{arith}
 use native.Mathlib.Decide.{ℕ-discrete}
+use native.Mathlib.Nat.{mod-lt, mod-eq-of-lt, div-eq-of-lt, div-add-mod, div-lt-iff-lt-mul, add-mul-div-left, add-mul-mod-self-left, mul-le-mul-left, mul-comm, pow-succ', pow-zero, one-le-pow}
 use mathlib.Core.Path.{_≡_, refl, sym, _∙_, ap, ap₂, subst}
 use mathlib.Core.Logic.{_≢_, _⊎_, inl, inr}
-use mathlib.Core.HLevel.{Discrete}
-use mathlib.Core.Bool.{Bool, true, false, _&&_, _||_}
-use mathlib.Core.List.{List, [], _∷_, _++_, map}
+use mathlib.Core.Bool.{Bool, true, false}
+use mathlib.Core.List.{List, [], _∷_, head-eq-of-cons-eq, tail-eq-of-cons-eq}
 use lib.ListN.{length}
-use lib.Dec.{T, eqb, eqb→eq, leb}
-use borrow.Author.Tests.{leb-true}
-use Rattle.lists.specs.Lists.{NotIn, Distinct}
-use Rattle.calculus.specs.Alphabet.{Over}
-use Rattle.calculus.specs.Rules.{logUp}
+use lib.Dec.{T, eqb, ltb→lt, lt→ltb, eqb→eq, eqb-refl}
+use lib.IntN.{negsuc}
+use Rattle.lists.specs.Lists.{All, NotIn, Distinct}
+use Rattle.lists.proofs.Lists.{In, all-in, at-most}
+use Rattle.lists.proofs.Tests.{true→, and→, →and, or→, →or-left, →or-right}
+use Rattle.calculus.specs.Alphabet.{characterCount, isCharacter, Over, allCharacters}
+use Rattle.calculus.specs.Facts.{codeOf}
 use Rattle.calculus.specs.Strings.{word, eqString, given, freshFrom}
-use Rattle.calculus.proofs.Rows.{and→}
 
--- ---- membership
+pub over→ : (n : ℕ) (s : List ℕ) → T (allCharacters n s) → Over n s
+unfolding allCharacters
+over→ n [] t = tt
+over→ n (c ∷ s) t = let (h, g) = and→ (isCharacter n c) (allCharacters n s) t in (ltb→lt c n h, over→ n s g)
 
-abbrev pub In : {A : Type 0} → A → List A → Type 0
-In x [] = ⊥
-In x (y ∷ ys) = (x ≡ y) ⊎ In x ys
+pub →over : (n : ℕ) (s : List ℕ) → Over n s → T (allCharacters n s)
+unfolding allCharacters
+→over n [] h = tt
+→over n (c ∷ s) (h, hs) = →and (isCharacter n c) (allCharacters n s) (lt→ltb c n h) (→over n s hs)
 
-pub in-map : {A B : Type 0} (f : A → B) (x : A) (xs : List A) → In x xs → In (f x) (map f xs)
-in-map f x [] h = h
-in-map f x (y ∷ ys) (inl e) = inl (ap f e)
-in-map f x (y ∷ ys) (inr h) = inr (in-map f x ys h)
+-- a string has one character, or its code is −1
+pub one-or-no-code : (s : List ℕ) → ((c : ℕ) × (s ≡ c ∷ [])) ⊎ ((length s ≢ 1) × (codeOf s ≡ negsuc 0))
+one-or-no-code [] = inr ((λ e. omega arith), refl)
+one-or-no-code (c ∷ []) = inl (c, refl)
+one-or-no-code (c ∷ d ∷ s) = inr ((λ e. omega arith), refl)
 
-pub in-append : {A : Type 0} (x : A) (xs ys : List A) → In x (xs ++ ys) → In x xs ⊎ In x ys
-in-append x [] ys h = inr h
-in-append x (z ∷ xs) ys (inl e) = inl (inl e)
-in-append x (z ∷ xs) ys (inr h) = go (in-append x xs ys h)
-  where
-    go : In x xs ⊎ In x ys → In x (z ∷ xs) ⊎ In x ys
-    go (inl k) = inl (inr k)
-    go (inr k) = inr k
+-- ---- the strings of one length, in order
 
-pub append-in-l : {A : Type 0} (x : A) (xs ys : List A) → In x xs → In x (xs ++ ys)
-append-in-l x [] ys h = absurd h
-append-in-l x (z ∷ xs) ys (inl e) = inl e
-append-in-l x (z ∷ xs) ys (inr h) = inr (append-in-l x xs ys h)
-
-pub append-in-r : {A : Type 0} (x : A) (xs ys : List A) → In x ys → In x (xs ++ ys)
-append-in-r x [] ys h = h
-append-in-r x (z ∷ xs) ys h = inr (append-in-r x xs ys h)
-
-pub notin→ : {A : Type 0} (x y : A) (xs : List A) → NotIn x xs → In y xs → x ≢ y
-notin→ x y [] d h = absurd h
-notin→ x y (z ∷ xs) d (inl e) = λ p. d .0 (p ∙ e)
-notin→ x y (z ∷ xs) d (inr h) = notin→ x y xs (d .1) h
-
--- ---- a list without an element
-
-module _ {A : Type 0} (dec : Discrete A) where
-  keep : {P : Type 0} → Dec P → A → List A → List A
-  keep (yes _) x l = l
-  keep (no _) x l = x ∷ l
-
-  pub without : A → List A → List A
-  without k [] = []
-  without k (x ∷ xs) = keep (dec x k) x (without k xs)
-
-  pub without-in : (k y : A) (xs : List A) → y ≢ k → In y xs → In y (without k xs)
-  unfolding without keep
-  without-in k y [] f h = h
-  without-in k y (x ∷ xs) f h = go (dec x k) h (without-in k y xs f)
-    where
-      go : (d : Dec (x ≡ k)) → (y ≡ x) ⊎ In y xs → (In y xs → In y (without k xs)) → In y (keep d x (without k xs))
-      go (yes e) (inl p) ih = absurd (f (p ∙ e))
-      go (yes e) (inr p) ih = ih p
-      go (no g) (inl p) ih = inl p
-      go (no g) (inr p) ih = inr (ih p)
-
-  pub without-out : (k y : A) (xs : List A) → In y (without k xs) → In y xs × (y ≢ k)
-  unfolding without keep
-  without-out k y [] h = absurd h
-  without-out k y (x ∷ xs) h = go (dec x k) h (without-out k y xs)
-    where
-      go : (d : Dec (x ≡ k)) → In y (keep d x (without k xs)) → (In y (without k xs) → In y xs × (y ≢ k)) → In y (x ∷ xs) × (y ≢ k)
-      go (yes e) p ih = (inr (ih p .0), ih p .1)
-      go (no g) (inl p) ih = (inl p, λ q. g (sym p ∙ q))
-      go (no g) (inr p) ih = (inr (ih p .0), ih p .1)
-
-  without-none : (k : A) (xs : List A) → NotIn k xs → without k xs ≡ xs
-  unfolding without keep
-  without-none k [] h = refl
-  without-none k (x ∷ xs) h = go (dec x k) (without-none k xs (h .1))
-    where
-      go : (d : Dec (x ≡ k)) → without k xs ≡ xs → keep d x (without k xs) ≡ x ∷ xs
-      go (yes e) ih = absurd (h .0 (sym e))
-      go (no g) ih = ap (λ l. x ∷ l) ih
-
-  -- at least one fewer, where it is there
-  pub without-fewer : (k : A) (xs : List A) → In k xs → suc (length (without k xs)) ≤ length xs
-  unfolding without keep
-  without-fewer k [] h = absurd h
-  without-fewer k (x ∷ xs) h = go (dec x k) h (without-fewer k xs) (without-le xs)
-    where
-      without-le : (xs : List A) → length (without k xs) ≤ length xs
-      without-le [] = omega arith
-      without-le (x ∷ xs) = go′ (dec x k) (without-le xs)
-        where
-          go′ : (d : Dec (x ≡ k)) → length (without k xs) ≤ length xs → length (keep d x (without k xs)) ≤ suc (length xs)
-          go′ (yes e) ih = omega arith
-          go′ (no g) ih = omega arith
-
-      go : (d : Dec (x ≡ k)) → (k ≡ x) ⊎ In k xs → (In k xs → suc (length (without k xs)) ≤ length xs) → length (without k xs) ≤ length xs → suc (length (keep d x (without k xs))) ≤ suc (length xs)
-      go (yes e) p ih l = omega arith
-      go (no g) (inl p) ih l = absurd (g (sym p))
-      go (no g) (inr p) ih l = let i : suc (length (without k xs)) ≤ length xs = ih p in omega arith
-
-  -- at most one fewer, where no element repeats
-  without-length : (k : A) (xs : List A) → Distinct xs → length xs ≤ suc (length (without k xs))
-  unfolding without keep
-  without-length k [] d = omega arith
-  without-length k (x ∷ xs) d = go (dec x k) (without-length k xs (d .1))
-    where
-      go : (t : Dec (x ≡ k)) → length xs ≤ suc (length (without k xs)) → suc (length xs) ≤ suc (length (keep t x (without k xs)))
-      go (yes e) ih = let h : length (without k xs) ≡ length xs = ap length (without-none k xs (subst (λ z. NotIn z xs) e (d .0))) in omega arith
-      go (no g) ih = omega arith
-
-  without-notin : (k y : A) (xs : List A) → NotIn y xs → NotIn y (without k xs)
-  unfolding without keep
-  without-notin k y [] d = tt
-  without-notin k y (x ∷ xs) d = go (dec x k) (without-notin k y xs (d .1))
-    where
-      go : (t : Dec (x ≡ k)) → NotIn y (without k xs) → NotIn y (keep t x (without k xs))
-      go (yes e) ih = ih
-      go (no g) ih = (d .0, ih)
-
-  without-distinct : (k : A) (xs : List A) → Distinct xs → Distinct (without k xs)
-  unfolding without keep
-  without-distinct k [] d = tt
-  without-distinct k (x ∷ xs) d = go (dec x k) (without-distinct k xs (d .1))
-    where
-      go : (t : Dec (x ≡ k)) → Distinct (without k xs) → Distinct (keep t x (without k xs))
-      go (yes e) ih = ih
-      go (no g) ih = (without-notin k x xs (d .0), ih)
-
-  -- a list without repeats whose every element is in another is no longer than it
-  pub included : (ys xs : List A) → Distinct xs → ((x : A) → In x xs → In x ys) → length xs ≤ length ys
-  included [] [] d h = omega arith
-  included [] (x ∷ xs) d h = absurd (h x (inl refl))
-  included (y ∷ ys) xs d h =
-      let f : length (without y xs) ≤ length ys = included ys (without y xs) (without-distinct y xs d) sub in
-      let g : length xs ≤ suc (length (without y xs)) = without-length y xs d in omega arith
-    where
-      rest : (x : A) → x ≢ y → (x ≡ y) ⊎ In x ys → In x ys
-      rest x f (inl e) = absurd (f e)
-      rest x f (inr k) = k
-
-      sub : (x : A) → In x (without y xs) → In x ys
-      sub x k = let p = without-out y x xs k in rest x (p .1) (h x (p .0))
-
--- ---- words
-
-pub word-length : (n l k : ℕ) → length (word n l k) ≡ l
-word-length n zero k = refl
-word-length n (suc l) k = ap suc (word-length n l (k % n ^ l))
-
-pub pow-pos : (n l : ℕ) → 0 < n → 0 < n ^ l
-pow-pos n zero h = rw pow-zero (omega arith)
-pow-pos n (suc l) h = rw pow-succ' (let g : 0 < n ^ l = pow-pos n l h in omega (arith, native.Mathlib.Nat.mul-le-mul h g))
+pub length-word : (n l k : ℕ) → length (word n l k) ≡ l
+length-word n zero k = refl
+length-word n (suc l) k = ap suc (length-word n l (k % characterCount n ^ l))
 
 pub word-over : (n l k : ℕ) → 0 < n → k < n ^ l → Over n (word n l k)
 word-over n zero k z h = tt
-word-over n (suc l) k z h = (div-lt-iff-lt-mul (pow-pos n l z) .1 (rw pow-succ' at h), word-over n l (k % n ^ l) z (mod-lt k (pow-pos n l z)))
+word-over n (suc l) k z h = (div-lt-iff-lt-mul (one-le-pow l n z) .1 (rw pow-succ' at h), word-over n l (k % n ^ l) z (mod-lt k (one-le-pow l n z)))
 
-head : List ℕ → ℕ
-head [] = 0
-head (c ∷ s) = c
-
-tail : List ℕ → List ℕ
-tail [] = []
-tail (c ∷ s) = s
-
-pub word-injective : (n l i j : ℕ) → 0 < n → i < n ^ l → j < n ^ l → word n l i ≡ word n l j → i ≡ j
-unfolding head tail
+word-injective : (n l i j : ℕ) → 0 < n → i < n ^ l → j < n ^ l → word n l i ≡ word n l j → i ≡ j
 word-injective n zero i j z h g e = let a : i < 1 = rw pow-zero at h in let b : j < 1 = rw pow-zero at g in omega arith
 word-injective n (suc l) i j z h g e =
-    let q : i / n ^ l ≡ j / n ^ l = ap head e in
-    let r : i % n ^ l ≡ j % n ^ l = word-injective n l (i % n ^ l) (j % n ^ l) z (mod-lt i (pow-pos n l z)) (mod-lt j (pow-pos n l z)) (ap tail e) in
+    let q : i / n ^ l ≡ j / n ^ l = head-eq-of-cons-eq e in
+    let r : i % n ^ l ≡ j % n ^ l = word-injective n l (i % n ^ l) (j % n ^ l) z (mod-lt i (one-le-pow l n z)) (mod-lt j (one-le-pow l n z)) (tail-eq-of-cons-eq e) in
     sym (div-add-mod i (n ^ l)) ∙ ap₂ (λ x y. n ^ l * x + y) q r ∙ div-add-mod j (n ^ l)
+
+-- ---- the number of a string among those of its length
+
+place : ℕ → List ℕ → ℕ
+place n [] = 0
+place n (c ∷ s) = place n s + n ^ length s * c
+
+place-below : (n : ℕ) (s : List ℕ) → Over n s → place n s < n ^ length s
+unfolding place
+place-below n [] h = rw pow-zero (omega arith)
+place-below n (c ∷ s) (h, hs) =
+    let f : place n s < n ^ length s = place-below n s hs in
+    let g : n ^ length s * suc c ≤ n ^ length s * n = mul-le-mul-left (n ^ length s) h in
+    let e : n ^ suc (length s) ≡ n ^ length s * n = pow-succ' n (length s) ∙ mul-comm n (n ^ length s) in
+    omega arith
+
+word-place : (n : ℕ) (s : List ℕ) → Over n s → word n (length s) (place n s) ≡ s
+unfolding place
+word-place n [] h = refl
+word-place n (c ∷ s) (h, hs) =
+    let f : place n s < n ^ length s = place-below n s hs in
+    let z : 0 < n ^ length s = omega arith in
+    let q : (place n s + n ^ length s * c) / n ^ length s ≡ c = add-mul-div-left (place n s) c z ∙ ap (λ x. x + c) (div-eq-of-lt f) ∙ (let y : 0 + c ≡ c = omega arith in y) in
+    let r : (place n s + n ^ length s * c) % n ^ length s ≡ place n s = add-mul-mod-self-left (place n s) (n ^ length s) c ∙ mod-eq-of-lt f in
+    ap₂ (λ d k. d ∷ word n (length s) k) q r ∙ ap (λ t. c ∷ t) (word-place n s hs)
+
+-- ---- the first k strings of length l
 
 pub words : ℕ → ℕ → ℕ → List (List ℕ)
 words n l zero = []
@@ -193,109 +86,98 @@ unfolding words
 length-words n l zero = refl
 length-words n l (suc k) = ap suc (length-words n l k)
 
-pub in-words : (n l k : ℕ) (s : List ℕ) → In s (words n l k) → (j : ℕ) × (j < k) × (s ≡ word n l j)
+pub in-words→ : (n l k : ℕ) (s : List ℕ) → In s (words n l k) → (j : ℕ) × (j < k) × (s ≡ word n l j)
 unfolding words
-in-words n l zero s h = absurd h
-in-words n l (suc k) s (inl e) = (k, omega arith, e)
-in-words n l (suc k) s (inr h) = let (j, g, e) = in-words n l k s h in (j, omega arith, e)
+in-words→ n l zero s h = absurd h
+in-words→ n l (suc k) s (inl e) = (k, omega arith, e)
+in-words→ n l (suc k) s (inr h) = let (j, g, e) = in-words→ n l k s h in (j, omega arith, e)
 
-words-notin : (n l k i : ℕ) → 0 < n → i < n ^ l → k ≤ i → NotIn (word n l i) (words n l k)
+→in-words : (n l k j : ℕ) (s : List ℕ) → j < k → s ≡ word n l j → In s (words n l k)
 unfolding words
-words-notin n l zero i z h g = tt
-words-notin n l (suc k) i z h g = (λ e. let c : i ≡ k = word-injective n l i k z h (omega arith) e in no c, words-notin n l k i z h (omega arith))
+→in-words n l zero j s h e = absurd (omega arith)
+→in-words n l (suc k) j s h e = go (ℕ-discrete j k) (→in-words n l k j s)
   where
-    no : i ≡ k → ⊥
-    no e = omega arith
+    go : Dec (j ≡ k) → (j < k → s ≡ word n l j → In s (words n l k)) → (s ≡ word n l k) ⊎ In s (words n l k)
+    go (yes p) ih = inl (e ∙ ap (word n l) p)
+    go (no f) ih = inr (ih (omega arith) e)
+
+words-not-in : (n l k i : ℕ) → 0 < n → i < n ^ l → k ≤ i → NotIn (word n l i) (words n l k)
+unfolding words
+words-not-in n l zero i z h g = tt
+words-not-in n l (suc k) i z h g = ((λ e. let c : i ≡ k = word-injective n l i k z h (omega arith) e in omega arith), words-not-in n l k i z h (omega arith))
 
 pub words-distinct : (n l k : ℕ) → 0 < n → k ≤ n ^ l → Distinct (words n l k)
 unfolding words
 words-distinct n l zero z h = tt
-words-distinct n l (suc k) z h = (words-notin n l k k z h (omega arith), words-distinct n l k z (omega arith))
+words-distinct n l (suc k) z h = (words-not-in n l k k z h (omega arith), words-distinct n l k z (omega arith))
 
--- ---- the first word not given
+-- ---- different strings of one length are at most n to its power
+
+-- a string of length l over n characters
+abbrev pub Word : ℕ → ℕ → List ℕ → Type 0
+Word n l s = Over n s × (length s ≡ l)
+
+pub count : (n l : ℕ) (ss : List (List ℕ)) → All (Word n l) ss → Distinct ss → length ss ≤ n ^ l
+count n l ss ws d = subst (λ k. length ss ≤ k) (length-words n l (n ^ l)) (at-most ss (words n l (n ^ l)) d (λ s i. among s (all-in (Word n l) ss s ws i)))
+  where
+    among : (s : List ℕ) → Word n l s → In s (words n l (n ^ l))
+    among s (o, e) = →in-words n l (n ^ l) (place n s) s (subst (λ l. place n s < n ^ l) e (place-below n s o)) (sym (word-place n s o) ∙ ap (λ l. word n l (place n s)) e)
+
+-- ---- the first word that is not given
 
 pub eqString→ : (s t : List ℕ) → T (eqString s t) → s ≡ t
 eqString→ [] [] h = refl
 eqString→ [] (d ∷ t) h = absurd h
 eqString→ (c ∷ s) [] h = absurd h
-eqString→ (c ∷ s) (d ∷ t) h = let p = and→ (eqb c d) (eqString s t) h in ap₂ _∷_ (eqb→eq c d (p .0)) (eqString→ s t (p .1))
+eqString→ (c ∷ s) (d ∷ t) h = let (p, q) = and→ (eqb c d) (eqString s t) h in ap₂ _∷_ (eqb→eq c d p) (eqString→ s t q)
 
-pub eqString-refl : (s : List ℕ) → eqString s s ≡ true
-eqString-refl [] = refl
-eqString-refl (c ∷ s) = ap₂ _&&_ (borrow.Author.Tests.eq-eqb c c refl) (eqString-refl s)
+eqString-refl : (s : List ℕ) → T (eqString s s)
+eqString-refl [] = tt
+eqString-refl (c ∷ s) = →and (eqb c c) (eqString s s) (eqb-refl c) (eqString-refl s)
 
-pub given→ : (s : List ℕ) (ts : List (List ℕ)) → given s ts ≡ true → In s ts
-given→ s [] h = absurd (mathlib.Core.Bool.false≢true h)
-given→ s (t ∷ ts) h = go (eqString s t) refl h (given→ s ts)
+pub →eqString : {s t : List ℕ} → s ≡ t → T (eqString s t)
+→eqString {s} e = subst (λ t. T (eqString s t)) e (eqString-refl s)
+
+pub given→ : (s : List ℕ) (ts : List (List ℕ)) → T (given s ts) → In s ts
+given→ s [] h = absurd h
+given→ s (t ∷ ts) h = go (or→ (eqString s t) (given s ts) h) (given→ s ts)
   where
-    go : (c : Bool) → eqString s t ≡ c → (c || given s ts) ≡ true → (given s ts ≡ true → In s ts) → (s ≡ t) ⊎ In s ts
-    go true e k ih = inl (eqString→ s t (subst T (sym e) tt))
-    go false e k ih = inr (ih k)
+    go : T (eqString s t) ⊎ T (given s ts) → (T (given s ts) → In s ts) → (s ≡ t) ⊎ In s ts
+    go (inl e) ih = inl (eqString→ s t e)
+    go (inr g) ih = inr (ih g)
 
-pub not-given→ : (s : List ℕ) (ts : List (List ℕ)) → given s ts ≡ false → In s ts → ⊥
-not-given→ s [] h k = k
-not-given→ s (t ∷ ts) h (inl e) = mathlib.Core.Bool.true≢false (sym (ap (λ c. c || given s ts) (ap (λ z. eqString s z) (sym e) ∙ eqString-refl s)) ∙ h)
-not-given→ s (t ∷ ts) h (inr k) = not-given→ s ts (go (eqString s t) h) k
+pub →given : (s : List ℕ) (ts : List (List ℕ)) → In s ts → T (given s ts)
+→given s [] h = h
+→given s (t ∷ ts) (inl e) = →or-left (eqString s t) (given s ts) (→eqString e)
+→given s (t ∷ ts) (inr h) = →or-right (eqString s t) (given s ts) (→given s ts h)
+
+-- the first word that is not given, or all that were tried are given
+abbrev pub Fresh : ℕ → ℕ → List (List ℕ) → ℕ → List ℕ → Type 0
+Fresh n l ts top s = ((j : ℕ) × (s ≡ word n l j) × (In s ts → ⊥) × ((i : ℕ) → i < j → In (word n l i) ts)) ⊎ ((i : ℕ) → i < top → In (word n l i) ts)
+
+fresh-from : (d n l : ℕ) (ts : List (List ℕ)) (k : ℕ) → ((i : ℕ) → i < k → In (word n l i) ts) → Fresh n l ts (k + d) (freshFrom d n l ts k)
+fresh-from zero n l ts k h = inr (λ i g. h i (omega arith))
+fresh-from (suc d) n l ts k h = go (given (word n l k) ts) refl (fresh-from d n l ts (suc k))
   where
-    go : (c : Bool) → (c || given s ts) ≡ false → given s ts ≡ false
-    go true e = absurd (mathlib.Core.Bool.true≢false e)
-    go false e = e
-
--- ---- the bound of Card suffices
-
-two-pow : (k : ℕ) → k < 2 ^ k
-two-pow zero = rw pow-zero (omega arith)
-two-pow (suc k) = let h : k < 2 ^ k = two-pow k in rw pow-succ' (omega arith)
-
-log-fuel : (d n m j : ℕ) → m ≤ n ^ (j + d) → m ≤ n ^ logUp d n m j
-log-fuel zero n m j h = subst (λ i. m ≤ n ^ i) (plain j) h
-  where
-    plain : (j : ℕ) → j + 0 ≡ j
-    plain j = omega arith
-log-fuel (suc d) n m j h = go (leb m (n ^ j)) refl (log-fuel d n m (suc j) (subst (λ i. m ≤ n ^ i) (shift j d) h))
-  where
-    shift : (j d : ℕ) → j + suc d ≡ suc j + d
-    shift j d = omega arith
-
-    go : (t : Bool) → leb m (n ^ j) ≡ t → m ≤ n ^ logUp d n m (suc j) → m ≤ n ^ (elim t as (λ _. ℕ) [ true ↦ j | false ↦ logUp d n m (suc j) ])
-    go true e ih = leb-true m (n ^ j) e
-    go false e ih = ih
-
-pub log-enough : (n m l : ℕ) → 1 < n → logUp m n m 0 ≤ l → m ≤ n ^ l
-log-enough n m l h g =
-    let a : m ≤ n ^ logUp m n m 0 = log-fuel m n m 0 (big) in
-    let b : n ^ logUp m n m 0 ≤ n ^ l = pow-le-pow-right positive g in omega arith
-  where
-    positive : 0 < n
-    positive = omega arith
-
-    big : m ≤ n ^ (0 + m)
-    big = let c : m < 2 ^ m = two-pow m in let d : 2 ^ m ≤ n ^ m = native.Mathlib.Nat.pow-le-pow-left h m in subst (λ i. m ≤ n ^ i) (plain m) (omega arith)
+    more : In (word n l k) ts → (i : ℕ) → i < suc k → In (word n l i) ts
+    more g i a = by (ℕ-discrete i k)
       where
-        plain : (m : ℕ) → m ≡ 0 + m
-        plain m = omega arith
-
--- a word of the search: the first not given, or all that it tried are given
-abbrev pub Found : ℕ → ℕ → List (List ℕ) → ℕ → List ℕ → Type 0
-Found n l ts top s = ((j : ℕ) × (given (word n l j) ts ≡ false) × (s ≡ word n l j) × ((i : ℕ) → i < j → given (word n l i) ts ≡ true))
-    ⊎ ((i : ℕ) → i < top → given (word n l i) ts ≡ true)
-
-pub fresh-found : (d n l : ℕ) (ts : List (List ℕ)) (k : ℕ) → ((i : ℕ) → i < k → given (word n l i) ts ≡ true) → Found n l ts (k + d) (freshFrom d n l ts k)
-fresh-found zero n l ts k h = inr (λ i g. h i (omega arith))
-fresh-found (suc d) n l ts k h = go (given (word n l k) ts) refl (fresh-found d n l ts (suc k))
-  where
-    more : given (word n l k) ts ≡ true → (i : ℕ) → i < suc k → given (word n l i) ts ≡ true
-    more e i g = by (ℕ-discrete i k)
-      where
-        by : Dec (i ≡ k) → given (word n l i) ts ≡ true
-        by (yes p) = ap (λ i. given (word n l i) ts) p ∙ e
+        by : Dec (i ≡ k) → In (word n l i) ts
+        by (yes p) = subst (λ i. In (word n l i) ts) (sym p) g
         by (no f) = h i (omega arith)
 
-    lift : (s : List ℕ) → Found n l ts (suc k + d) s → Found n l ts (k + suc d) s
-    lift s (inl w) = inl w
-    lift s (inr w) = inr (λ i g. w i (omega arith))
+    go : (t : Bool) → given (word n l k) ts ≡ t → (((i : ℕ) → i < suc k → In (word n l i) ts) → Fresh n l ts (suc k + d) (freshFrom d n l ts (suc k)))
+        → Fresh n l ts (k + suc d) (elim t as (λ _. List ℕ) [ true ↦ freshFrom d n l ts (suc k) | false ↦ word n l k ])
+    go true e ih = subst (λ top. Fresh n l ts top (freshFrom d n l ts (suc k))) (let z : suc k + d ≡ k + suc d = omega arith in z) (ih (more (given→ (word n l k) ts (true→ e))))
+    go false e ih = inl (k, refl, (λ i. subst T e (→given (word n l k) ts i)), h)
 
-    go : (t : Bool) → given (word n l k) ts ≡ t → (((i : ℕ) → i < suc k → given (word n l i) ts ≡ true) → Found n l ts (suc k + d) (freshFrom d n l ts (suc k)))
-        → Found n l ts (k + suc d) (elim t as (λ _. List ℕ) [ true ↦ freshFrom d n l ts (suc k) | false ↦ word n l k ])
-    go true e ih = lift (freshFrom d n l ts (suc k)) (ih (more e))
-    go false e ih = inl (k, e, refl, h)
+pub fresh : (d n l : ℕ) (ts : List (List ℕ)) → Fresh n l ts d (freshFrom d n l ts 0)
+fresh d n l ts = subst (λ top. Fresh n l ts top (freshFrom d n l ts 0)) (let z : 0 + d ≡ d = omega arith in z) (fresh-from d n l ts 0 (λ i h. absurd (let g : i < 0 = h in omega arith)))
+
+pub length-fresh : (d n l : ℕ) (ts : List (List ℕ)) (k : ℕ) → length (freshFrom d n l ts k) ≡ l
+length-fresh zero n l ts k = length-word n l k
+length-fresh (suc d) n l ts k = go (given (word n l k) ts) (length-fresh d n l ts (suc k))
+  where
+    go : (t : Bool) → length (freshFrom d n l ts (suc k)) ≡ l → length {A = ℕ} (elim t as (λ _. List ℕ) [ true ↦ freshFrom d n l ts (suc k) | false ↦ word n l k ]) ≡ l
+    go true ih = ih
+    go false ih = length-word n l k

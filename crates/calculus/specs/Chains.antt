@@ -1,4 +1,4 @@
--- Classes: "two variables are in one class when a chain of the branch's ≈ facts joins them, through variables or literals".
+-- Classes: "Two variables are in one class when a chain of the branch's ≈ facts joins them, through variables or literals".
 use Prim.Native.Nat.{ℕ, _+_, _*_, _<_, _≤_}
 use mathlib.Core.Path.{_≡_}
 use mathlib.Core.Logic.{_⊎_}

@@ -1,14 +1,15 @@
 -- Derivations in document 01's words: closed trees, the path of the children taken, and the limits, none of it by the checker's answers.
-use Prim.Native.Nat.{ℕ, _+_, _-_, _≤_, _<_}
+use Prim.Native.Nat.{ℕ, _+_, _≤_, _<_}
 use mathlib.Core.Path.{_≡_}
 use mathlib.Core.Option.{some}
 use mathlib.Core.List.{List, [], _∷_, _++_}
-use lib.ListN.{length, getElem?}
+use lib.ListN.{length}
 use lib.IntN.{ℤ, natAbs}
 use Rattle.lists.specs.Lists.{All}
 use Rattle.calculus.specs.Limits.{numberLimit, factLimit, pendingLimit}
 use Rattle.calculus.specs.Facts.{Question, Fact, same, apart, isLiteral, arithmetic, Branch}
 use Rattle.calculus.specs.Steps.{Step}
+use Rattle.calculus.specs.Children.{childAt}
 use Rattle.calculus.specs.Instances.{Instance}
 use Rattle.calculus.specs.Walk.{Walk, working, closed, enter}
 
@@ -36,7 +37,7 @@ SmallFact (apart x y) = Unit {0}
 SmallFact (isLiteral x l) = Unit {0}
 SmallFact (arithmetic r e) = All Small e
 
--- a child's facts are in the limits on the branch b: "at most 128 facts stand on a branch"
+-- a child's facts are in the limits on the branch b: "At most 128 facts stand on a branch"
 pub record ChildLimits (b : Branch) (c : List Fact) : Type 0 where
   pub numbers : All SmallFact c
   pub facts : length b + length c ≤ factLimit
@@ -46,7 +47,7 @@ pub record SplitLimits (b : Branch) (pending : ℕ) (cs : List (List Fact)) : Ty
   pub children : All (ChildLimits b) cs
   pub splits : 2 ≤ length cs → pending < pendingLimit
 
--- claim 1, "as far as its steps fit, neither 9 nor 10 applies"
+-- document 01: "A ticket is within the limits when, as far as its steps fit, neither 9 nor 10 applies"; under claim 1
 unfoldable pub LimitsFrom : Question → Walk Branch (List Fact) → List Step → Type 0
 LimitsFrom u w [] = Unit {0}
 LimitsFrom u closed (st ∷ sts) = Unit {0}
@@ -62,14 +63,14 @@ pub record WithinLimits (u : Question) (sts : List Step) : Type 0 where
 pub record Takes (u : Question) (b : Branch) (t : Step × ℕ) (c : List Fact) : Type 0 where
   pub children : List (List Fact)
   pub proper : Instance u b (t .0) children
-  pub taken : getElem? children (t .1 - 1) ≡ some c
+  pub taken : childAt children (t .1) ≡ some c
 
 -- every step is proper, and the leaf is "the question's constraints and every fact that the steps added, of a split those of the child taken"
 unfoldable pub Path : Question → Branch → List (Step × ℕ) → Branch → Type 0
 Path u b [] leaf = b ≡ leaf
 Path u b (t ∷ ts) leaf = (c : List Fact) × Takes u b t c × Path u (b ++ c) ts leaf
 
--- claim 2: "only the one taken" is tried
+-- within the limits under claim 2, where "only the one taken" is tried
 unfoldable pub PathLimitsFrom : Question → Branch → List (Step × ℕ) → Type 0
 PathLimitsFrom u b [] = Unit {0}
 PathLimitsFrom u b (t ∷ ts) = (c : List Fact) → Takes u b t c → ChildLimits b c × PathLimitsFrom u (b ++ c) ts

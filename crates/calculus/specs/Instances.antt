@@ -1,20 +1,20 @@
 -- When a step is an instance of its rule on a branch, and with which children, rule by rule in document 01's words.
-use Prim.Native.Nat.{ℕ, suc, _+_, _-_, _^_, _<_, _≤_}
+use Prim.Native.Nat.{ℕ, suc, _^_, _<_, _≤_}
 use mathlib.Core.Path.{_≡_}
 use mathlib.Core.Logic.{_≢_, _⊎_}
 use mathlib.Core.Option.{some}
 use mathlib.Core.List.{List, [], _∷_}
 use lib.ListN.{length, getD, getElem?}
-use lib.IntN.{ℤ, pos, negsuc, negℤ, _+ℤ_, _*ℤ_}
+use lib.IntN.{ℤ, pos, negℤ, _+ℤ_, _*ℤ_}
 use lib.Signed.{_≤ℤ_, _<ℤ_}
 use Rattle.lists.specs.Lists.{All, Distinct}
 use Rattle.calculus.specs.Limits.{variableLimit, literalLimit, columnLimit}
-use Rattle.calculus.specs.Alphabet.{characterCount, lastCharacter}
-use Rattle.calculus.specs.Rows.{plus, scale, number, minus, less, below}
-use Rattle.calculus.specs.Facts.{Question, Fact, same, apart, isLiteral, arithmetic, Branch, Relation, ge, eq, ne, Function, len, code, literal, apply, valueOf}
+use Rattle.calculus.specs.Alphabet.{characterCount}
+use Rattle.calculus.specs.Rows.{minus}
+use Rattle.calculus.specs.Facts.{Question, Fact, same, apart, isLiteral, arithmetic, Branch, Relation, ge, eq, ne, Function, len, code, apply}
 use Rattle.calculus.specs.Chains.{litNode, Chain, OneClass, Counts}
 use Rattle.calculus.specs.Steps.{Step, Sum, Split, Apart, AConf, SConf, SProp, LIntro, LValid, CCollapse, CValid, CInj, Card, Join}
-use Rattle.calculus.specs.Rules.{pairs, one}
+use Rattle.calculus.specs.Children.{sumChild, splitChildren, apartChildren, sPropChild, literalChild, lValidChildren, cValidChildren, cInjChildren, pairs, boundChild, joinChild}
 
 -- a form's constant (place 0) and its coefficient of column j (place j + 1)
 abbrev pub entry : List ℤ → ℕ → ℤ
@@ -30,7 +30,7 @@ Stands b f = (k : ℕ) × FactAt b k f
 
 -- ---- 1 Sum
 
--- "Multipliers are at least 1 on a ≥ fact, nonzero on an equation; ≠ facts do not fit"
+-- "Multipliers are at least 1 on a ≥ fact, nonzero on an equation; ≠ facts and string facts do not fit"
 abbrev pub Multiplier : Relation → ℤ → Type 0
 Multiplier ge m = pos 1 ≤ℤ m
 Multiplier eq m = m ≢ pos 0
@@ -54,7 +54,7 @@ total j [] es = pos 0
 total j (t ∷ ts) [] = pos 0
 total j (t ∷ ts) (e ∷ es) = (t .1 *ℤ entry e j) +ℤ total j ts es
 
--- "Column sums must divide exactly; the constant is divided rounding down. Adds a ≥ fact."
+-- "Column sums must divide exactly; the constant is divided rounding down"; how many pairs there are is a matter of form (5)
 pub record IsSum (b : Branch) (d : ℕ) (ts : List (ℕ × ℤ)) (cs : List (List Fact)) : Type 0 where
   pub forms : List (List ℤ)
   pub summands : Summands b ts forms
@@ -63,14 +63,14 @@ pub record IsSum (b : Branch) (d : ℕ) (ts : List (ℕ × ℤ)) (cs : List (Lis
   pub columns : (j : ℕ) → pos d *ℤ entry new (suc j) ≡ total (suc j) ts forms
   pub floor-low : (pos d *ℤ entry new 0) ≤ℤ total 0 ts forms
   pub floor-high : total 0 ts forms <ℤ (pos d *ℤ (entry new 0 +ℤ pos 1))
-  pub adds : cs ≡ one (arithmetic ge new)
+  pub adds : cs ≡ sumChild new
 
--- ---- 3 Apart: "a fact e ≠ 0. Children e−1 ≥ 0; −e−1 ≥ 0"
+-- ---- 3 Apart: "a fact e ≠ 0"
 
 pub record IsApart (b : Branch) (k : ℕ) (cs : List (List Fact)) : Type 0 where
   pub form : List ℤ
   pub named : FactAt b k (arithmetic ne form)
-  pub adds : cs ≡ (arithmetic ge (less form) ∷ []) ∷ (arithmetic ge (below form) ∷ []) ∷ []
+  pub adds : cs ≡ apartChildren form
 
 -- ---- 4 A-Conf: "an arithmetic fact without coefficients and false. Closes"
 
@@ -108,28 +108,25 @@ pub record IsSConf (u : Question) (b : Branch) (cs : List (List Fact)) : Type 0 
   pub clash : LiteralsMeet u b ⊎ ApartMeet b
   pub closes : cs ≡ []
 
--- ---- 6 S-Prop: "different variables x, y of one class. Adds f(x) − f(y) = 0"
+-- ---- 6 S-Prop: "different variables x, y of one class"
 
 pub record IsSProp (u : Question) (b : Branch) (f : Function) (x y : ℕ) (cs : List (List Fact)) : Type 0 where
   pub different : x ≢ y
   pub joined : OneClass b x y
-  pub adds : cs ≡ one (arithmetic eq (minus (apply u f x) (apply u f y)))
+  pub adds : cs ≡ sPropChild u f x y
 
--- ---- 7 L-Intro and 9 C-Collapse: "x, whose class holds a literal l. Adds len(x) = length of l", "code(x) = code of l, or −1"
+-- ---- 7 L-Intro and 9 C-Collapse: "x, whose class holds a literal l (no operand)"
 
 pub record IsLiteral (u : Question) (b : Branch) (f : Function) (x : ℕ) (cs : List (List Fact)) : Type 0 where
   pub held : ℕ
   pub counts : Counts u b x held
-  pub adds : cs ≡ one (arithmetic eq (minus (apply u f x) (number (valueOf f (literal u held)))))
+  pub adds : cs ≡ literalChild u f x held
 
--- ---- 11 C-Inj: "different x, y. Children code(x) = −1; code(x) − code(y) ≠ 0; x ≈ y"
+-- ---- 11 C-Inj: "different x, y"
 
 pub record IsCInj (u : Question) (x y : ℕ) (cs : List (List Fact)) : Type 0 where
   pub different : x ≢ y
-  pub adds : cs ≡ (arithmetic eq (minus (apply u code x) (number (negsuc 0))) ∷ [])
-      ∷ (arithmetic ne (minus (apply u code x) (apply u code y)) ∷ [])
-      ∷ (same x y ∷ [])
-      ∷ []
+  pub adds : cs ≡ cInjChildren u x y
 
 -- ---- 12 Card
 
@@ -142,7 +139,7 @@ abbrev pub Neighbours : Question → Branch → ℕ → List ℕ → Type 0
 Neighbours u b x [] = Unit {0}
 Neighbours u b x (y ∷ ys) = LengthsStated u b x y × Neighbours u b y ys
 
--- "L the smallest number such that n to the power L is at least m"
+-- "with L the smallest number such that n to the power L is at least m"
 pub record LeastPower (n m l : ℕ) : Type 0 where
   pub reaches : m ≤ n ^ l
   pub least : (k : ℕ) → m ≤ n ^ k → l ≤ k
@@ -150,13 +147,13 @@ pub record LeastPower (n m l : ℕ) : Type 0 where
 pub record Bound (u : Question) (x m : ℕ) (cs : List (List Fact)) : Type 0 where
   pub power : ℕ
   pub least : LeastPower (characterCount (u .n)) m power
-  pub adds : cs ≡ one (arithmetic ge (minus (apply u len x) (number (pos power))))
+  pub adds : cs ≡ boundChild u x power
 
--- "last, len(x_1) ≥ L. With n = 1 the last child is left out"
+-- the last child, about x among m variables: "With n = 1 the last child is left out"
 abbrev pub LastChild : Question → ℕ → ℕ → List (List Fact) → Type 0
 LastChild u x m cs = ((characterCount (u .n) ≡ 1) × (cs ≡ [])) ⊎ ((characterCount (u .n) ≢ 1) × Bound u x m cs)
 
--- "2 to 16 different variables, m of them. Children, for each pair i < j in lexicographic order, x_i ≈ x_j"
+-- "different variables, m of them; for each neighbouring pair a fact states"; how many there are is a matter of form (5)
 pub record IsCard (u : Question) (b : Branch) (x : ℕ) (xs : List ℕ) (cs : List (List Fact)) : Type 0 where
   pub different : Distinct (x ∷ xs)
   pub lengths : Neighbours u b x xs
@@ -164,7 +161,7 @@ pub record IsCard (u : Question) (b : Branch) (x : ℕ) (xs : List ℕ) (cs : Li
   pub last-child : LastChild u x (suc (length xs)) last
   pub adds : cs ≡ pairs (x ∷ xs) last
 
--- ---- 13 Join: "two ≥ facts, one the negative of the other. Adds the first as an equation"
+-- ---- 13 Join: "two ≥ facts, one the negative of the other"
 
 pub record IsJoin (b : Branch) (j k : ℕ) (cs : List (List Fact)) : Type 0 where
   pub form : List ℤ
@@ -172,25 +169,23 @@ pub record IsJoin (b : Branch) (j k : ℕ) (cs : List (List Fact)) : Type 0 wher
   pub first : FactAt b j (arithmetic ge form)
   pub second : FactAt b k (arithmetic ge negative)
   pub negated : (i : ℕ) → entry negative i ≡ negℤ (entry form i)
-  pub adds : cs ≡ one (arithmetic eq form)
+  pub adds : cs ≡ joinChild form
 
 -- ---- every rule
 
--- the step is an instance of its rule on the branch b, with the children cs; a closing rule has none
+-- the step is an instance of its rule on the branch b, with the children cs; a closing rule has none.
+-- Document 01: "A step is proper when it fits its rule, as worded above, on the branch where it stands".
 unfoldable pub Instance : Question → Branch → Step → List (List Fact) → Type 0
 Instance u b (Sum d ts) cs = IsSum b d ts cs
-Instance u b (Split e) cs = cs ≡ (arithmetic ge e ∷ []) ∷ (arithmetic ge (below e) ∷ []) ∷ []
+Instance u b (Split e) cs = cs ≡ splitChildren e
 Instance u b (Apart k) cs = IsApart b k cs
 Instance u b (AConf k) cs = IsAConf b k cs
 Instance u b SConf cs = IsSConf u b cs
 Instance u b (SProp f x y) cs = IsSProp u b f x y cs
 Instance u b (LIntro x) cs = IsLiteral u b len x cs
-Instance u b (LValid x) cs = cs ≡ (isLiteral x 0 ∷ []) ∷ (arithmetic ge (less (apply u len x)) ∷ []) ∷ []
+Instance u b (LValid x) cs = cs ≡ lValidChildren u x
 Instance u b (CCollapse x) cs = IsLiteral u b code x cs
-Instance u b (CValid x) cs = cs ≡
-    (arithmetic ne (less (apply u len x)) ∷ arithmetic eq (minus (apply u code x) (number (negsuc 0))) ∷ [])
-    ∷ (arithmetic eq (less (apply u len x)) ∷ arithmetic ge (apply u code x) ∷ arithmetic ge (minus (number (pos (lastCharacter (u .n)))) (apply u code x)) ∷ [])
-    ∷ []
+Instance u b (CValid x) cs = cs ≡ cValidChildren u x
 Instance u b (CInj x y) cs = IsCInj u x y cs
 Instance u b (Card []) cs = ⊥
 Instance u b (Card (x ∷ xs)) cs = IsCard u b x xs cs

@@ -5,6 +5,7 @@ pub mod Facts
 pub mod Chains
 pub mod Classes
 pub mod Steps
+pub mod Children
 pub mod Rules
 pub mod Instances
 pub mod Walk

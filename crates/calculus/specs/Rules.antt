@@ -6,11 +6,12 @@ use mathlib.Core.List.{List, [], _∷_}
 use lib.ListN.{length, getElem?}
 use lib.Dec.{leb, eqb}
 use lib.IntN.{ℤ, pos, negsuc}
-use Rattle.calculus.specs.Alphabet.{characterCount, lastCharacter}
-use Rattle.calculus.specs.Rows.{plus, scale, number, minus, less, below, nonneg, isZero, eqRow, allZero, floorDiv, divRow}
-use Rattle.calculus.specs.Facts.{holds, Fact, Branch, Question, literal, apply, valueOf, ge, eq, ne, same, apart, isLiteral, arithmetic, len, code}
+use Rattle.calculus.specs.Alphabet.{characterCount}
+use Rattle.calculus.specs.Rows.{plus, scale, minus, nonneg, isZero, eqRow, allZero, floorDiv, divRow}
+use Rattle.calculus.specs.Facts.{holds, Fact, Branch, Question, apply, ge, eq, ne, same, apart, isLiteral, arithmetic, len, code}
 use Rattle.calculus.specs.Chains.{varNode}
 use Rattle.calculus.specs.Classes.{labels, sameClass, classLiteral, conflict}
+use Rattle.calculus.specs.Children.{sumChild, splitChildren, apartChildren, sPropChild, literalChild, lValidChildren, cValidChildren, cInjChildren, pairs, boundChild, joinChild}
 use Rattle.calculus.specs.Steps.{Step, Sum, Split, Apart, AConf, SConf, SProp, LIntro, LValid, CCollapse, CValid, CInj, Card, Join}
 
 -- a where the test is passed
@@ -41,14 +42,14 @@ abbrev pub divided : ℕ → List ℤ → Option (List ℤ)
 divided d [] = none
 divided d (c ∷ cs) = guard (leb 1 d && eqRow (scale (pos d) (divRow cs d)) cs) (floorDiv c d ∷ divRow cs d)
 
--- Apart: "a fact e ≠ 0. Children e−1 ≥ 0; −e−1 ≥ 0"
-abbrev pub apartChildren : Fact → Option (List (List Fact))
-apartChildren (same x y) = none
-apartChildren (apart x y) = none
-apartChildren (isLiteral x l) = none
-apartChildren (arithmetic ge e) = none
-apartChildren (arithmetic eq e) = none
-apartChildren (arithmetic ne e) = some ((arithmetic ge (less e) ∷ []) ∷ (arithmetic ge (below e) ∷ []) ∷ [])
+-- Apart: "a fact e ≠ 0"
+abbrev pub parted : Fact → Option (List (List Fact))
+parted (same x y) = none
+parted (apart x y) = none
+parted (isLiteral x l) = none
+parted (arithmetic ge e) = none
+parted (arithmetic eq e) = none
+parted (arithmetic ne e) = some (apartChildren e)
 
 -- A-Conf: "an arithmetic fact without coefficients and false"
 abbrev pub falsum : Fact → Bool
@@ -60,7 +61,7 @@ falsum (arithmetic r (c ∷ cs)) = allZero cs && not (holds r c)
 
 -- Join: two ≥ facts, one the negative of the other
 abbrev pub joined : Fact → Fact → Option (List (List Fact))
-joined (arithmetic ge e) (arithmetic ge g) = guard (eqRow (scale (negsuc 0) e) g) ((arithmetic eq e ∷ []) ∷ [])
+joined (arithmetic ge e) (arithmetic ge g) = guard (eqRow (scale (negsuc 0) e) g) (joinChild e)
 joined (arithmetic ge e) (arithmetic eq g) = none
 joined (arithmetic ge e) (arithmetic ne g) = none
 joined (arithmetic ge e) (same x y) = none
@@ -102,23 +103,14 @@ abbrev pub distinct : List ℕ → Bool
 distinct [] = true
 distinct (x ∷ xs) = not (elem x xs) && distinct xs
 
--- "Children, for each pair i < j in lexicographic order, x_i ≈ x_j", before more
-abbrev pub pairsWith : ℕ → List ℕ → List (List Fact) → List (List Fact)
-pairsWith x [] more = more
-pairsWith x (y ∷ ys) more = (same x y ∷ []) ∷ pairsWith x ys more
-
-abbrev pub pairs : List ℕ → List (List Fact) → List (List Fact)
-pairs [] more = more
-pairs (x ∷ xs) more = pairsWith x xs (pairs xs more)
-
 -- the smallest L from k on with n to the power L at least m, within fuel
 abbrev pub logUp : ℕ → ℕ → ℕ → ℕ → ℕ
 logUp zero n m k = k
 logUp (suc d) n m k = elim (leb m (n ^ k)) [ true ↦ k | false ↦ logUp d n m (suc k) ]
 
--- "last, len(x_1) ≥ L, with L the smallest number such that n to the power L is at least m. With n = 1 the last child is left out"
+-- "with L the smallest number such that n to the power L is at least m. With n = 1 the last child is left out"
 abbrev pub lastChild : Question → ℕ → ℕ → List (List Fact)
-lastChild u x m = elim (leb (characterCount (u .n)) 1) [ true ↦ [] | false ↦ (arithmetic ge (minus (apply u len x) (number (pos (logUp m (characterCount (u .n)) m 0)))) ∷ []) ∷ [] ]
+lastChild u x m = elim (leb (characterCount (u .n)) 1) [ true ↦ [] | false ↦ boundChild u x (logUp m (characterCount (u .n)) m 0) ]
 
 abbrev pub cardChildren : Question → Branch → List ℕ → Option (List (List Fact))
 cardChildren u b [] = none
@@ -126,29 +118,18 @@ cardChildren u b (x ∷ []) = none
 cardChildren u b (x ∷ y ∷ xs) =
     guard (distinct (x ∷ y ∷ xs) && neighbours u b x (y ∷ xs)) (pairs (x ∷ y ∷ xs) (lastChild u x (length (x ∷ y ∷ xs))))
 
--- one child with one fact
-abbrev pub one : Fact → List (List Fact)
-one f = (f ∷ []) ∷ []
-
 -- the children of a step on a branch; none where it does not fit; a closing rule has no child
 abbrev pub children : Question → Branch → Step → Option (List (List Fact))
-children u b (Sum d ts) = then (sumOf b ts) (λ r. then (divided d r) (λ e. some (one (arithmetic ge e))))
-children u b (Split e) = some ((arithmetic ge e ∷ []) ∷ (arithmetic ge (below e) ∷ []) ∷ [])
-children u b (Apart k) = then (getElem? b k) apartChildren
+children u b (Sum d ts) = then (sumOf b ts) (λ r. then (divided d r) (λ e. some (sumChild e)))
+children u b (Split e) = some (splitChildren e)
+children u b (Apart k) = then (getElem? b k) parted
 children u b (AConf k) = then (getElem? b k) (λ f. guard (falsum f) [])
 children u b SConf = guard (conflict u b) []
-children u b (SProp f x y) = guard (not (eqb x y) && sameClass (labels b) (varNode x) (varNode y)) (one (arithmetic eq (minus (apply u f x) (apply u f y))))
-children u b (LIntro x) = then (classLiteral u b x) (λ l. some (one (arithmetic eq (minus (apply u len x) (number (valueOf len (literal u l)))))))
-children u b (LValid x) = some ((isLiteral x 0 ∷ []) ∷ (arithmetic ge (less (apply u len x)) ∷ []) ∷ [])
-children u b (CCollapse x) = then (classLiteral u b x) (λ l. some (one (arithmetic eq (minus (apply u code x) (number (valueOf code (literal u l)))))))
-children u b (CValid x) = some
-    ((arithmetic ne (less (apply u len x)) ∷ arithmetic eq (minus (apply u code x) (number (negsuc 0))) ∷ [])
-    ∷ (arithmetic eq (less (apply u len x)) ∷ arithmetic ge (apply u code x) ∷ arithmetic ge (minus (number (pos (lastCharacter (u .n)))) (apply u code x)) ∷ [])
-    ∷ [])
-children u b (CInj x y) = guard (not (eqb x y))
-    ((arithmetic eq (minus (apply u code x) (number (negsuc 0))) ∷ [])
-    ∷ (arithmetic ne (minus (apply u code x) (apply u code y)) ∷ [])
-    ∷ (same x y ∷ [])
-    ∷ [])
+children u b (SProp f x y) = guard (not (eqb x y) && sameClass (labels b) (varNode x) (varNode y)) (sPropChild u f x y)
+children u b (LIntro x) = then (classLiteral u b x) (λ l. some (literalChild u len x l))
+children u b (LValid x) = some (lValidChildren u x)
+children u b (CCollapse x) = then (classLiteral u b x) (λ l. some (literalChild u code x l))
+children u b (CValid x) = some (cValidChildren u x)
+children u b (CInj x y) = guard (not (eqb x y)) (cInjChildren u x y)
 children u b (Card xs) = cardChildren u b xs
 children u b (Join j k) = then (getElem? b j) (λ f. then (getElem? b k) (λ g. joined f g))

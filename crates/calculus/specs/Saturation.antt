@@ -12,7 +12,7 @@ use Rattle.calculus.specs.Limits.{lengthLimit}
 use Rattle.calculus.specs.Facts.{Question, Fact, same, apart, isLiteral, arithmetic, Branch, Relation, ge, eq, ne, len}
 use Rattle.calculus.specs.Chains.{OneClass, ClassHolds}
 use Rattle.calculus.specs.Steps.{Step, Sum, Split, Apart, AConf, SConf, SProp, LIntro, LValid, CCollapse, CValid, CInj, Card, Join}
-use Rattle.calculus.specs.Rules.{pairs}
+use Rattle.calculus.specs.Children.{pairs}
 use Rattle.calculus.specs.Instances.{LastChild, Instance, StepInRange}
 use Rattle.calculus.specs.Model.{modelOf, valueIn}
 

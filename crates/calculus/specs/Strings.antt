@@ -50,10 +50,6 @@ abbrev pub fixedStrings : Question → Branch → List ℤ → ℕ → List (Lis
 fixedStrings u b m zero = []
 fixedStrings u b m (suc k) = elim (fixedString u b m k) [ some s ↦ s ∷ fixedStrings u b m k | none ↦ fixedStrings u b m k ]
 
-abbrev pub orElse : Option (List ℕ) → List ℕ → List ℕ
-orElse none s = s
-orElse (some t) s = t
-
 -- the string of the variable x, where done has those of the variables below it: "then each other class, by lowest variable, gets the smallest string
 -- of its length, by code points, not yet given"
 abbrev pub stringOf : Question → Branch → List ℤ → ℕ → List (List ℕ) → List ℕ

@@ -2,7 +2,6 @@
 use Prim.Native.Nat.{ℕ, zero, suc, _+_, _*_}
 use native.Mathlib.Omega.{arith}
 use mathlib.Core.Path.{_≡_, refl, sym, _∙_, ap, ap₂, subst}
-use mathlib.Core.Logic.{_⊎_, inl, inr}
 use mathlib.Core.Bool.{Bool, true, false, _&&_}
 use mathlib.Core.Option.{Option, none, some}
 use mathlib.Core.List.{List, [], _∷_}
@@ -14,7 +13,7 @@ use Rattle.lists.specs.Lists.{All}
 use Rattle.calculus.specs.Facts.{Question}
 use Rattle.calculus.specs.Steps.{Step}
 use Rattle.calculus.specs.Instances.{StepInRange}
-use Rattle.calculus.specs.Walk.{Waiting, Walk, working, closed, enter}
+use Rattle.calculus.specs.Walk.{Walk, working, closed, enter}
 use Rattle.format.specs.Fields.{pick}
 use Rattle.format.specs.Records.{size, kind, next, whole, need}
 use Rattle.format.specs.Question.{columnCount}
@@ -105,21 +104,29 @@ Taken w (proving closed) (t ∷ ts) o s' = ⊥
 Taken w (taking br) (t ∷ ts) o s' = (w .takenFault br (t .0) (t .1) ≡ 0) × Taken w (taking (w .taken br (t .0) (t .1))) ts o s'
 Taken w (modelled br v) (t ∷ ts) o s' = ⊥
 
--- claim 1 stays claim 1
-pub proving-stays : {B C : Type 0} (w : Method B C) (k : Walk B C) (ts : List (Step × ℕ)) (o : Option (List ℤ)) {s' : State B C} → Taken w (proving k) ts o s' → (k' : Walk B C) × (s' ≡ proving k') × (o ≡ none)
+-- claim 1 ends with the walk, behind no model
+pub proving-stays : {B C : Type 0} (w : Method B C) (k : Walk B C) (ts : List (Step × ℕ)) (o : Option (List ℤ)) {s' : State B C} → Taken w (proving k) ts o s' → ((k' : Walk B C) × (s' ≡ proving k')) × (o ≡ none)
 unfolding Taken
-proving-stays w k [] none h = (k, sym (h .1), refl)
+proving-stays w k [] none h = ((k, sym (h .1)), refl)
 proving-stays w k [] (some m) h = absurd h
 proving-stays w (working br ss) (t ∷ ts) o h = proving-stays w (enter (w .add) br (w .children br (t .0)) ss) ts o (h .1)
 proving-stays w closed (t ∷ ts) o h = absurd h
 
--- claim 2 comes to a model, or to the end before one
-pub taking-ends : {B C : Type 0} (w : Method B C) (br : B) (ts : List (Step × ℕ)) (o : Option (List ℤ)) {s' : State B C} → Taken w (taking br) ts o s'
-    → ((l : B) × (s' ≡ taking l)) ⊎ ((l : B) × (m : List ℤ) × (s' ≡ modelled l m) × (o ≡ some m))
+pub proving-no-model : {B C : Type 0} (w : Method B C) (k : Walk B C) (ts : List (Step × ℕ)) (o : Option (List ℤ)) (l : B) (m : List ℤ) → Taken w (proving k) ts o (modelled l m) → ⊥
+proving-no-model w k ts o l m h = let ((k', z), _) = proving-stays w k ts o h in let z : _≡_ {A = ℕ} 0 1 = cc in omega arith
+
+-- claim 2 ends with the branch, or behind the model
+pub taking-no-walk : {B C : Type 0} (w : Method B C) (br : B) (ts : List (Step × ℕ)) (o : Option (List ℤ)) (k : Walk B C) → Taken w (taking br) ts o (proving k) → ⊥
 unfolding Taken
-taking-ends w br [] none h = inl (br, sym (h .1))
-taking-ends w br [] (some m) h = inr (br, m, sym (h .2), refl)
-taking-ends w br (t ∷ ts) o h = taking-ends w (w .taken br (t .0) (t .1)) ts o (h .1)
+taking-no-walk w br [] none k h = let z : _≡_ {A = ℕ} 0 1 = cc (h .1) in omega arith
+taking-no-walk w br [] (some m) k h = let z : _≡_ {A = ℕ} 0 1 = cc (h .2) in omega arith
+taking-no-walk w br (t ∷ ts) o k h = taking-no-walk w (w .taken br (t .0) (t .1)) ts o k (h .1)
+
+pub taking-models : {B C : Type 0} (w : Method B C) (br : B) (ts : List (Step × ℕ)) (o : Option (List ℤ)) (l : B) (m : List ℤ) → Taken w (taking br) ts o (modelled l m) → o ≡ some m
+unfolding Taken
+taking-models w br [] none l m h = absurd (let z : _≡_ {A = ℕ} 0 1 = cc (h .1) in omega arith)
+taking-models w br [] (some v) l m h = cc (h .2)
+taking-models w br (t ∷ ts) o l m h = taking-models w (w .taken br (t .0) (t .1)) ts o l m (h .1)
 
 pub record Read {B C : Type 0} (w : Method B C) (b : List ℕ) (u : Question) (s : State B C) (ats : List ℕ) (v : Question) (s' : State B C) : Type 0 where
   pub steps : List (Step × ℕ)

@@ -1,26 +1,25 @@
 -- Checking takes steps as the calculus walks over them: under claim 1 without fault exactly where they fit within the limits and close every branch, under claim 2 exactly where the children taken lead to a leaf without fault.
-use Prim.Native.Nat.{ℕ, zero, suc, _-_}
+use Prim.Native.Nat.{ℕ}
 use native.Mathlib.Omega.{arith}
 use mathlib.Core.Path.{_≡_, refl, sym, _∙_, ap, subst}
-use mathlib.Core.Bool.{Bool, true, false}
 use mathlib.Core.Option.{Option, none, some}
 use mathlib.Core.List.{List, [], _∷_, _++_, map}
-use lib.ListN.{length, getElem?}
+use lib.ListN.{length}
 use lib.IntN.{ℤ}
 use Rattle.lists.specs.Lists.{All}
 use Rattle.calculus.specs.Facts.{Question, Fact, Branch}
 use Rattle.calculus.specs.Steps.{Step}
+use Rattle.calculus.specs.Children.{childAt}
 use Rattle.calculus.specs.Rules.{then, children}
 use Rattle.calculus.specs.Instances.{Instance, HeadInRange, FactsInRange, StepInRange}
-use Rattle.calculus.specs.Walk.{Waiting, Walk, working, closed, enter}
+use Rattle.calculus.specs.Walk.{Walk, working, closed, enter}
 use Rattle.calculus.specs.Derivations.{LimitsFrom, Takes, PathLimitsFrom}
 use Rattle.calculus.proofs.Fits.{fits→instance}
 use Rattle.calculus.proofs.Ranges.{children-in-range}
-use Rattle.calculus.proofs.Walks.{Walked, WaitingInRange, StateInRange, enter-in-range, childTaken, Followed, taken→takes, taken-in-range}
+use Rattle.calculus.proofs.Walks.{Walked, StateInRange, enter-in-range, Followed, taken→takes, taken-in-range}
 use Rattle.format.specs.Records.{need}
 use Rattle.format.specs.Reading.{State, proving, taking, modelled}
-use Rattle.format.specs.Checking.{fits, orNone, childrenWithin, factsWithin, room, roomForAll, roomToPend, allTried, takenTried, nth, takenFacts, leafFault, checker}
-use Rattle.format.proofs.Faults.{none-applies}
+use Rattle.format.specs.Checking.{fits, orNone, allTried, takenTried, nth, takenFacts, leafFault, checker}
 use Rattle.format.proofs.Behind.{Taken}
 use Rattle.format.proofs.Limits.{limits→tried, limits→taken}
 
@@ -29,7 +28,7 @@ abbrev pub bare : List (Step × ℕ) → List Step
 bare ts = map (λ (t : Step × ℕ). t .0) ts
 
 -- where 8 does not apply, there is what was looked for
-fitting : {A : Type 0} (o : Option (List A)) (later : ℕ) → need 8 (fits o) later ≡ 0 → (c : List A) × (o ≡ some c) × (orNone o ≡ c)
+pub fitting : {A : Type 0} (o : Option (List A)) (later : ℕ) → need 8 (fits o) later ≡ 0 → (c : List A) × (o ≡ some c) × (orNone o ≡ c)
 fitting none later e = absurd (omega arith)
 fitting (some c) later e = (c, refl, refl)
 
@@ -48,7 +47,7 @@ proved→walked u (working b ss) (t ∷ ts) o s (f, h) =
 proved→walked u closed (t ∷ ts) o s h = absurd h
 
 module _ (u : Question) (w : HeadInRange u) where
-  pub walked→proved : (k : Walk Branch (List Fact)) (ts : List (Step × ℕ)) → StateInRange u w k → All (λ t. StepInRange u (t .0)) ts → LimitsFrom u k (bare ts) → Walked u k (bare ts)
+  pub walked→proved : (k : Walk Branch (List Fact)) (ts : List (Step × ℕ)) → StateInRange u k → All (λ t. StepInRange u (t .0)) ts → LimitsFrom u k (bare ts) → Walked u k (bare ts)
       → Taken (checker u) (proving k) ts none (proving closed)
   unfolding Taken Walked LimitsFrom
   walked→proved (working b ss) [] r g l h = absurd h
@@ -56,7 +55,7 @@ module _ (u : Question) (w : HeadInRange u) where
   walked→proved (working b ss) (t ∷ ts) (rb, rs) (g, gs) l (cs, e, h) =
       let i : Instance u b (t .0) cs = fits→instance u w b rb (t .0) g e in
       let (here, later) = l cs i in
-      let next = walked→proved (enter _++_ b cs ss) ts (enter-in-range u w b cs ss rb (children-in-range u w b (t .0) cs rb g i) rs) gs later h in (
+      let next = walked→proved (enter _++_ b cs ss) ts (enter-in-range u b cs ss rb (children-in-range u w b (t .0) cs rb g i) rs) gs later h in (
         ap (allTried b (length ss)) e ∙ limits→tried b (length ss) cs here,
         subst (λ ds. Taken (checker u) (proving (enter _++_ b ds ss)) ts none (proving closed)) (sym (ap orNone e)) next,
       )
@@ -65,7 +64,7 @@ module _ (u : Question) (w : HeadInRange u) where
 -- ---- claim 2
 
 -- the child that checking takes
-nth-then : (o : Option (List (List Fact))) (k : ℕ) → nth o k ≡ then o (λ cs. getElem? cs (k - 1))
+pub nth-then : (o : Option (List (List Fact))) (k : ℕ) → nth o k ≡ then o (λ cs. childAt cs k)
 nth-then none k = refl
 nth-then (some cs) k = refl
 

@@ -1,25 +1,27 @@
 -- A ticket read to its end, whatever the method: the question, the claim, and what stands behind it.
-use Prim.Native.Nat.{ℕ, zero, suc, _+_, _≤_}
+use Prim.Native.Nat.{ℕ, zero, suc, _≤_}
 use native.Mathlib.Omega.{arith}
-use mathlib.Core.Path.{_≡_, refl, sym, _∙_, ap, subst}
-use mathlib.Core.Bool.{Bool, true, false, _&&_}
+use mathlib.Core.Path.{_≡_, refl, _∙_, ap, subst}
+use mathlib.Core.Bool.{Bool, _&&_}
 use mathlib.Core.Option.{Option, some}
 use mathlib.Core.List.{List, []}
 use lib.ListN.{length}
 use lib.Dec.{leb, eqb}
 use lib.IntN.{ℤ}
-use borrow.Author.Tests.{leb-true}
+use borrow.Author.Tests.{leb-true, le-leb}
 use Rattle.calculus.specs.Limits.{factLimit}
 use Rattle.calculus.specs.Facts.{Question}
 use Rattle.calculus.specs.Steps.{Step}
 use Rattle.calculus.specs.Walk.{working}
 use Rattle.format.specs.Fields.{pick}
 use Rattle.format.specs.Records.{size, kind, next, whole, records, need}
-use Rattle.format.specs.Question.{Progress, Reading, Stopped, Ended, question, questionForm, asked, questionOf}
-use Rattle.format.specs.Reading.{State, proving, taking, Method, Ticket, Faulty, Done, readSteps, claimAt, claimFault, begin, readClaim, readBehind}
+use Rattle.format.specs.Question.{Reading, Stopped, Ended, question, questionForm, asked, questionOf}
+use Rattle.format.specs.Reading.{State, proving, taking, Method, Done, readSteps, claimAt, claimFault, begin, readBehind}
 use Rattle.format.specs.ProperForm.{stepsAt, stepsBehind, takenSteps}
 use Rattle.format.proofs.Faults.{none-applies, and-true}
-use Rattle.format.proofs.Asked.{QuestionInRange, asked-in-range, question→form, form→question}
+use Rattle.format.proofs.StepTurns.{atClaim, claim-clean}
+use Rattle.format.proofs.Entries.{QuestionInRange}
+use Rattle.format.proofs.Asked.{headed-asked, asked-in-range, question→form, form→question}
 use Rattle.format.proofs.Behind.{Formed, Taken, childOk, Read, done→, →done}
 
 -- reading the question u came to a claim
@@ -48,9 +50,6 @@ claimed→form {b} c = record { last = c .last; position = c .position; number =
 abbrev pub form→claimed : {b : List ℕ} {u : Question} → length (u .constraints) ≤ factLimit → Claimed b (questionForm b) u → Claimed b (question b) u
 form→claimed {b} l c = record { last = c .last; position = c .position; number = c .number; ended = form→question b (c .ended) l; claim-formed = c .claim-formed }
 
-pub claimed-asked : {b : List ℕ} {u : Question} → Claimed b (questionForm b) u → questionOf b ≡ some u
-claimed-asked c = ap asked (c .ended)
-
 pub claimed-steps : {b : List ℕ} {u : Question} (c : Claimed b (questionForm b) u) → takenSteps b ≡ stepsAt b (behindClaim c)
 claimed-steps {b} c = ap (stepsBehind b) (c .ended)
 
@@ -60,17 +59,16 @@ claim-headed b last at later e =
     leb-true 1 last (and-true (leb 1 last) (eqb (kind b at) 5) (none-applies 3 placed later (none-applies 2 (whole b at) (need 4 placed later) e .1) .0) .0)
 
 -- the claim stands behind a head
+claimed-headed : {b : List ℕ} {u : Question} (c : Claimed b (questionForm b) u) → 1 ≤ c .last
+claimed-headed {b} c = claim-headed b (c .last) (c .position) (need 5 (eqb (size b (c .position)) 2) (need 6 (leb 1 (claimAt b (c .position)) && leb (claimAt b (c .position)) 2) 0)) (c .claim-formed)
+
 pub claimed-in-range : {b : List ℕ} {u : Question} → Claimed b (questionForm b) u → QuestionInRange u
-claimed-in-range {b} c = asked-in-range b (c .ended) (claim-headed b (c .last) (c .position) (need 5 (eqb (size b (c .position)) 2) (need 6 (leb 1 (claimAt b (c .position)) && leb (claimAt b (c .position)) 2) 0)) (c .claim-formed))
+claimed-in-range {b} c = asked-in-range b (c .ended) (claimed-headed c)
+
+pub claimed-asked : {b : List ℕ} {u : Question} → Claimed b (questionForm b) u → questionOf b ≡ some u
+claimed-asked {b} {u} c = ap asked (c .ended) ∙ headed-asked (record { last = c .last; question = u }) (c .position) (c .number) (le-leb 1 (c .last) (claimed-headed c))
 
 module _ {B C : Type 0} (method : Question → Method B C) (b : List ℕ) where
-  -- one turn at the claim
-  abbrev atClaim : Progress → ℕ → ℕ → ℕ → Ticket B C
-  atClaim s at r f = elim f as (λ _. Ticket B C) [
-    | suc c ↦ Faulty (suc c) r
-    | zero ↦ readSteps (method (s .question)) b (s .question) (begin (method (s .question)) (claimAt b at)) (suc r) (records b (next b at))
-  ]
-
   abbrev pub ReadBehind : Reading → Question → State B C → Type 0
   ReadBehind g u s = (c : Claimed b g u) × (x : Bool) × (claimsNone c ≡ x) × Read (method u) b u (started (method u) x) (behindClaim c) u s
 
@@ -78,7 +76,7 @@ module _ {B C : Type 0} (method : Question → Method B C) (b : List ℕ) where
   ticket→ (Stopped c r) e = absurd (let z : _≡_ {A = ℕ} 0 1 = cc in omega arith)
   ticket→ (Ended p at r) {u} {s} e = go (claimFault b p at) refl e
     where
-      go : (f : ℕ) → claimFault b p at ≡ f → atClaim p at r f ≡ Done u s → ReadBehind (Ended p at r) u s
+      go : (f : ℕ) → claimFault b p at ≡ f → atClaim method b p at r f ≡ Done u s → ReadBehind (Ended p at r) u s
       go (suc c) k e = absurd (let z : _≡_ {A = ℕ} 0 1 = cc in omega arith)
       go zero k e =
           let h = done→ (method (p .question)) b (p .question) (begin (method (p .question)) (claimAt b at)) (suc r) (records b (next b at)) e in
@@ -93,6 +91,6 @@ module _ {B C : Type 0} (method : Question → Method B C) (b : List ℕ) where
       → Formed b u (childOk u (started (method u) x)) (behindClaim c) ts o → Taken (method u) (started (method u) x) ts o s → readBehind method b g ≡ Done u s
   →ticket {g} {u} {s} c x ts o e f k =
       ap (readBehind method b) (c .ended)
-      ∙ ap (atClaim (record { last = c .last; question = u }) (c .position) (c .number)) (c .claim-formed)
+      ∙ claim-clean method b (record { last = c .last; question = u }) (c .position) (c .number) (c .claim-formed)
       ∙ ap (λ x. readSteps (method u) b u (started (method u) x) (suc (c .number)) (behindClaim c)) e
       ∙ →done (method u) b u (started (method u) x) (suc (c .number)) (behindClaim c) ts o f k

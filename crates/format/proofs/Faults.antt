@@ -1,9 +1,8 @@
 -- A chain of tests: no number applies exactly when every test is passed.
 use Prim.Native.Nat.{ℕ, suc}
 use native.Mathlib.Omega.{arith}
-use mathlib.Core.Path.{_≡_, refl, sym, subst, ap}
+use mathlib.Core.Path.{_≡_, refl, ap}
 use mathlib.Core.Bool.{Bool, true, false, _&&_}
-use lib.Dec.{T}
 use Rattle.format.specs.Records.{need}
 
 pub none-applies : (c : ℕ) (t : Bool) (later : ℕ) → need (suc c) t later ≡ 0 → (t ≡ true) × (later ≡ 0)
@@ -16,13 +15,6 @@ passed c t later e = ap (λ x. need c x later) e
 pub and-true : (a b : Bool) → (a && b) ≡ true → (a ≡ true) × (b ≡ true)
 and-true true b e = (refl, e)
 and-true false b e = absurd (let z : _≡_ {A = ℕ} 0 1 = cc in omega arith)
-
-pub as-T : (b : Bool) → b ≡ true → T b
-as-T b e = subst T (sym e) tt
-
-pub from-T : (b : Bool) → T b → b ≡ true
-from-T true t = refl
-from-T false t = absurd t
 
 pub not-both : (b : Bool) → b ≡ true → b ≡ false → ⊥
 not-both b e f = let z : _≡_ {A = ℕ} 0 1 = cc in omega arith

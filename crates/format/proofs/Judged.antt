@@ -2,50 +2,49 @@
 use Prim.Native.Nat.{ℕ, zero, suc, _+_}
 use native.Mathlib.Omega.{arith}
 use mathlib.Core.Path.{_≡_, refl, sym, _∙_, ap, subst}
-use mathlib.Core.Bool.{Bool, true, false, not, _&&_}
+use mathlib.Core.Bool.{Bool, true, false, not}
 use mathlib.Core.Option.{Option, none, some}
 use mathlib.Core.List.{List, [], _∷_}
 use lib.ListN.{length, getD, getElem?}
-use lib.Dec.{T, leb}
+use lib.Dec.{leb}
+use Rattle.lists.proofs.Tests.{→true, true→}
 use Rattle.calculus.specs.Alphabet.{Over, allCharacters}
 use Rattle.calculus.specs.Facts.{Question, Fact, same, apart, isLiteral, arithmetic, Branch, holds, literal}
 use Rattle.calculus.specs.Strings.{eqString}
 use Rattle.calculus.specs.Meaning.{Assignment, str, value, For, Meets, Met}
-use Rattle.calculus.proofs.Words.{eqString→, eqString-refl}
 use Rattle.format.specs.Records.{next}
 use Rattle.format.specs.Question.{Reading, Stopped, Ended, question, asked, questionOf}
 use Rattle.format.specs.Places.{skip}
 use Rattle.format.specs.Answer.{answerForm, stringAt, stringsAt, assignmentOf, outside}
 use Rattle.format.specs.Judging.{Judging, Refused, Judged, judgeAnswer, judgeBehind, judging, meets, meetsAll, Judgement, Refusal, AllMet, Unmet, Says}
 use Rattle.format.specs.Demands.{TH-3}
-use Rattle.format.proofs.Faults.{and-true, as-T, from-T, not-both}
+use Rattle.format.proofs.Faults.{and-true, not-both}
+use Rattle.format.proofs.Texts.{equal→, →equal}
 use Rattle.format.proofs.Fields.{length-i32s}
-use Rattle.format.proofs.Asked.{over-all, question→form}
+use Rattle.format.proofs.Entries.{over-all}
+use Rattle.format.proofs.Asked.{headed-asked, question→form}
 
 -- ---- a constraint is met exactly when its test holds
 
-equal : (s t : List ℕ) → s ≡ t → eqString s t ≡ true
-equal s t e = subst (λ z. eqString s z ≡ true) e (eqString-refl s)
-
 meets→ : (u : Question) (a : Assignment) (f : Fact) → meets u a f ≡ true → Meets u a f
-meets→ u a (same x y) e = eqString→ (str a x) (str a y) (as-T _ e)
-meets→ u a (apart x y) e = λ p. go (eqString (str a x) (str a y)) (equal (str a x) (str a y) p) e
+meets→ u a (same x y) e = equal→ (str a x) (str a y) e
+meets→ u a (apart x y) e = λ p. go (eqString (str a x) (str a y)) (→equal (str a x) (str a y) p) e
   where
     go : (b : Bool) → b ≡ true → not b ≡ true → ⊥
     go true t e = not-both false e refl
     go false t e = not-both false t refl
-meets→ u a (isLiteral x l) e = eqString→ (str a x) (literal u l) (as-T _ e)
-meets→ u a (arithmetic r e) h = as-T (holds r (value a e)) h
+meets→ u a (isLiteral x l) e = equal→ (str a x) (literal u l) e
+meets→ u a (arithmetic r e) h = true→ h
 
 →meets : (u : Question) (a : Assignment) (f : Fact) → Meets u a f → meets u a f ≡ true
-→meets u a (same x y) h = equal (str a x) (str a y) h
-→meets u a (apart x y) h = go (eqString (str a x) (str a y)) (λ t. h (eqString→ (str a x) (str a y) t))
+→meets u a (same x y) h = →equal (str a x) (str a y) h
+→meets u a (apart x y) h = go (eqString (str a x) (str a y)) (λ t. h (equal→ (str a x) (str a y) t))
   where
-    go : (b : Bool) → (T b → ⊥) → not b ≡ true
-    go true f = absurd (f tt)
+    go : (b : Bool) → (b ≡ true → ⊥) → not b ≡ true
+    go true f = absurd (f refl)
     go false f = refl
-→meets u a (isLiteral x l) h = equal (str a x) (literal u l) h
-→meets u a (arithmetic r e) h = from-T (holds r (value a e)) h
+→meets u a (isLiteral x l) h = →equal (str a x) (literal u l) h
+→meets u a (arithmetic r e) h = →true (holds r (value a e)) h
 
 meetsAll→ : (u : Question) (a : Assignment) (b : Branch) → meetsAll u a b ≡ true → Met u a b
 unfolding meetsAll
@@ -96,11 +95,11 @@ judged-taken b v u a e = behind (question b) refl e
 
     behind : (g : Reading) → question b ≡ g → judgeBehind g v ≡ Judged u a → Taken b v u a
     behind (Stopped c r) p e = absurd (let z : _≡_ {A = ℕ} 0 1 = cc in omega arith)
-    behind (Ended s at r) p e = go (leb 1 (s .last)) e
+    behind (Ended s at r) p e = go (leb 1 (s .last)) refl e
       where
-        go : (x : Bool) → (elim x as (λ _. Judging) [ false ↦ Refused 4 r | true ↦ judgeAnswer (s .question) v ]) ≡ Judged u a → Taken b v u a
-        go false e = absurd (let z : _≡_ {A = ℕ} 0 1 = cc in omega arith)
-        go true e = answered (s .question) (answerForm v (s .question .p) (s .question .q) 0) (outside v (s .question) (s .question .p) 0 0) refl (ap asked (question→form b p)) e
+        go : (x : Bool) → leb 1 (s .last) ≡ x → (elim x as (λ _. Judging) [ false ↦ Refused 4 r | true ↦ judgeAnswer (s .question) v ]) ≡ Judged u a → Taken b v u a
+        go false h e = absurd (let z : _≡_ {A = ℕ} 0 1 = cc in omega arith)
+        go true h e = answered (s .question) (answerForm v (s .question .p) (s .question .q) 0) (outside v (s .question) (s .question .p) 0 0) refl (ap asked (question→form b p) ∙ headed-asked s at r h) e
 
 -- ---- the theorem
 

@@ -1,109 +1,95 @@
 -- TH-4 and TH-2: what checking accepts under claim 1 is a closed tree, so that no assignment meets all constraints; and in proper form and within the limits a closed tree is accepted.
-use Prim.Native.Nat.{ℕ}
+use Prim.Native.Nat.{ℕ, _≤_}
 use native.Mathlib.Omega.{arith}
-use mathlib.Core.Path.{_≡_, refl, sym, _∙_, ap, subst}
-use mathlib.Core.Logic.{_⊎_, inl, inr}
-use mathlib.Core.Bool.{Bool, true, false}
-use mathlib.Core.Option.{none, some}
+use mathlib.Core.Path.{_≡_, subst}
+use mathlib.Core.Bool.{true, false}
+use mathlib.Core.Option.{none}
 use mathlib.Core.List.{List, [], _∷_}
 use lib.ListN.{length}
-use lib.Dec.{eqb}
-use lib.IntN.{ℤ}
 use Rattle.lists.specs.Lists.{All}
+use Rattle.calculus.specs.Limits.{factLimit}
 use Rattle.calculus.specs.Facts.{Question, Fact, Branch}
 use Rattle.calculus.specs.Steps.{Step}
 use Rattle.calculus.specs.Instances.{StepInRange}
-use Rattle.calculus.specs.Walk.{Walk, working, closed}
-use Rattle.calculus.specs.Derivations.{Closes, LimitsFrom, WithinLimits}
+use Rattle.calculus.specs.Walk.{working, closed}
+use Rattle.calculus.specs.Derivations.{Closes, WithinLimits}
 use Rattle.calculus.proofs.Walks.{walked→closes, closes→walked}
-use Rattle.calculus.proofs.ClosedTrees.{closes-sound}
-use Rattle.format.specs.Question.{question, questionForm, questionOf}
-use Rattle.format.specs.Reading.{State, proving, taking, modelled}
-use Rattle.format.specs.Checking.{Outcome, Refused, NoSolution, large, verdict, checker, accepted}
-use Rattle.format.specs.ProperForm.{former, formOf, ProperNo, steps}
+use Rattle.calculus.proofs.Trees.{closes-sound}
+use Rattle.format.specs.Reading.{State, proving}
+use Rattle.format.specs.Checking.{NoSolution, large, verdict, checker, accepted}
+use Rattle.format.specs.ProperForm.{former, ProperNo, steps, takenSteps}
 use Rattle.format.specs.Demands.{TH-2, TH-4}
-use Rattle.format.proofs.Asked.{QuestionInRange}
-use Rattle.format.proofs.Behind.{Formed, formed-steps, formed-in-range, proving-stays, taking-ends}
-use Rattle.format.proofs.Claimed.{Claimed, claimsNone, behindClaim, claimed→form, form→claimed, claimed-asked, claimed-steps, claimed-in-range, ReadBehind, ticket→, →ticket}
-use Rattle.format.proofs.Checker.{bare, proved→walked, walked→proved, Reached, taken→reached}
-use Rattle.format.proofs.Accepted.{verdict→, →verdict}
+use Rattle.format.proofs.Behind.{Taken, proving-stays, taking-no-walk}
+use Rattle.format.proofs.Claimed.{claimed-asked, claimed-in-range}
+use Rattle.format.proofs.Tickets.{Holding, steps-in-range, ReadAs, proper→, verdict→, →verdict}
+use Rattle.format.proofs.Checker.{bare, proved→walked, walked→proved, taken→reached}
 
 all-bare : (u : Question) (ts : List (Step × ℕ)) → All (λ t. StepInRange u (t .0)) ts → All (StepInRange u) (bare ts)
 all-bare u [] h = tt
 all-bare u (t ∷ ts) (h, hs) = (h, all-bare u ts hs)
 
--- the steps of the ticket close the constraints of the question u
-record ClosedTicket (b : List ℕ) (u : Question) : Type 0 where
-  asked-is : questionOf b ≡ some u
-  in-range : QuestionInRange u
-  steps-in-range : All (StepInRange u) (steps b)
-  closes : Closes u (u .constraints) (steps b)
+-- the ticket holds steps and the end, and checking closes every branch
+pub record Closed (b : List ℕ) (u : Question) : Type 0 where
+  pub held : Holding b u true none
+  pub few : length (u .constraints) ≤ factLimit
+  pub taken : Taken (checker u) (proving (working (u .constraints) [])) (takenSteps b) none (proving closed)
 
-accepted→closed : (work answer : ℕ) (b : List ℕ) → verdict work answer b ≡ NoSolution → (u : Question) × ClosedTicket b u
+pub accepted→closed : (work answer : ℕ) (b : List ℕ) → verdict work answer b ≡ NoSolution → (u : Question) × Closed b u
 accepted→closed work answer b e =
-    let (u, s, r, a) = verdict→ work answer b NoSolution (λ c r z. let z : _≡_ {A = ℕ} 0 1 = cc in omega arith) e in
-    (u, closed-ticket u s r a)
+    let (u, s, r, few, a) = verdict→ work answer b NoSolution (λ c r z. let z : _≡_ {A = ℕ} 0 1 = cc in omega arith) e in
+    (u, by-claim u s r few a)
   where
-    closed-ticket : (u : Question) (s : State Branch (List Fact)) → ReadBehind checker b (question b) u s → accepted u s ≡ NoSolution → ClosedTicket b u
-    closed-ticket u s (c, true, k, r) a =
-        let f = claimed→form c in
-        let q = claimed-in-range f in
-        let g = all-bare u (r .steps) (formed-in-range b u _ (behindClaim c) (r .steps) (r .model) (r .formed)) in
-        let same : bare (r .steps) ≡ steps b = ap bare (sym (claimed-steps f ∙ formed-steps b u _ (behindClaim c) (r .steps) (r .model) (r .formed))) in
+    by-claim : (u : Question) (s : State Branch (List Fact)) → ReadAs checker b u s → length (u .constraints) ≤ factLimit → accepted u s ≡ NoSolution → Closed b u
+    by-claim u s (true, o, h, k) few a =
+        let (_, none-left) = proving-stays (checker u) (working (u .constraints) []) (takenSteps b) o k in
+        let (_, ends) = proved→walked u (working (u .constraints) []) (takenSteps b) o s k in
         record {
-          asked-is = claimed-asked f;
-          in-range = q;
-          steps-in-range = subst (All (StepInRange u)) same g;
-          closes = subst (Closes u (u .constraints)) same (walked→closes u (q .head) (u .constraints) (bare (r .steps)) (q .constraints) g (proved→walked u (working (u .constraints) []) (r .steps) (r .model) s (r .taken) .0));
+          held = subst (Holding b u true) none-left h;
+          few = few;
+          taken = subst (λ o. Taken (checker u) (proving (working (u .constraints) [])) (takenSteps b) o (proving closed)) none-left
+              (subst (Taken (checker u) (proving (working (u .constraints) [])) (takenSteps b) o) ends k);
         }
-    closed-ticket u s (c, false, k, r) a =
-        let h = taken→reached u (u .constraints) (r .steps) (r .model) s (r .taken) in
-        absurd (let z : _≡_ {A = ℕ} 0 1 = cc (ap (accepted u) (h .state)) in omega arith)
+    by-claim u s (false, o, h, k) few a =
+        let r = taken→reached u (u .constraints) (takenSteps b) o s k in
+        absurd (let z : _≡_ {A = ℕ} 0 1 = cc (r .state) in omega arith)
+
+closed→closes : (b : List ℕ) (u : Question) → Closed b u → Closes u (u .constraints) (steps b)
+closed→closes b u c =
+    let q = claimed-in-range (c .held .claimed) in
+    walked→closes u (q .head) (u .constraints) (steps b) (q .constraints) (all-bare u (takenSteps b) (steps-in-range (c .held)))
+    (proved→walked u (working (u .constraints) []) (takenSteps b) none (proving closed) (c .taken) .0)
 
 pub no-solution-sound : TH-4
 no-solution-sound work answer t e =
     let (u, c) = accepted→closed work answer t e in
-    (u, c .asked-is, λ a f m. closes-sound u (c .in-range .head) a f (c .in-range .literals-differ) (c .closes) (c .in-range .constraints) (c .steps-in-range) m)
+    let q = claimed-in-range (c .held .claimed) in (
+      u,
+      claimed-asked (c .held .claimed),
+      λ a f m. closes-sound u (q .literals-differ) a f (closed→closes t u c) (all-bare u (takenSteps t) (steps-in-range (c .held))) m,
+    )
 
--- ---- proper form under claim 1: behind the claim stand steps and the end
+-- ---- proper form under claim 1
 
-record ProperSteps (b : List ℕ) (u : Question) : Type 0 where
-  claimed : Claimed b (questionForm b) u
-  claims-none : claimsNone claimed ≡ true
-  taken : List (Step × ℕ)
-  formed : Formed b u (λ st c. eqb c 0) (behindClaim claimed) taken none
-
-proper→ : (b : List ℕ) (u : Question) → ProperNo b u → ProperSteps b u
-unfolding formOf
-proper→ b u (w, e) = go (ticket→ former b (questionForm b) e)
+proper-steps : (b : List ℕ) (u : Question) → ProperNo b u → Holding b u true none
+proper-steps b u (w, e) = by-claim (proper→ b u e)
   where
-    go : ReadBehind former b (questionForm b) u (proving w) → ProperSteps b u
-    go (c, true, k, r) =
-        let (_, _, o) = proving-stays (former u) (working (length (u .constraints)) []) (r .steps) (r .model) (r .taken) in
-        record { claimed = c; claims-none = k; taken = r .steps; formed = subst (Formed b u (λ st c. eqb c 0) (behindClaim c) (r .steps)) o (r .formed) }
-    go (c, false, k, r) = absurd (not-proving (taking-ends (former u) (length (u .constraints)) (r .steps) (r .model) (r .taken)))
-      where
-        not-proving : ((l : ℕ) × (proving w ≡ taking l)) ⊎ ((l : ℕ) × (m : List ℤ) × (proving w ≡ modelled l m) × (r .model ≡ some m)) → ⊥
-        not-proving (inl (l, z)) = let z : _≡_ {A = ℕ} 0 1 = cc in omega arith
-        not-proving (inr (l, m, z, _)) = let z : _≡_ {A = ℕ} 0 1 = cc in omega arith
+    by-claim : ReadAs former b u (proving w) → Holding b u true none
+    by-claim (true, o, h, k) = subst (Holding b u true) (proving-stays (former u) (working (length (u .constraints)) []) (takenSteps b) o k .1) h
+    by-claim (false, o, h, k) = absurd (taking-no-walk (former u) (length (u .constraints)) (takenSteps b) o w k)
 
-closed→accepted : (work answer : ℕ) (b : List ℕ) (u : Question) → large work answer ≡ true → ProperSteps b u → WithinLimits u (steps b) → Closes u (u .constraints) (steps b) → verdict work answer b ≡ NoSolution
-closed→accepted work answer b u big p l k =
-    let c : Claimed b (question b) u = form→claimed (l .question) (p .claimed) in
-    let q = claimed-in-range (p .claimed) in
-    let gs = formed-in-range b u (λ st c. eqb c 0) (behindClaim c) (p .taken) none (p .formed) in
-    let same : steps b ≡ bare (p .taken) = ap bare (claimed-steps (p .claimed) ∙ formed-steps b u (λ st c. eqb c 0) (behindClaim c) (p .taken) none (p .formed)) in
-    let walked = closes→walked u (q .head) (u .constraints) (bare (p .taken)) (q .constraints) (all-bare u (p .taken) gs) (subst (Closes u (u .constraints)) same k) in
-    let taken = walked→proved u (q .head) (working (u .constraints) []) (p .taken) (q .constraints, tt) gs (subst (LimitsFrom u (working (u .constraints) [])) same (l .steps)) walked in
-    →verdict work answer b big (→ticket checker b c true (p .taken) none (p .claims-none) (p .formed) taken)
+closes→accepted : (work answer : ℕ) (b : List ℕ) (u : Question) → large work answer ≡ true → Holding b u true none → WithinLimits u (steps b) → Closes u (u .constraints) (steps b) → verdict work answer b ≡ NoSolution
+closes→accepted work answer b u big h l k =
+    let q = claimed-in-range (h .claimed) in
+    let walked = closes→walked u (q .head) (u .constraints) (steps b) (q .constraints) (all-bare u (takenSteps b) (steps-in-range h)) k in
+    →verdict work answer b u true none (proving closed) big (l .question) h (walked→proved u (q .head) (working (u .constraints) []) (takenSteps b) (q .constraints, tt) (steps-in-range h) (l .steps) walked)
 
 pub derivations-exact : TH-2
 derivations-exact work answer t u big proper limits =
-    let p = proper→ t u proper in
-    (accepted→closes p, closed→accepted work answer t u big p limits)
+    let h = proper-steps t u proper in
+    (accepted→closes h, closes→accepted work answer t u big h limits)
   where
-    accepted→closes : ProperSteps t u → verdict work answer t ≡ NoSolution → Closes u (u .constraints) (steps t)
-    accepted→closes p e =
+    accepted→closes : Holding t u true none → verdict work answer t ≡ NoSolution → Closes u (u .constraints) (steps t)
+    accepted→closes h e =
         let (v, c) = accepted→closed work answer t e in
-        let same : v ≡ u = cc (c .asked-is, claimed-asked (p .claimed)) in
-        subst (λ w. Closes w (w .constraints) (steps t)) same (c .closes)
+        let same : v ≡ u = cc (claimed-asked (c .held .claimed), claimed-asked (h .claimed)) in
+        subst (λ w. Closes w (w .constraints) (steps t)) same (closed→closes t v c)

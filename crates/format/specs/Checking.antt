@@ -1,16 +1,17 @@
 -- Checking: "Checking names the first faulty record from 0 (0 for 1 and 2), and there the first of" the numbers 1 to 14.
-use Prim.Native.Nat.{ℕ, _+_, _-_}
+use Prim.Native.Nat.{ℕ, _+_}
 use mathlib.Core.Bool.{Bool, true, false, _&&_, _||_}
 use mathlib.Core.Option.{Option, none, some}
 use mathlib.Core.List.{List, [], _∷_, _++_}
-use lib.ListN.{length, take, getElem?}
+use lib.ListN.{length, take}
 use lib.Dec.{ltb, leb}
-use lib.IntN.{ℤ, pos, natAbs}
+use lib.IntN.{ℤ, natAbs}
 use Rattle.calculus.specs.Limits.{workNumbers, answerBytes, lengthLimit, numberLimit, factLimit, pendingLimit}
 use Rattle.calculus.specs.Facts.{Question, Fact, same, apart, isLiteral, arithmetic, Branch, holds, len}
+use Rattle.calculus.specs.Children.{childAt}
 use Rattle.calculus.specs.Rules as rules
 use Rattle.calculus.specs.Steps.{Step}
-use Rattle.calculus.specs.Walk.{Waiting, working, closed}
+use Rattle.calculus.specs.Walk.{working, closed}
 use Rattle.calculus.specs.Model.{modelOf, valueIn}
 use Rattle.calculus.specs.SaturationTest.{saturated, every}
 use Rattle.calculus.specs.Strings.{strings}
@@ -74,7 +75,7 @@ takenTried br o = need 8 (fits o) (need 9 (factsWithin (orNone o)) (need 10 (roo
 -- the child of number k, from 1; a closing rule has none, so it does not fit under claim 2
 abbrev pub nth : Option (List (List Fact)) → ℕ → Option (List Fact)
 nth none k = none
-nth (some cs) k = getElem? cs (k - 1)
+nth (some cs) k = childAt cs k
 
 -- ---- 12 to 14, at the model
 
@@ -89,7 +90,7 @@ unfoldable pub keeps : List ℤ → Branch → Bool
 keeps m [] = true
 keeps m (f ∷ b) = keepsFact m f && keeps m b
 
--- "14 when a length passes 64"
+-- "14 when a length passes 64"; a negative length is 13 before
 abbrev pub shortLengths : Question → List ℤ → Bool
 shortLengths u m = every (u .p) (λ x. leb (natAbs (modelOf u m len x)) lengthLimit)
 
@@ -134,6 +135,7 @@ pub data Outcome : Type 0 where
 abbrev pub answerOf : Question → Branch → List ℤ → Assignment
 answerOf u br m = record { strs = strings u br m; ints = take (u .q) m }
 
+-- a walk with an open branch or a branch without a model does not come here: 11 stands at its end
 abbrev pub accepted : Question → State Branch (List Fact) → Outcome
 accepted u (proving w) = NoSolution
 accepted u (taking br) = NoSolution

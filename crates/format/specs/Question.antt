@@ -105,11 +105,14 @@ constraintOf b k at m = pick (eqb k 3) (stringFact (u16 b at) (u16 b (at + 2)) (
 
 -- ---- one record
 
--- "They stand in order of kind"; "4 when a kind is unknown or out of its place (a 16th literal .. included)"
+-- "They stand in order of kind"; "4 when a kind is unknown or out of its place (a 16th literal .. included)": kind k behind the kind last
+-- and so many literals
+abbrev pub kindInPlace : ℕ → ℕ → ℕ → Bool
+kindInPlace last literals k =
+    pick (eqb k 1) (eqb last 0) (leb 1 last && (leb 2 k && (leb last k && (leb k 4 && (not (eqb k 2) || ltb literals literalLimit)))))
+
 abbrev pub inPlace : Progress → ℕ → Bool
-inPlace s k =
-    pick (eqb k 1) (eqb (s .last) 0)
-    (leb 1 (s .last) && (leb 2 k && (leb (s .last) k && (leb k 4 && (not (eqb k 2) || ltb (length (s .question .literals)) literalLimit)))))
+inPlace s k = kindInPlace (s .last) (length (s .question .literals)) k
 
 -- the first of 5 to 7 that applies to a body of kind k, of m bytes at a position
 abbrev pub bodyFault : List ℕ → Question → ℕ → ℕ → ℕ → ℕ
@@ -178,8 +181,8 @@ questionForm b = readBy formFault b
 
 abbrev pub asked : Reading → Option Question
 asked (Stopped c r) = none
-asked (Ended s at r) = some (s .question)
+asked (Ended s at r) = pick (leb 1 (s .last)) (some (s .question)) none
 
--- the question that bytes put
+-- the question that bytes put: none without a head
 abbrev pub questionOf : List ℕ → Option Question
 questionOf b = asked (questionForm b)

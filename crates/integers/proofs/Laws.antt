@@ -1,33 +1,118 @@
--- Order, size and floor division on ℤ.
-use mathlib.Core.Path.{_≡_, refl, sym, _∙_, ap, subst}
-use mathlib.Core.Bool.{Bool, true, false, not}
-use Prim.Native.Nat.{ℕ, zero, suc, _+_, _*_, _-_, _/_, _%_, _^_, _≤_, _<_}
+-- Laws of ℤ that the library lacks: sums and products, order, differences, size, and division rounding down.
+use Prim.Native.Nat.{ℕ, zero, suc, _+_, _*_, _/_, _%_, _^_, _≤_, _<_}
 use native.Mathlib.Omega.{arith}
-use native.Mathlib.Nat.{mul-le-mul, mul-le-mul-left, mul-comm, div-add-mod, mod-lt, le-of-mul-le-mul-left, lt-of-mul-lt-mul-left, le-trans, lt-of-le-of-lt}
-use lib.Dec.{T, ltb, leb}
+use native.Mathlib.Nat.{mul-le-mul, mul-le-mul-left, div-add-mod, mod-lt, le-of-mul-le-mul-left, lt-of-mul-lt-mul-left, lt-of-le-of-lt}
+use mathlib.Core.Path.{_≡_, refl, ap}
+use mathlib.Core.Logic.{_≢_, _⊎_, inl, inr}
+use mathlib.Core.Bool.{Bool}
+use lib.Dec.{eqb}
 use lib.IntN.{ℤ, pos, negsuc, negℤ, natAbs, _+ℤ_, _-ℤ_, _*ℤ_}
-use lib.Signed.{mag, _≤ℤ_, _<ℤ_, leZ, ltZ, quotZ, remZ}
-use mathlib.Core.List.{List, [], _∷_, map}
-use lib.ListN.{length, getD, drop, drop-of-length-le}
-use lib.Seq.{drop-cons}
-use native.Mathlib.Numerals.{add-one}
-use mir.Syntax.{Width, w64}
+use lib.Signed.{mag, _≤ℤ_, _<ℤ_, ≤ℤ-refl}
+use mir.Syntax.{Width}
 use mir.Val.{SFits, hbits}
-use Rattle.integers.proofs.Ring.{up, dn, inj, up-le, up-lt, le-up, lt-up, eq-up, add-is, mul-is, up-neg, dn-neg, Expr, v, _⊕_, _⊖_, _⊗_, ⊝, ev, ups, dns, ring, le-by, lt-by, le-of, lt-of, eq-of}
+use Rattle.integers.proofs.Ring.{up, dn, inj, up-le, up-lt, le-up, lt-up, up-neg, dn-neg, Expr, v, _⊕_, _⊖_, _⊗_, ⊝, ev, ups, dns, sound, ring, le-by, lt-by, le-of, lt-of, eq-of}
 
-abbrev pub All : (ℤ → Type 0) → List ℤ → Type 0
-All P [] = Unit {0}
-All P (x ∷ xs) = P x × All P xs
+-- ---- sums and products
 
-unfoldable pub zip+ : List ℤ → List ℤ → List ℤ
-zip+ [] ys = []
-zip+ (x ∷ xs) [] = []
-zip+ (x ∷ xs) (y ∷ ys) = (x +ℤ y) ∷ zip+ xs ys
+pub *ℤ-+ℤ : (a b c : ℤ) → a *ℤ (b +ℤ c) ≡ a *ℤ b +ℤ a *ℤ c
+*ℤ-+ℤ a b c = ring (v a ⊗ (v b ⊕ v c)) (v a ⊗ v b ⊕ v a ⊗ v c) (omega arith)
+
+pub +ℤ-*ℤ : (a b c : ℤ) → (a +ℤ b) *ℤ c ≡ a *ℤ c +ℤ b *ℤ c
++ℤ-*ℤ a b c = ring ((v a ⊕ v b) ⊗ v c) (v a ⊗ v c ⊕ v b ⊗ v c) (omega arith)
+
+pub *ℤ-assoc : (a b c : ℤ) → (a *ℤ b) *ℤ c ≡ a *ℤ (b *ℤ c)
+*ℤ-assoc a b c = ring (v a ⊗ v b ⊗ v c) (v a ⊗ (v b ⊗ v c)) (omega arith)
+
+pub interchange : (a b c d : ℤ) → (a +ℤ b) +ℤ (c +ℤ d) ≡ (a +ℤ c) +ℤ (b +ℤ d)
+interchange a b c d = ring (v a ⊕ v b ⊕ (v c ⊕ v d)) (v a ⊕ v c ⊕ (v b ⊕ v d)) (omega arith)
+
+pub one-*ℤ : (a : ℤ) → pos 1 *ℤ a ≡ a
+one-*ℤ a = ring (v (pos 1) ⊗ v a) (v a) (omega arith)
+
+pub *ℤ-one : (a : ℤ) → a *ℤ pos 1 ≡ a
+*ℤ-one a = ring (v a ⊗ v (pos 1)) (v a) (omega arith)
+
+pub minus-one-*ℤ : (a : ℤ) → negsuc 0 *ℤ a ≡ negℤ a
+minus-one-*ℤ a = ring (v (negsuc 0) ⊗ v a) (⊝ (v a)) (omega arith)
+
+pub pos-injective : {m n : ℕ} → pos m ≡ pos n → m ≡ n
+pos-injective e = ap natAbs e
+
+-- ---- order
+
+pub pos-≤ℤ : {m n : ℕ} → m ≤ n → pos m ≤ℤ pos n
+pos-≤ℤ h = up-le (omega arith)
+
+pub ≤ℤ-pos : {m n : ℕ} → pos m ≤ℤ pos n → m ≤ n
+≤ℤ-pos h = omega (arith, le-up h)
+
+pub ≤ℤ-antisym : {a b : ℤ} → a ≤ℤ b → b ≤ℤ a → a ≡ b
+≤ℤ-antisym {a} {b} h g = inj a b (omega (arith, le-up h, le-up g))
+
+pub ≤ℤ-trans : {a b c : ℤ} → a ≤ℤ b → b ≤ℤ c → a ≤ℤ c
+≤ℤ-trans h k = omega (arith, le-up, up-le)
+
+pub ≤ℤ-<ℤ-trans : {a b c : ℤ} → a ≤ℤ b → b <ℤ c → a <ℤ c
+≤ℤ-<ℤ-trans {a} {b} {c} h g = up-lt (omega (arith, le-up h, lt-up g))
+
+pub lt-suc : {a b : ℤ} → a <ℤ (b +ℤ pos 1) → a ≤ℤ b
+lt-suc {a} {b} h = up-le (omega (arith, lt-of (v a) (v b ⊕ v (pos 1)) h))
+
+pub +ℤ-mono : {a b c d : ℤ} → a ≤ℤ b → c ≤ℤ d → (a +ℤ c) ≤ℤ (b +ℤ d)
++ℤ-mono {a} {b} {c} {d} h k = le-by (v a ⊕ v c) (v b ⊕ v d) (omega (arith, le-up))
+
+pub *ℤ-mono : (d : ℤ) {a b : ℤ} → pos 0 ≤ℤ d → a ≤ℤ b → (d *ℤ a) ≤ℤ (d *ℤ b)
+*ℤ-mono d {a} {b} h k = le-by (v d ⊗ v a) (v d ⊗ v b) (go d h)
+  where
+    go : (d : ℤ) → pos 0 ≤ℤ d → ups (v d ⊗ v a) + dns (v d ⊗ v b) ≤ ups (v d ⊗ v b) + dns (v d ⊗ v a)
+    go (pos n) h = omega (arith, mul-le-mul-left n (le-up k))
+    go (negsuc n) h = absurd (h .le)
+
+-- a positive factor cancels
+pub *ℤ-pos-lt : (n : ℕ) {a b : ℤ} → (pos n *ℤ a) <ℤ (pos n *ℤ b) → a <ℤ b
+*ℤ-pos-lt n {a} {b} h = up-lt (lt-of-mul-lt-mul-left n (omega (arith, lt-of (v (pos n) ⊗ v a) (v (pos n) ⊗ v b) h)))
+
+-- ---- differences
+
+pub -ℤ-zero→ : {a b : ℤ} → a -ℤ b ≡ pos 0 → a ≡ b
+-ℤ-zero→ {a} {b} e = inj a b (omega (arith, eq-of (v a ⊖ v b) (v (pos 0)) e))
+
+pub →-ℤ-zero : {a b : ℤ} → a ≡ b → a -ℤ b ≡ pos 0
+→-ℤ-zero {a} {b} e = ring (v a ⊖ v b) (v (pos 0)) (omega (arith, eq-of (v a) (v b) e))
+
+pub -ℤ-nonneg→ : {a b : ℤ} → pos 0 ≤ℤ (a -ℤ b) → b ≤ℤ a
+-ℤ-nonneg→ {a} {b} h = up-le (omega (arith, le-of (v (pos 0)) (v a ⊖ v b) h))
+
+pub →-ℤ-nonneg : {a b : ℤ} → b ≤ℤ a → pos 0 ≤ℤ (a -ℤ b)
+→-ℤ-nonneg {a} {b} h = le-by (v (pos 0)) (v a ⊖ v b) (omega (arith, le-up h))
+
+pub neg-nonneg→ : {a : ℤ} → pos 0 ≤ℤ negℤ a → a ≤ℤ pos 0
+neg-nonneg→ {a} h = up-le (omega (arith, le-of (v (pos 0)) (⊝ (v a)) h))
+
+-- z or -z - 1 is not negative; of a nonzero z, z - 1 or -z - 1
+
+pub split-cases : (z : ℤ) → (pos 0 ≤ℤ z) ⊎ (pos 0 ≤ℤ (negℤ z -ℤ pos 1))
+split-cases (pos n) = inl (up-le (omega arith))
+split-cases (negsuc n) = inr (le-by (v (pos 0)) (⊝ (v (negsuc n)) ⊖ v (pos 1)) (omega arith))
+
+pub apart-cases : (z : ℤ) → z ≢ pos 0 → (pos 0 ≤ℤ (z -ℤ pos 1)) ⊎ (pos 0 ≤ℤ (negℤ z -ℤ pos 1))
+apart-cases (pos zero) h = absurd (h refl)
+apart-cases (pos (suc n)) h = inl (le-by (v (pos 0)) (v (pos (suc n)) ⊖ v (pos 1)) (omega arith))
+apart-cases (negsuc n) h = inr (le-by (v (pos 0)) (⊝ (v (negsuc n)) ⊖ v (pos 1)) (omega arith))
 
 -- ---- size: |z| is up z + dn z
+
 pub abs-is : (z : ℤ) → natAbs z ≡ up z + dn z
 abs-is (pos n) = omega arith
 abs-is (negsuc n) = omega arith
+
+pub abs-nonneg : (z : ℤ) → pos 0 ≤ℤ z → z ≡ pos (natAbs z)
+abs-nonneg (pos n) h = refl
+abs-nonneg (negsuc n) h = absurd (h .le)
+
+pub ≤ℤ-abs : (z : ℤ) {n : ℕ} → pos n ≤ℤ z → n ≤ natAbs z
+≤ℤ-abs (pos a) h = ≤ℤ-pos h
+≤ℤ-abs (negsuc a) h = absurd (h .le)
 
 pub abs-of : (z : ℤ) {n : ℕ} → up z ≤ n → dn z ≤ n → natAbs z ≤ n
 abs-of (pos a) h k = h
@@ -50,28 +135,25 @@ mag-abs (negsuc n) = omega arith
 
 -- the two natural numbers of any expression bound what it comes to
 pub abs-ev : (e : Expr) {n : ℕ} → ups e ≤ n → dns e ≤ n → natAbs (ev e) ≤ n
-abs-ev e {n} h k = abs-of (ev e) (small e h k .0) (small e h k .1)
+abs-ev e {n} h k = abs-of (ev e) (small .0) (small .1)
   where
-    one-zero : (z : ℤ) (p q n : ℕ) → up z + q ≡ p + dn z → p ≤ n → q ≤ n → (up z ≤ n) × (dn z ≤ n)
-    one-zero (pos a) p q n s f g = (omega arith, omega arith)
-    one-zero (negsuc a) p q n s f g = (omega arith, omega arith)
+    one-zero : (z : ℤ) (p q : ℕ) → up z + q ≡ p + dn z → p ≤ n → q ≤ n → (up z ≤ n) × (dn z ≤ n)
+    one-zero (pos a) p q s f g = (omega arith, omega arith)
+    one-zero (negsuc a) p q s f g = (omega arith, omega arith)
 
-    small : (e : Expr) → ups e ≤ n → dns e ≤ n → (up (ev e) ≤ n) × (dn (ev e) ≤ n)
-    small e f g = one-zero (ev e) (ups e) (dns e) n (Rattle.integers.proofs.Ring.sound e) f g
+    small : (up (ev e) ≤ n) × (dn (ev e) ≤ n)
+    small = one-zero (ev e) (ups e) (dns e) (sound e) h k
 
 pub abs-+ : (a b : ℤ) → natAbs (a +ℤ b) ≤ natAbs a + natAbs b
 abs-+ a b = abs-ev (v a ⊕ v b) (omega (arith, up-abs a, up-abs b)) (omega (arith, dn-abs a, dn-abs b))
 
+pub abs-neg : (z : ℤ) → natAbs (negℤ z) ≡ natAbs z
+abs-neg z = omega (arith, abs-is z, abs-is (negℤ z), up-neg z, dn-neg z)
+
 pub abs-* : (a b : ℤ) → natAbs (a *ℤ b) ≡ natAbs a * natAbs b
 abs-* (pos a) (pos b) = refl
 abs-* (pos a) (negsuc b) = abs-neg (pos (a * suc b))
-  where
-    abs-neg : (z : ℤ) → natAbs (negℤ z) ≡ natAbs z
-    abs-neg z = omega (arith, abs-is z, abs-is (negℤ z), up-neg z, dn-neg z)
 abs-* (negsuc a) (pos b) = abs-neg (pos (suc a * b))
-  where
-    abs-neg : (z : ℤ) → natAbs (negℤ z) ≡ natAbs z
-    abs-neg z = omega (arith, abs-is z, abs-is (negℤ z), up-neg z, dn-neg z)
 abs-* (negsuc a) (negsuc b) = refl
 
 pub abs-*-le : (a b : ℤ) {m n : ℕ} → natAbs a ≤ m → natAbs b ≤ n → natAbs (a *ℤ b) ≤ m * n
@@ -84,47 +166,37 @@ abs-+-le a b h k = omega (arith, abs-+ a b)
 pub sfits-abs : {w : Width} (z : ℤ) → natAbs z < 2 ^ hbits w → SFits w z
 sfits-abs z h = record { sfits = lt-of-le-of-lt (mag-abs z) h }
 
--- ---- order and products
-pub *ℤ-mono : (d : ℤ) {a b : ℤ} → pos 0 ≤ℤ d → a ≤ℤ b → (d *ℤ a) ≤ℤ (d *ℤ b)
-*ℤ-mono d {a} {b} h k = le-by (v d ⊗ v a) (v d ⊗ v b) (go d h)
-  where
-    go : (d : ℤ) → pos 0 ≤ℤ d → ups (v d ⊗ v a) + dns (v d ⊗ v b) ≤ ups (v d ⊗ v b) + dns (v d ⊗ v a)
-    go (pos n) h = omega (arith, mul-le-mul-left n (le-up k))
-    go (negsuc n) h = absurd (h .le)
+-- ---- division by a natural d, rounding down: the greatest q with d q ≤ z
 
--- a positive factor cancels
-pub *ℤ-pos-lt : (n : ℕ) {a b : ℤ} → (pos n *ℤ a) <ℤ (pos n *ℤ b) → a <ℤ b
-*ℤ-pos-lt n {a} {b} h = up-lt (lt-of-mul-lt-mul-left n (omega (arith, lt-of (v (pos n) ⊗ v a) (v (pos n) ⊗ v b) h)))
-
-pub lt-suc : {a b : ℤ} → a <ℤ (b +ℤ pos 1) → a ≤ℤ b
-lt-suc {a} {b} h = up-le (omega (arith, lt-of (v a) (v b ⊕ v (pos 1)) h))
-
--- ---- floor division by a natural d: the greatest q with d q ≤ z
 abbrev pub floorZ : ℤ → ℕ → ℤ
 floorZ (pos a) d = pos (a / d)
 floorZ (negsuc a) d = negsuc (a / d)
 
 pub floor-low : (z : ℤ) (d : ℕ) → 0 < d → (pos d *ℤ floorZ z d) ≤ℤ z
 floor-low (pos a) d h = le-by (v (pos d) ⊗ v (pos (a / d))) (v (pos a)) (omega (arith, div-add-mod a d))
-floor-low (negsuc a) d h =
-    le-by (v (pos d) ⊗ v (negsuc (a / d))) (v (negsuc a)) (omega (arith, div-add-mod a d, mod-lt a h))
+floor-low (negsuc a) d h = le-by (v (pos d) ⊗ v (negsuc (a / d))) (v (negsuc a)) (omega (arith, div-add-mod a d, mod-lt a h))
 
 pub floor-high : (z : ℤ) (d : ℕ) → 0 < d → z <ℤ (pos d *ℤ (floorZ z d +ℤ pos 1))
-floor-high (pos a) d h =
-    lt-by (v (pos a)) (v (pos d) ⊗ (v (pos (a / d)) ⊕ v (pos 1))) (omega (arith, div-add-mod a d, mod-lt a h))
-floor-high (negsuc a) d h =
-    lt-by (v (negsuc a)) (v (pos d) ⊗ (v (negsuc (a / d)) ⊕ v (pos 1))) (omega (arith, div-add-mod a d))
+floor-high (pos a) d h = lt-by (v (pos a)) (v (pos d) ⊗ (v (pos (a / d)) ⊕ v (pos 1))) (omega (arith, div-add-mod a d, mod-lt a h))
+floor-high (negsuc a) d h = lt-by (v (negsuc a)) (v (pos d) ⊗ (v (negsuc (a / d)) ⊕ v (pos 1))) (omega (arith, div-add-mod a d))
 
--- d s + k ≥ 0 gives s + floor (k / d) ≥ 0: a bound is tightened to the next integer
-pub tighten : (s k : ℤ) (d : ℕ) → 0 < d → pos 0 ≤ℤ (pos d *ℤ s +ℤ k) → pos 0 ≤ℤ (s +ℤ floorZ k d)
-tighten s k d h p =
-    lt-suc (*ℤ-pos-lt d
-    (lt-by (v (pos d) ⊗ v (pos 0)) (v (pos d) ⊗ (v s ⊕ v (floorZ k d) ⊕ v (pos 1)))
-    (omega (arith, le-of (v (pos 0)) (v (pos d) ⊗ v s ⊕ v k) p, lt-of (v k) (v (pos d) ⊗ (v (floorZ k d) ⊕ v (pos 1))) (floor-high k d h)))))
+-- d q ≤ z < d (q + 1) for one q only
+pub floor-unique : (z : ℤ) (d : ℕ) (q : ℤ) → 0 < d → (pos d *ℤ q) ≤ℤ z → z <ℤ (pos d *ℤ (q +ℤ pos 1)) → floorZ z d ≡ q
+floor-unique z d q h low high = ≤ℤ-antisym (lt-suc (*ℤ-pos-lt d (≤ℤ-<ℤ-trans (floor-low z d h) high))) (lt-suc (*ℤ-pos-lt d (≤ℤ-<ℤ-trans low (floor-high z d h))))
+
+pub floor-multiple : (z : ℤ) (d : ℕ) → 0 < d → floorZ (pos d *ℤ z) d ≡ z
+floor-multiple z d h = floor-unique (pos d *ℤ z) d z h (≤ℤ-refl (pos d *ℤ z)) (lt-by (v (pos d) ⊗ v z) (v (pos d) ⊗ (v z ⊕ v (pos 1))) (omega arith))
+
+-- a bound is tightened to the next integer
+pub tighten : (d : ℕ) (s k q : ℤ) → k <ℤ (pos d *ℤ (q +ℤ pos 1)) → pos 0 ≤ℤ (k +ℤ pos d *ℤ s) → pos 0 ≤ℤ (q +ℤ s)
+tighten d s k q h p = lt-suc (*ℤ-pos-lt d
+    (lt-by (v (pos d) ⊗ v (pos 0)) (v (pos d) ⊗ (v q ⊕ v s ⊕ v (pos 1)))
+    (omega (arith, le-of (v (pos 0)) (v k ⊕ v (pos d) ⊗ v s) p, lt-of (v k) (v (pos d) ⊗ (v q ⊕ v (pos 1))) h))))
 
 -- ---- exact division
+
 abbrev pub divides : ℕ → ℤ → Bool
-divides d z = lib.Dec.eqb (natAbs z % d) 0
+divides d z = eqb (natAbs z % d) 0
 
 up-one : (a d : ℕ) → 0 < d → suc a % d ≡ 0 → d * suc (a / d) ≡ suc a
 up-one a d h e =
@@ -136,56 +208,4 @@ up-one a d h e =
 
 pub floor-exact : (z : ℤ) (d : ℕ) → 0 < d → natAbs z % d ≡ 0 → pos d *ℤ floorZ z d ≡ z
 floor-exact (pos a) d h e = ring (v (pos d) ⊗ v (pos (a / d))) (v (pos a)) (omega (arith, div-add-mod a d))
-floor-exact (negsuc a) d h e =
-    ring (v (pos d) ⊗ v (negsuc (a / d))) (v (negsuc a)) (omega (arith, up-one a d h e))
-
--- ---- linear forms: Σ c x over two lists, as long as the shorter
-unfoldable pub dot : List ℤ → List ℤ → ℤ
-dot [] xs = pos 0
-dot (c ∷ cs) [] = pos 0
-dot (c ∷ cs) (x ∷ xs) = c *ℤ x +ℤ dot cs xs
-
-pub dot-scale : (k : ℤ) (cs xs : List ℤ) → dot (map (λ c. k *ℤ c) cs) xs ≡ k *ℤ dot cs xs
-unfolding dot
-dot-scale k [] xs = ring (v (pos 0)) (v k ⊗ v (pos 0)) (omega arith)
-dot-scale k (c ∷ cs) [] = ring (v (pos 0)) (v k ⊗ v (pos 0)) (omega arith)
-dot-scale k (c ∷ cs) (x ∷ xs) =
-    ap (λ (y : ℤ). k *ℤ c *ℤ x +ℤ y) (dot-scale k cs xs)
-    ∙ ring (v k ⊗ v c ⊗ v x ⊕ v k ⊗ v (dot cs xs)) (v k ⊗ (v c ⊗ v x ⊕ v (dot cs xs))) (omega arith)
-
--- one column more, and none left, as a loop takes them
-pub dot-step : (cs xs : List ℤ) (j i : ℕ) → j < length cs → i < length xs
-    → dot (drop j cs) (drop i xs) ≡ getD cs j (pos 0) *ℤ getD xs i (pos 0) +ℤ dot (drop (j + 1) cs) (drop (i + 1) xs)
-unfolding dot
-dot-step cs xs j i h k = rw (drop-cons cs j (pos 0), drop-cons xs i (pos 0), add-one, add-one)
-
-pub dot-end : (cs xs : List ℤ) (j i : ℕ) → length cs ≤ j → dot (drop j cs) (drop i xs) ≡ pos 0
-unfolding dot
-dot-end cs xs j i h = rw (drop-of-length-le cs h)
-
-pub dot-add : (a b xs : List ℤ) → length a ≡ length b → dot (zip+ a b) xs ≡ dot a xs +ℤ dot b xs
-unfolding dot zip+
-dot-add [] [] xs h = refl
-dot-add [] (y ∷ b) xs h = absurd (omega arith)
-dot-add (x ∷ a) [] xs h = absurd (omega arith)
-dot-add (x ∷ a) (y ∷ b) [] h = refl
-dot-add (x ∷ a) (y ∷ b) (z ∷ xs) h =
-    ap (λ (w : ℤ). (x +ℤ y) *ℤ z +ℤ w) (dot-add a b xs (omega arith))
-    ∙ ring ((v x ⊕ v y) ⊗ v z ⊕ (v (dot a xs) ⊕ v (dot b xs))) (v x ⊗ v z ⊕ v (dot a xs) ⊕ (v y ⊗ v z ⊕ v (dot b xs))) (omega arith)
-
--- every number of cs divided, where d divides each
-pub dot-floor : (d : ℕ) (cs xs : List ℤ) → 0 < d → All (λ c. natAbs c % d ≡ 0) cs
-    → dot cs xs ≡ pos d *ℤ dot (map (λ c. floorZ c d) cs) xs
-unfolding dot
-dot-floor d [] xs h all = ring (v (pos 0)) (v (pos d) ⊗ v (pos 0)) (omega arith)
-dot-floor d (c ∷ cs) [] h all = ring (v (pos 0)) (v (pos d) ⊗ v (pos 0)) (omega arith)
-dot-floor d (c ∷ cs) (x ∷ xs) h all =
-    ap (λ (y : ℤ). c *ℤ x +ℤ y) (dot-floor d cs xs h (all .1))
-    ∙ ap (λ (y : ℤ). y *ℤ x +ℤ pos d *ℤ dot (map (λ c. floorZ c d) cs) xs) (sym (floor-exact c d h (all .0)))
-    ∙ ring (v (pos d) ⊗ v (floorZ c d) ⊗ v x ⊕ v (pos d) ⊗ v (dot (map (λ c. floorZ c d) cs) xs))
-    (v (pos d) ⊗ (v (floorZ c d) ⊗ v x ⊕ v (dot (map (λ c. floorZ c d) cs) xs))) (omega arith)
-
--- rule 1's division: Σ c x + k ≥ 0 with d dividing every c gives Σ (c / d) x + floor (k / d) ≥ 0
-pub divided-holds : (d : ℕ) (cs xs : List ℤ) (k : ℤ) → 0 < d → All (λ c. natAbs c % d ≡ 0) cs
-    → pos 0 ≤ℤ (dot cs xs +ℤ k) → pos 0 ≤ℤ (dot (map (λ c. floorZ c d) cs) xs +ℤ floorZ k d)
-divided-holds d cs xs k h all p = tighten (dot (map (λ c. floorZ c d) cs) xs) k d h (rw (dot-floor d cs xs h all) at p)
+floor-exact (negsuc a) d h e = ring (v (pos d) ⊗ v (negsuc (a / d))) (v (negsuc a)) (omega (arith, up-one a d h e))

@@ -1,11 +1,11 @@
--- What the machine asks and tells of signed integers. A signed local holds bits, so each value stands as  toZ w (ofZ w z);  `back` takes that away where z fits.
-use mathlib.Core.Path.{_≡_, refl, sym, _∙_, ap, ap₂, subst}
-use mathlib.Core.Bool.{Bool, true, false, not}
-use Prim.Native.Nat.{ℕ, zero, suc, _+_, _*_, _-_, _/_, _%_, _^_, _≤_, _<_}
+-- What the machine asks and tells of signed integers: a signed local holds bits, so that its value stands as `toZ w (ofZ w z)`, which is z where z fits.
+use Prim.Native.Nat.{ℕ, zero, suc, _-_, _/_, _%_, _^_, _≤_, _<_}
 use native.Mathlib.Omega.{arith}
-use native.Mathlib.Nat.{div-le-self, mod-lt, mod-le}
-use lib.Dec.{T, ltb, leb, eqb}
-use lib.IntN.{ℤ, pos, negsuc, negℤ, natAbs, _+ℤ_, _-ℤ_, _*ℤ_}
+use native.Mathlib.Nat.{div-le-self, mod-le}
+use mathlib.Core.Path.{_≡_, refl, sym, _∙_, ap, subst}
+use mathlib.Core.Bool.{Bool, true, false, not}
+use lib.Dec.{T, eqb, leb→le, lt→ltb, nleb→lt}
+use lib.IntN.{ℤ, pos, negsuc, negℤ, natAbs, _+ℤ_, _-ℤ_}
 use lib.Signed.{mag, _≤ℤ_, _<ℤ_, leZ, ltZ, quotZ, remZ, leZ-yes, ltZ-yes, ltZ-no}
 use mir.Syntax.{Width, w32, w64}
 use mir.Val.{SFits, hbits, bits, toZ, ofZ}
@@ -30,7 +30,7 @@ quot-fits x (pos b) fx h = sfits-le (mag-quot x b) fx
 quot-fits x (negsuc b) fx h = absurd (h .le)
 
 pub bits-pos : (w : Width) (d : ℤ) → pos 1 ≤ℤ d → 0 < ofZ w d
-bits-pos w (pos b) h = omega (arith, lib.Dec.leb→le 1 b (h .le))
+bits-pos w (pos b) h = omega (arith, leb→le 1 b (h .le))
 bits-pos w (negsuc b) h = absurd (h .le)
 
 pub div-need : (w : Width) (x d : ℤ) → SFits w x → SFits w d → pos 1 ≤ℤ d
@@ -100,10 +100,10 @@ module _ {w : Width} {x y : ℤ} (fx : SFits w x) (fy : SFits w y) where
   le-false e = nle x y (subst (λ (t : Bool). T (not t)) (sym (rw (toZ-ofZ fx, toZ-ofZ fy) at e)) tt)
     where
       nle : (x y : ℤ) → T (not (leZ x y)) → y <ℤ x
-      nle (pos a) (pos b) t = record { lt = lib.Dec.lt→ltb b a (lib.Dec.nleb→lt a b t) }
+      nle (pos a) (pos b) t = record { lt = lt→ltb b a (nleb→lt a b t) }
       nle (pos a) (negsuc b) t = record { lt = tt }
       nle (negsuc a) (pos b) t = absurd t
-      nle (negsuc a) (negsuc b) t = record { lt = lib.Dec.lt→ltb a b (lib.Dec.nleb→lt b a t) }
+      nle (negsuc a) (negsuc b) t = record { lt = lt→ltb a b (nleb→lt b a t) }
 
 -- ---- bits read as signed, below and above the middle
 pub toZ-low : (w : Width) (n : ℕ) → n < 2 ^ hbits w → toZ w n ≡ pos n

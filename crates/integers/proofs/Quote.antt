@@ -1,9 +1,9 @@
 -- Expressions found by `search`: bind each unknown once, `let qa = atom a in let qb = atom b in ring-q (search quotes) (search quotes) (omega arith)`. A deep term wants `search quotes depth 9`.
-use mathlib.Core.Path.{_≡_, refl, sym, _∙_, subst}
 use Prim.Native.Nat.{ℕ, _+_, _≤_, _<_}
+use mathlib.Core.Path.{_≡_, refl, sym, _∙_, subst}
 use lib.IntN.{ℤ, pos, negsuc, negℤ, _+ℤ_, _*ℤ_}
 use lib.Signed.{_≤ℤ_, _<ℤ_}
-use Rattle.integers.proofs.Ring.{Expr, v, _⊕_, _⊖_, _⊗_, ⊝, ev, ups, dns, ring, le-by, lt-by, le-of, lt-of, eq-of}
+use Rattle.integers.proofs.Ring.{Expr, v, _⊕_, _⊗_, ⊝, ev, ups, dns, ring, le-by, lt-by, le-of, eq-of}
 
 pub record Quoted (z : ℤ) : Type 0 where
   pub expr : Expr

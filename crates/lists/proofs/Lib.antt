@@ -1,0 +1,6 @@
+pub mod Tests
+pub mod Options
+pub mod Lists
+pub mod Filled
+pub mod Every
+pub mod Stores

@@ -1,1 +1,1 @@
-// Laws of lists, for other crates: see specs/ and proofs/.
+// Laws of lists, options and tests, for other crates: see specs/ and proofs/.

@@ -1,0 +1,38 @@
+-- Small cases, computed: rounding, multipliers, Card's bound, classes through literals, different variables, and the facts that a sibling starts with.
+use mathlib.Core.Path.{_≡_, refl}
+use mathlib.Core.Logic.{inl, inr}
+use mathlib.Core.Option.{none, some}
+use mathlib.Core.List.{[], _∷_, _++_}
+use lib.IntN.{pos, negsuc}
+use Rattle.calculus.specs.Rows.{zeros}
+use Rattle.calculus.specs.Facts.{Question, same, isLiteral, arithmetic, ge}
+use Rattle.calculus.specs.Chains.{here, along, back, OneClass}
+use Rattle.calculus.specs.Steps.{Sum, CInj}
+use Rattle.calculus.specs.Rules.{logUp, children}
+use Rattle.calculus.specs.Children.{one}
+use Rattle.calculus.specs.Walk.{working, enter}
+
+-- one integer variable a, two string variables, 2a − 1 ≥ 0
+abbrev small : Question
+small = record { n = 2; p = 2; q = 1; literals = []; constraints = arithmetic ge (negsuc 0 ∷ pos 2 ∷ zeros 47) ∷ [] }
+
+-- "2a−1 ≥ 0 over divisor 2 is a−1 ≥ 0"
+rounds-down : children small (small .constraints) (Sum 2 ((0, pos 1) ∷ [])) ≡ some (one (arithmetic ge (negsuc 0 ∷ pos 1 ∷ zeros 47)))
+rounds-down = refl
+
+negative-multiplier : children small (small .constraints) (Sum 1 ((0, negsuc 0) ∷ [])) ≡ none
+negative-multiplier = refl
+
+one-variable : children small [] (CInj 0 0) ≡ none
+one-variable = refl
+
+-- "four strings of length 2 exist over two characters"
+four-strings : logUp 4 2 4 0 ≡ 2
+four-strings = refl
+
+through-a-literal : OneClass (isLiteral 0 1 ∷ isLiteral 1 1 ∷ []) 0 1
+through-a-literal = along (inl (refl, refl)) (back (inr (inl (refl, refl))) here)
+
+-- the second child starts at the mark, without the facts of the first
+siblings : enter _++_ [] ((same 0 1 ∷ []) ∷ (isLiteral 0 0 ∷ []) ∷ []) [] ≡ working (same 0 1 ∷ []) (record { mark = []; child = isLiteral 0 0 ∷ []; rest = [] } ∷ [])
+siblings = refl

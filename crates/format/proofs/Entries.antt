@@ -1,0 +1,181 @@
+-- A record of a question that has no fault of its form: a head, a literal or a constraint, each of which leaves the question in range.
+use Prim.Native.Nat.{ℕ, zero, suc, _+_, _*_, _-_, _/_, _%_, _<_, _≤_}
+use native.Mathlib.Omega.{arith}
+use mathlib.Core.Path.{_≡_, refl, sym, ap}
+use mathlib.Core.Logic.{_≢_, inl, inr}
+use mathlib.Core.Bool.{Bool, true, false, not, _&&_, _||_}
+use mathlib.Core.List.{List, [], _∷_, _++_}
+use lib.ListN.{length, length-append}
+use lib.Dec.{ltb, leb, eqb}
+use borrow.Author.Tests.{ltb-true, leb-true, eqb-true, eqb-false, not-true}
+use Rattle.lists.specs.Lists.{All, NotIn, Distinct}
+use Rattle.lists.proofs.Lists.{all-map, all-append, In}
+use Rattle.calculus.specs.Limits.{alphabetLimit, variableLimit, literalLimit, lengthLimit}
+use Rattle.calculus.specs.Alphabet.{Over, allCharacters}
+use Rattle.calculus.specs.Facts.{Question, Fact, same, apart, isLiteral, arithmetic}
+use Rattle.calculus.specs.Instances.{HeadInRange, FactInRange, FactsInRange}
+use Rattle.calculus.specs.Strings.{given}
+use Rattle.format.specs.Fields.{pick, u16, u32, u32s}
+use Rattle.format.specs.Records.{size, kind, whole, need}
+use Rattle.format.specs.Question.{Progress, withLiteral, withFact, headRange, headFault, headOf, textOf, literalFault, stringRange, stringFact, stringFault, columnCount, formOf, relationOf, arithmeticFault, inPlace, bodyFault, formFault, advanced}
+use Rattle.format.proofs.Faults.{none-applies, and-true, not-both}
+use Rattle.format.proofs.Texts.{→given}
+use Rattle.format.proofs.Fields.{length-u32s, length-form}
+
+-- ---- lists
+
+notin-snoc : (x s : List ℕ) (ss : List (List ℕ)) → NotIn x ss → x ≢ s → NotIn x (ss ++ (s ∷ []))
+notin-snoc x s [] h f = (f, tt)
+notin-snoc x s (t ∷ ss) h f = (h .0, notin-snoc x s ss (h .1) f)
+
+distinct-snoc : (s : List ℕ) (ss : List (List ℕ)) → Distinct ss → (In s ss → ⊥) → Distinct (ss ++ (s ∷ []))
+distinct-snoc s [] d f = (tt, tt)
+distinct-snoc s (t ∷ ss) d f = (notin-snoc t s ss (d .0) (λ e. f (inl (sym e))), distinct-snoc s ss (d .1) (λ i. f (inr i)))
+
+pub over-all : (n : ℕ) (s : List ℕ) → allCharacters n s ≡ true → Over n s
+unfolding allCharacters
+over-all n [] e = tt
+over-all n (c ∷ s) e = let (h, g) = and-true _ _ e in (ltb-true c n h, over-all n s g)
+
+not-empty : (b : List ℕ) (at k : ℕ) → 1 ≤ k → [] ≢ u32s b at k
+not-empty b at k h e = omega (arith, ap length e, length-u32s b at k)
+
+-- ---- the question
+
+-- what the numbers 4 to 7 leave of a question
+pub record QuestionInRange (u : Question) : Type 0 where
+  pub head : HeadInRange u
+  pub constraints : FactsInRange u (u .constraints)
+  pub literals-differ : Distinct ([] ∷ u .literals)
+  pub literals-over : All (Over (u .n)) (u .literals)
+
+head-in-range : (b : List ℕ) (at m : ℕ) → headFault b at m ≡ 0 → QuestionInRange (headOf b at)
+head-in-range b at m e =
+    let t6 = none-applies _ _ _ (none-applies 4 (eqb m 8) (need 6 (headRange b at) 0) e .1) .0 in
+    let (n, rest) = and-true (leb 1 (u32 b at)) (leb (u32 b at) alphabetLimit && (leb (u16 b (at + 4)) variableLimit && leb (u16 b (at + 6)) variableLimit)) t6 in
+    let (p, q) = and-true (leb (u16 b (at + 4)) variableLimit) (leb (u16 b (at + 6)) variableLimit) (and-true (leb (u32 b at) alphabetLimit) _ rest .1) in
+    record {
+      head = record {
+        alphabet = leb-true _ _ n;
+        strings = leb-true _ _ p;
+        integers = leb-true _ _ q;
+        literals = omega arith;
+      };
+      constraints = tt;
+      literals-differ = (tt, tt);
+      literals-over = tt;
+    }
+
+-- a fact in range before a further literal is in range after it
+still-in-range : (u : Question) (s : List ℕ) (f : Fact) → FactInRange u f → FactInRange (withLiteral u s) f
+still-in-range u s (same x y) h = h
+still-in-range u s (apart x y) h = h
+still-in-range u s (isLiteral x l) h = (h .0, omega (arith, length-append (u .literals) (s ∷ []), h .1))
+still-in-range u s (arithmetic r e) h = h
+
+literal-in-range : (b : List ℕ) (u : Question) (at m : ℕ) → QuestionInRange u → length (u .literals) < literalLimit → literalFault b (u .n) (u .literals) at m ≡ 0 → QuestionInRange (withLiteral u (textOf b at m))
+literal-in-range b u at m d few e =
+    let s : List ℕ = textOf b at m in
+    let a5 = none-applies 4 (leb 4 m && (leb m (4 * lengthLimit) && eqb (m % 4) 0)) (need 6 (allCharacters (u .n) s) (need 7 (not (given s (u .literals))) 0)) e in
+    let a6 = none-applies 5 (allCharacters (u .n) s) (need 7 (not (given s (u .literals))) 0) (a5 .1) in
+    let a7 = none-applies 6 (not (given s (u .literals))) 0 (a6 .1) in
+    let four : 4 ≤ m = leb-true _ _ (and-true _ _ (a5 .0) .0) in
+    let one : 1 ≤ m / 4 = omega arith in
+    record {
+      head = record {
+        alphabet = d .head .alphabet;
+        strings = d .head .strings;
+        integers = d .head .integers;
+        literals = omega (arith, length-append (u .literals) (textOf b at m ∷ []));
+      };
+      constraints = all-map (u .constraints) (still-in-range u (textOf b at m)) (d .constraints);
+      literals-differ = (
+        notin-snoc [] (textOf b at m) (u .literals) (d .literals-differ .0) (not-empty b at (m / 4) one),
+        distinct-snoc (textOf b at m) (u .literals) (d .literals-differ .1) (λ i. not-both (given s (u .literals)) (→given s (u .literals) i) (not-true (given s (u .literals)) (a7 .0))),
+      );
+      literals-over = all-append (Over (u .n)) (u .literals) (textOf b at m ∷ []) (d .literals-over) (over-all (u .n) (textOf b at m) (a6 .0), tt);
+    }
+
+-- a constraint more changes no range
+same-range : (u : Question) (g f : Fact) → FactInRange u f → FactInRange (withFact u g) f
+same-range u g (same x y) h = h
+same-range u g (apart x y) h = h
+same-range u g (isLiteral x l) h = h
+same-range u g (arithmetic r e) h = h
+
+fact-in-range : (u : Question) (f : Fact) → QuestionInRange u → FactInRange u f → QuestionInRange (withFact u f)
+fact-in-range u f d h = record {
+  head = record {
+    alphabet = d .head .alphabet;
+    strings = d .head .strings;
+    integers = d .head .integers;
+    literals = d .head .literals;
+  };
+  constraints = all-append (FactInRange (withFact u f)) (u .constraints) (f ∷ []) (all-map (u .constraints) (same-range u f) (d .constraints)) (same-range u f f h, tt);
+  literals-differ = d .literals-differ;
+  literals-over = d .literals-over;
+}
+
+string-in-range : (u : Question) (r x y : ℕ) → stringRange (u .p) (length (u .literals)) r x y ≡ true → FactInRange u (stringFact r x y)
+string-in-range u zero x y e = let (h, g) = and-true _ _ e in (ltb-true x (u .p) h, ltb-true y (u .p) g)
+string-in-range u (suc zero) x y e = let (h, g) = and-true _ _ e in (ltb-true x (u .p) h, ltb-true y (u .p) g)
+string-in-range u (suc (suc zero)) x y e = let (h, g) = and-true _ _ e in (ltb-true x (u .p) h, leb-true y (length (u .literals)) g)
+string-in-range u (suc (suc (suc r))) x y e = let g : suc (suc (suc r)) ≤ 2 = leb-true _ _ (and-true _ _ e .0) in absurd (omega arith)
+
+-- ---- one record
+
+-- a record that the question v stands behind, where s was read before it
+pub data Entry (b : List ℕ) (s : Progress) (at : ℕ) (v : Question) : Type 0 where
+  head : kind b at ≡ 1 → s .last ≡ 0 → length (v .constraints) ≡ 0 → QuestionInRange v → Entry b s at v
+  literal : kind b at ≡ 2 → 1 ≤ s .last → length (v .constraints) ≡ length (s .question .constraints) → (QuestionInRange (s .question) → QuestionInRange v) → Entry b s at v
+  constraint : 3 ≤ kind b at → 1 ≤ s .last → length (v .constraints) ≡ suc (length (s .question .constraints)) → (QuestionInRange (s .question) → QuestionInRange v) → Entry b s at v
+
+module _ (b : List ℕ) (s : Progress) (at : ℕ) where
+  abbrev u : Question
+  u = s .question
+
+  -- the literals are few where a literal comes
+  abbrev few : Bool → Bool
+  few y = not y || ltb (length (u .literals)) literalLimit
+
+  abbrev behindHead : Bool → Bool
+  behindHead y = leb 1 (s .last) && (leb 2 (kind b at) && (leb (s .last) (kind b at) && (leb (kind b at) 4 && few y)))
+
+  behind : (y : Bool) → behindHead y ≡ true → (1 ≤ s .last) × (2 ≤ kind b at) × (few y ≡ true)
+  behind y e =
+      let a1 = and-true (leb 1 (s .last)) (leb 2 (kind b at) && (leb (s .last) (kind b at) && (leb (kind b at) 4 && few y))) e in
+      let a2 = and-true (leb 2 (kind b at)) (leb (s .last) (kind b at) && (leb (kind b at) 4 && few y)) (a1 .1) in
+      let a4 = and-true (leb (kind b at) 4) (few y) (and-true (leb (s .last) (kind b at)) (leb (kind b at) 4 && few y) (a2 .1) .1) in
+      (leb-true 1 (s .last) (a1 .0), leb-true 2 (kind b at) (a2 .0), a4 .1)
+
+  three : (y : Bool) → eqb (kind b at) 2 ≡ false → behindHead y ≡ true → (1 ≤ s .last) × (3 ≤ kind b at)
+  three y q t = let (l, k, _) = behind y t in (l, omega (arith, eqb-false (kind b at) 2 q))
+
+  more : (f : Fact) → length (u .constraints ++ (f ∷ [])) ≡ suc (length (u .constraints))
+  more f = omega (arith, length-append (u .constraints) (f ∷ []))
+
+  -- by the tests of the record's kind
+  by-kind : (x y z : Bool) → eqb (kind b at) 1 ≡ x → eqb (kind b at) 2 ≡ y → pick x (eqb (s .last) 0) (behindHead y) ≡ true
+      → pick x (headFault b (at + 6) (size b at)) (pick y (literalFault b (u .n) (u .literals) (at + 6) (size b at)) (pick z (stringFault b (u .p) (length (u .literals)) (at + 6) (size b at)) (arithmeticFault b (columnCount u) (at + 6) (size b at)))) ≡ 0
+      → Entry b s at (pick x (headOf b (at + 6)) (pick y (withLiteral u (textOf b (at + 6) (size b at))) (withFact u
+      (pick z (stringFact (u16 b (at + 6)) (u16 b (at + 6 + 2)) (u16 b (at + 6 + 4))) (arithmetic (relationOf (u16 b (at + 6))) (formOf b (at + 6 + 2) (size b at / 6 - 1)))))))
+  by-kind true y z p q t e = head (eqb-true _ _ p) (eqb-true _ _ t) refl (head-in-range b (at + 6) (size b at) e)
+  by-kind false true z p q t e =
+      let (l, _, f) = behind true t in
+      literal (eqb-true _ _ q) l refl (λ d. literal-in-range b u (at + 6) (size b at) d (ltb-true _ _ f) e)
+  by-kind false false true p q t e =
+      let (l, k) = three false q t in
+      let f : Fact = stringFact (u16 b (at + 6)) (u16 b (at + 6 + 2)) (u16 b (at + 6 + 4)) in
+      let a5 = none-applies 4 (eqb (size b at) 6) (need 6 (stringRange (u .p) (length (u .literals)) (u16 b (at + 6)) (u16 b (at + 6 + 2)) (u16 b (at + 6 + 4))) 0) e in
+      constraint k l (more f) (λ d. fact-in-range u f d (string-in-range u (u16 b (at + 6)) (u16 b (at + 6 + 2)) (u16 b (at + 6 + 4)) (none-applies _ _ _ (a5 .1) .0)))
+  by-kind false false false p q t e =
+      let (l, k) = three false q t in
+      let f : Fact = arithmetic (relationOf (u16 b (at + 6))) (formOf b (at + 6 + 2) (size b at / 6 - 1)) in
+      constraint k l (more f) (λ d. fact-in-range u f d (length-form b (at + 6 + 2) (size b at / 6 - 1)))
+
+  pub entry : formFault b s at ≡ 0 → Entry b s at (advanced b s at .question)
+  unfolding formFault advanced
+  entry e =
+      let body : ℕ = bodyFault b u (kind b at) (at + 6) (size b at) in
+      let a4 = none-applies 3 (inPlace s (kind b at)) body (none-applies 2 (whole b at) (need 4 (inPlace s (kind b at)) body) e .1) in
+      by-kind (eqb (kind b at) 1) (eqb (kind b at) 2) (eqb (kind b at) 3) refl refl (a4 .0) (a4 .1)

@@ -1,0 +1,89 @@
+-- A question by position: one record more moves the numbers only.
+use Prim.Native.Nat.{ℕ, zero, suc, _+_, _≤_, _<_}
+use native.Mathlib.Omega.{arith}
+use native.Mathlib.Numerals.{add-one}
+use mathlib.Core.Path.{_≡_, refl, sym, _∙_, ap, ap₂}
+use mathlib.Core.Bool.{false}
+use mathlib.Core.List.{List, [], _∷_, _++_}
+use lib.ListN.{length, getD}
+use lib.Dec.{eqb}
+use Rattle.calculus.specs.Facts.{Question, Fact}
+use Rattle.format.specs.Fields.{pick, u16, u32}
+use Rattle.format.specs.Records.{size, kind, next}
+use Rattle.format.specs.Question.{Progress, withLiteral, withFact, headOf, textOf, constraintOf, extended, advanced}
+use Rattle.format.specs.Places.{skip, texts, constraintsAt, literalsFrom, readTo}
+
+-- ---- positions
+
+pub skip-far : (b : List ℕ) (k at : ℕ) → at ≤ skip b k at
+unfolding skip
+skip-far b zero at = omega arith
+skip-far b (suc k) at = omega (arith, skip-far b k (next b at))
+
+pub skip-snoc : (b : List ℕ) (k at : ℕ) → skip b (suc k) at ≡ next b (skip b k at)
+unfolding skip
+skip-snoc b zero at = refl
+skip-snoc b (suc k) at = skip-snoc b k (next b at)
+
+-- a record ends before those behind it
+pub skip-room : (b : List ℕ) (j k at : ℕ) → j < k → next b (skip b j at) ≤ skip b k at
+unfolding skip
+skip-room b j zero at h = absurd (omega arith)
+skip-room b zero (suc k) at h = skip-far b k (next b at)
+skip-room b (suc j) (suc k) at h = skip-room b j k (next b at) (omega arith)
+
+-- ---- texts and constraints
+
+pub length-texts : (b : List ℕ) (k at : ℕ) → length (texts b k at) ≡ k
+unfolding texts
+length-texts b zero at = refl
+length-texts b (suc k) at = ap suc (length-texts b k (next b at))
+
+pub length-constraints : (b : List ℕ) (k at : ℕ) → length (constraintsAt b k at) ≡ k
+unfolding constraintsAt
+length-constraints b zero at = refl
+length-constraints b (suc k) at = ap suc (length-constraints b k (next b at))
+
+pub text-at : (b : List ℕ) (j k at : ℕ) → j < k → getD (texts b k at) j [] ≡ textOf b (skip b j at + 6) (size b (skip b j at))
+unfolding texts skip
+text-at b j zero at h = absurd (omega arith)
+text-at b zero (suc k) at h = refl
+text-at b (suc j) (suc k) at h = text-at b j k (next b at) (omega arith)
+
+texts-snoc : (b : List ℕ) (k at : ℕ) → texts b (suc k) at ≡ texts b k at ++ (textOf b (skip b k at + 6) (size b (skip b k at)) ∷ [])
+unfolding texts skip
+texts-snoc b zero at = refl
+texts-snoc b (suc k) at = ap (λ ts. textOf b (at + 6) (size b at) ∷ ts) (texts-snoc b k (next b at))
+
+constraints-snoc : (b : List ℕ) (k at : ℕ) → constraintsAt b (suc k) at ≡ constraintsAt b k at ++ (constraintOf b (kind b (skip b k at)) (skip b k at + 6) (size b (skip b k at)) ∷ [])
+unfolding constraintsAt skip
+constraints-snoc b zero at = refl
+constraints-snoc b (suc k) at = ap (λ fs. constraintOf b (kind b at) (at + 6) (size b at) ∷ fs) (constraints-snoc b k (next b at))
+
+-- ---- the head, a literal and a constraint move the numbers only
+
+pub read-head : (b : List ℕ) (s : Progress) (at : ℕ) → kind b at ≡ 1 → readTo b 1 (u32 b (at + 6)) (u16 b (at + 6 + 4)) (u16 b (at + 6 + 6)) 0 0 ≡ advanced b s at
+unfolding advanced texts constraintsAt
+read-head b s at e = sym (ap (λ k. record { last = k; question = extended b (s .question) k (at + 6) (size b at) }) e)
+
+pub read-literal : (b : List ℕ) (last n p q k at : ℕ) → kind b at ≡ 2 → at ≡ skip b k literalsFrom → readTo b 2 n p q (k + 1) 0 ≡ advanced b (readTo b last n p q k 0) at
+unfolding advanced constraintsAt
+read-literal b last n p q k at e g =
+    ap (λ ts. record { last = 2; question = record { n = n; p = p; q = q; literals = ts; constraints = [] } }) (ap (λ m. texts b m literalsFrom) (add-one k) ∙ texts-snoc b k literalsFrom)
+    ∙ sym (ap (λ z. record { last = z; question = extended b (readTo b last n p q k 0 .question) z (at + 6) (size b at) }) e
+    ∙ ap (λ z. record { last = 2; question = withLiteral (readTo b last n p q k 0 .question) (textOf b (z + 6) (size b z)) }) g)
+
+pub read-constraint : (b : List ℕ) (last n p q k m at : ℕ) → eqb (kind b at) 1 ≡ false → eqb (kind b at) 2 ≡ false → at ≡ skip b m (skip b k literalsFrom)
+    → readTo b (kind b at) n p q k (m + 1) ≡ advanced b (readTo b last n p q k m) at
+unfolding advanced
+read-constraint b last n p q k m at x y g =
+    ap (λ fs. record { last = kind b at; question = record { n = n; p = p; q = q; literals = texts b k literalsFrom; constraints = fs } })
+    (ap (λ j. constraintsAt b j (skip b k literalsFrom)) (add-one m) ∙ constraints-snoc b m (skip b k literalsFrom))
+    ∙ sym (ap₂ (λ v w. record {
+      last = kind b at;
+      question = pick v (headOf b (at + 6)) (pick w (withLiteral (readTo b last n p q k m .question) (textOf b (at + 6) (size b at))) (withFact (readTo b last n p q k m .question) (constraintOf b (kind b at) (at + 6) (size b at))));
+    }) x y
+    ∙ ap (λ z. record {
+      last = kind b at;
+      question = withFact (readTo b last n p q k m .question) (constraintOf b (kind b z) (z + 6) (size b z));
+    }) g)

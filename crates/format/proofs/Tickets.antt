@@ -1,0 +1,101 @@
+-- What a ticket holds by its bytes; it is of proper form, or accepted, as the method takes what it holds.
+use Prim.Native.Nat.{ℕ, _≤_}
+use mathlib.Core.Path.{_≡_, refl, sym, _∙_, ap, subst}
+use mathlib.Core.Bool.{Bool, true, false}
+use mathlib.Core.Option.{Option}
+use mathlib.Core.List.{List}
+use lib.ListN.{length}
+use lib.Dec.{eqb}
+use lib.IntN.{ℤ}
+use Rattle.lists.specs.Lists.{All}
+use Rattle.calculus.specs.Limits.{factLimit}
+use Rattle.calculus.specs.Facts.{Question, Fact, Branch}
+use Rattle.calculus.specs.Steps.{Step}
+use Rattle.calculus.specs.Instances.{StepInRange}
+use Rattle.format.specs.Question.{question, questionForm}
+use Rattle.format.specs.StepForms.{childInRange}
+use Rattle.format.specs.Reading.{State, Method, Ticket, Faulty, Done, readBehind}
+use Rattle.format.specs.Checking.{Outcome, Refused, checker, accepted, outcomeOf, large, verdict}
+use Rattle.format.specs.ProperForm.{former, formOf, takenSteps}
+use Rattle.format.proofs.Asked.{question-few}
+use Rattle.format.proofs.Behind.{Formed, formed-steps, formed-in-range, childOk, Taken}
+use Rattle.format.proofs.Claimed.{Claimed, claimsNone, behindClaim, started, claimed→form, form→claimed, claimed-steps, ReadBehind, ticket→, →ticket}
+
+-- the child field fits the claim
+abbrev pub childFits : Question → Bool → Step → ℕ → Bool
+childFits u true st c = eqb c 0
+childFits u false st c = childInRange (u .n) st c
+
+-- the bytes put the question u, claim "no solution" or strings, and hold steps, the model where there is one, and the end
+pub record Holding (b : List ℕ) (u : Question) (claim : Bool) (model : Option (List ℤ)) : Type 0 where
+  pub claimed : Claimed b (questionForm b) u
+  pub claim-is : claimsNone claimed ≡ claim
+  pub formed : Formed b u (childFits u claim) (behindClaim claimed) (takenSteps b) model
+
+pub steps-in-range : {b : List ℕ} {u : Question} {x : Bool} {o : Option (List ℤ)} → Holding b u x o → All (λ t. StepInRange u (t .0)) (takenSteps b)
+steps-in-range {b} {u} {x} {o} h = formed-in-range b u (childFits u x) (behindClaim (h .claimed)) (takenSteps b) o (h .formed)
+
+-- and the method takes them to the state s
+abbrev pub ReadAs : {B C : Type 0} → (Question → Method B C) → List ℕ → Question → State B C → Type 0
+ReadAs method b u s = (x : Bool) × (o : Option (List ℤ)) × Holding b u x o × Taken (method u) (started (method u) x) (takenSteps b) o s
+
+module _ {B C : Type 0} (method : Question → Method B C) (b : List ℕ) (u : Question) where
+  same-test : (x : Bool) → childOk u (started (method u) x) ≡ childFits u x
+  same-test true = refl
+  same-test false = refl
+
+  read-as : {s : State B C} → ReadBehind method b (questionForm b) u s → ReadAs method b u s
+  read-as {s} (c, x, e, r) =
+      let same : takenSteps b ≡ r .steps = claimed-steps c ∙ formed-steps b u (childOk u (started (method u) x)) (behindClaim c) (r .steps) (r .model) (r .formed) in (
+        x,
+        r .model,
+        record {
+          claimed = c;
+          claim-is = e;
+          formed = subst (λ ts. Formed b u (childFits u x) (behindClaim c) ts (r .model)) (sym same) (subst (λ ok. Formed b u ok (behindClaim c) (r .steps) (r .model)) (same-test x) (r .formed));
+        },
+        subst (λ ts. Taken (method u) (started (method u) x) ts (r .model) s) (sym same) (r .taken),
+      )
+
+  formed-for : (x : Bool) (o : Option (List ℤ)) (h : Holding b u x o) → Formed b u (childOk u (started (method u) x)) (behindClaim (h .claimed)) (takenSteps b) o
+  formed-for x o h = subst (λ ok. Formed b u ok (behindClaim (h .claimed)) (takenSteps b) o) (sym (same-test x)) (h .formed)
+
+-- ---- proper form
+
+pub proper→ : (b : List ℕ) (u : Question) {s : State ℕ ℕ} → formOf b ≡ Done u s → ReadAs former b u s
+unfolding formOf
+proper→ b u e = read-as former b u (ticket→ former b (questionForm b) e)
+
+pub →proper : (b : List ℕ) (u : Question) (x : Bool) (o : Option (List ℤ)) {s : State ℕ ℕ} → Holding b u x o → Taken (former u) (started (former u) x) (takenSteps b) o s → formOf b ≡ Done u s
+unfolding formOf
+→proper b u x o h k = →ticket former b (h .claimed) x (takenSteps b) o (h .claim-is) (formed-for former b u x o h) k
+
+-- ---- checking
+
+abbrev bySize : List ℕ → Bool → Outcome
+bySize b x = elim x as (λ _. Outcome) [ false ↦ Refused 1 0 | true ↦ outcomeOf (readBehind checker b (question b)) ]
+
+-- the outcome o is no refusal
+abbrev pub NoRefusal : Outcome → Type 0
+NoRefusal o = (c r : ℕ) → Refused c r ≡ o → ⊥
+
+abbrev pub AcceptedAs : List ℕ → Outcome → Type 0
+AcceptedAs b o = (u : Question) × (s : State Branch (List Fact)) × ReadAs checker b u s × (length (u .constraints) ≤ factLimit) × (accepted u s ≡ o)
+
+pub verdict→ : (work answer : ℕ) (b : List ℕ) (o : Outcome) → NoRefusal o → verdict work answer b ≡ o → AcceptedAs b o
+unfolding verdict
+verdict→ work answer b o never e = sized (large work answer) e
+  where
+    read : (t : Ticket Branch (List Fact)) → readBehind checker b (question b) ≡ t → outcomeOf t ≡ o → AcceptedAs b o
+    read (Faulty c r) p e = absurd (never c r e)
+    read (Done u s) p e = let (c, x, k, r) = ticket→ checker b (question b) p in (u, s, read-as checker b u (claimed→form c, x, k, r), question-few b (c .ended), e)
+
+    sized : (x : Bool) → bySize b x ≡ o → AcceptedAs b o
+    sized false e = absurd (never 1 0 e)
+    sized true e = read (readBehind checker b (question b)) refl e
+
+pub →verdict : (work answer : ℕ) (b : List ℕ) (u : Question) (x : Bool) (o : Option (List ℤ)) (s : State Branch (List Fact)) → large work answer ≡ true → length (u .constraints) ≤ factLimit
+    → Holding b u x o → Taken (checker u) (started (checker u) x) (takenSteps b) o s → verdict work answer b ≡ accepted u s
+unfolding verdict
+→verdict work answer b u x o s big few h k =
+    ap (bySize b) big ∙ ap outcomeOf (→ticket checker b (form→claimed few (h .claimed)) x (takenSteps b) o (h .claim-is) (formed-for checker b u x o h) k)

@@ -1,0 +1,55 @@
+-- A test of every element of a list, as a loop from the front takes it: none is left, the next one fails, the next one passes.
+use Prim.Native.Nat.{ℕ, zero, suc, _+_, _<_, _≤_}
+use native.Mathlib.Omega.{arith}
+use native.Mathlib.Numerals.{add-one}
+use mathlib.Core.Path.{_≡_, refl, sym, _∙_, ap, ap₂, subst}
+use mathlib.Core.Bool.{Bool, true, false, _&&_, and-comm, and-assoc, and-false}
+use mathlib.Core.Option.{some}
+use mathlib.Core.List.{List, [], _∷_, _++_}
+use lib.Dec.{T}
+use lib.ListN.{length, getD, take, drop, getElem?, drop-of-length-le}
+use lib.Seq.{drop-cons}
+
+pub and-left : (a b : Bool) → (a && b) ≡ true → a ≡ true
+and-left true b e = refl
+and-left false b e = e
+
+pub and-right : (a b : Bool) → (a && b) ≡ true → b ≡ true
+and-right true b e = e
+and-right false b e = absurd (subst T (sym e) tt)
+
+take-zero : {A : Type 0} (l : List A) → take 0 l ≡ []
+take-zero [] = refl
+take-zero (x ∷ l) = refl
+
+module _ {A : Type 0} (test : A → Bool) (every : List A → Bool) (none : every [] ≡ true) (more : (x : A) (xs : List A) → every (x ∷ xs) ≡ (test x && every xs)) where
+  pub every-done : (l : List A) (j : ℕ) → length l ≤ j → every (drop j l) ≡ true
+  every-done l j h = ap every (drop-of-length-le l h) ∙ none
+
+  every-step : (l : List A) (j : ℕ) (d : A) → j < length l → every (drop j l) ≡ (test (getD l j d) && every (drop (j + 1) l))
+  every-step l j d h = ap every (drop-cons l j d h) ∙ more (getD l j d) (drop (suc j) l) ∙ ap (λ (n : ℕ). test (getD l j d) && every (drop n l)) (sym (add-one j))
+
+  pub every-fails : (l : List A) (j : ℕ) (d : A) → j < length l → test (getD l j d) ≡ false → every (drop j l) ≡ false
+  every-fails l j d h e = every-step l j d h ∙ rw e
+
+  pub every-on : (l : List A) (j : ℕ) (d : A) → j < length l → test (getD l j d) ≡ true → every (drop (j + 1) l) ≡ every (drop j l)
+  every-on l j d h e = sym (every-step l j d h ∙ rw e)
+
+  -- one element more at the end
+  pub every-snoc : (l : List A) (x : A) → every (l ++ (x ∷ [])) ≡ (every l && test x)
+  every-snoc [] x = more x [] ∙ ap (λ t. test x && t) none ∙ and-comm (test x) true ∙ ap (λ t. t && test x) (sym none)
+  every-snoc (y ∷ l) x = more y (l ++ (x ∷ [])) ∙ ap (λ t. test y && t) (every-snoc l x) ∙ sym (and-assoc (test y) (every l) (test x)) ∙ ap (λ t. t && test x) (sym (more y l))
+
+  -- one element that fails
+  pub every-broken : (l : List A) (k : ℕ) (x : A) → getElem? l k ≡ some x → test x ≡ false → every l ≡ false
+  every-broken [] k x h e = absurd (let z : _≡_ {A = ℕ} 0 1 = cc in omega arith)
+  every-broken (y ∷ l) zero x h e = let q : y ≡ x = cc in more y l ∙ ap (λ t. t && every l) (ap test q ∙ e)
+  every-broken (y ∷ l) (suc k) x h e = more y l ∙ ap (λ t. test y && t) (every-broken l k x h e) ∙ and-false (test y)
+
+  -- the first elements
+  pub every-take : (l : List A) (n : ℕ) → every l ≡ true → every (take n l) ≡ true
+  every-take l zero e = ap every (take-zero l) ∙ none
+  every-take [] (suc n) e = none
+  every-take (x ∷ l) (suc n) e =
+      let p : (test x && every l) ≡ true = sym (more x l) ∙ e in
+      more x (take n l) ∙ ap₂ _&&_ (and-left (test x) (every l) p) (every-take l n (and-right (test x) (every l) p))

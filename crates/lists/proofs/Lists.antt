@@ -1,0 +1,156 @@
+-- Lists: properties of all elements and of some element, membership, lists without repeats, and counting.
+use Prim.Native.Nat.{ℕ, zero, suc, _<_, _≤_}
+use native.Mathlib.Omega.{arith}
+use mathlib.Core.Path.{_≡_, refl, sym, _∙_, ap, ap₂, subst}
+use mathlib.Core.Logic.{_≢_, _⊎_, inl, inr}
+use mathlib.Core.Option.{some}
+use mathlib.Core.List.{List, [], _∷_, _++_, map}
+use lib.ListN.{length, getD, getElem?}
+use Rattle.lists.specs.Lists.{All, NotIn, Distinct}
+use Rattle.lists.proofs.Options.{some-injective, none-some}
+
+-- ---- all elements
+
+pub all-map : {A : Type 0} {P Q : A → Type 0} (xs : List A) → ((x : A) → P x → Q x) → All P xs → All Q xs
+all-map [] f h = tt
+all-map (x ∷ xs) f (h, hs) = (f x h, all-map xs f hs)
+
+pub all-append : {A : Type 0} (P : A → Type 0) (xs ys : List A) → All P xs → All P ys → All P (xs ++ ys)
+all-append P [] ys h g = g
+all-append P (x ∷ xs) ys (h, hs) g = (h, all-append P xs ys hs g)
+
+pub all-left : {A : Type 0} (P : A → Type 0) (xs ys : List A) → All P (xs ++ ys) → All P xs
+all-left P [] ys h = tt
+all-left P (x ∷ xs) ys (h, hs) = (h, all-left P xs ys hs)
+
+pub all-right : {A : Type 0} (P : A → Type 0) (xs ys : List A) → All P (xs ++ ys) → All P ys
+all-right P [] ys h = h
+all-right P (x ∷ xs) ys (h, hs) = all-right P xs ys hs
+
+pub all-at : {A : Type 0} (P : A → Type 0) (xs : List A) (k : ℕ) {x : A} → All P xs → getElem? xs k ≡ some x → P x
+all-at P [] k h e = absurd (none-some e)
+all-at P (y ∷ xs) zero h e = subst P (some-injective e) (h .0)
+all-at P (y ∷ xs) (suc k) h e = all-at P xs k (h .1) e
+
+-- ---- some element
+
+abbrev pub Any : {A : Type 0} → (A → Type 0) → List A → Type 0
+Any P [] = ⊥
+Any P (x ∷ xs) = P x ⊎ Any P xs
+
+-- ---- membership
+
+abbrev pub In : {A : Type 0} → A → List A → Type 0
+In x [] = ⊥
+In x (y ∷ ys) = (x ≡ y) ⊎ In x ys
+
+pub in-map : {A B : Type 0} (f : A → B) (x : A) (xs : List A) → In x xs → In (f x) (map f xs)
+in-map f x [] h = h
+in-map f x (y ∷ ys) (inl e) = inl (ap f e)
+in-map f x (y ∷ ys) (inr h) = inr (in-map f x ys h)
+
+pub in-append : {A : Type 0} (x : A) (xs ys : List A) → In x (xs ++ ys) → In x xs ⊎ In x ys
+in-append x [] ys h = inr h
+in-append x (z ∷ xs) ys (inl e) = inl (inl e)
+in-append x (z ∷ xs) ys (inr h) = go (in-append x xs ys h)
+  where
+    go : In x xs ⊎ In x ys → In x (z ∷ xs) ⊎ In x ys
+    go (inl k) = inl (inr k)
+    go (inr k) = inr k
+
+pub in-left : {A : Type 0} (x : A) (xs ys : List A) → In x xs → In x (xs ++ ys)
+in-left x [] ys h = absurd h
+in-left x (z ∷ xs) ys (inl e) = inl e
+in-left x (z ∷ xs) ys (inr h) = inr (in-left x xs ys h)
+
+pub in-right : {A : Type 0} (x : A) (xs ys : List A) → In x ys → In x (xs ++ ys)
+in-right x [] ys h = h
+in-right x (z ∷ xs) ys h = inr (in-right x xs ys h)
+
+pub in-at : {A : Type 0} (x : A) (xs : List A) → In x xs → (k : ℕ) × (getElem? xs k ≡ some x)
+in-at x [] h = absurd h
+in-at x (y ∷ ys) (inl e) = (0, ap some (sym e))
+in-at x (y ∷ ys) (inr h) = let (k, e) = in-at x ys h in (suc k, e)
+
+pub all-in : {A : Type 0} (P : A → Type 0) (xs : List A) (x : A) → All P xs → In x xs → P x
+all-in P [] x h i = absurd i
+all-in P (y ∷ xs) x h (inl e) = subst P (sym e) (h .0)
+all-in P (y ∷ xs) x h (inr i) = all-in P xs x (h .1) i
+
+-- ---- lists without repeats
+
+pub not-in→ : {A : Type 0} (x y : A) (xs : List A) → NotIn x xs → In y xs → x ≢ y
+not-in→ x y [] d h = absurd h
+not-in→ x y (z ∷ xs) d (inl e) = λ p. d .0 (p ∙ e)
+not-in→ x y (z ∷ xs) d (inr h) = not-in→ x y xs (d .1) h
+
+pub →not-in : {A : Type 0} (x : A) (xs : List A) → (In x xs → ⊥) → NotIn x xs
+→not-in x [] f = tt
+→not-in x (y ∷ ys) f = ((λ e. f (inl e)), →not-in x ys (λ i. f (inr i)))
+
+not-in-at : {A : Type 0} (x d : A) (xs : List A) (i : ℕ) → NotIn x xs → i < length xs → x ≢ getD xs i d
+not-in-at x d [] i h g = absurd (omega arith)
+not-in-at x d (y ∷ ys) zero h g = h .0
+not-in-at x d (y ∷ ys) (suc i) h g = not-in-at x d ys i (h .1) (omega arith)
+
+pub distinct-at : {A : Type 0} (d : A) (xs : List A) (i j : ℕ) → Distinct xs → i < length xs → j < length xs → i ≢ j → getD xs i d ≢ getD xs j d
+distinct-at d [] i j h g k n = absurd (omega arith)
+distinct-at d (x ∷ xs) zero zero h g k n = absurd (n refl)
+distinct-at d (x ∷ xs) zero (suc j) h g k n = not-in-at x d xs j (h .0) (omega arith)
+distinct-at d (x ∷ xs) (suc i) zero h g k n = λ e. not-in-at x d xs i (h .0) (omega arith) (sym e)
+distinct-at d (x ∷ xs) (suc i) (suc j) h g k n = distinct-at d xs i j (h .1) (omega arith) (omega arith) (λ e. n (ap suc e))
+
+not-in-snoc : {A : Type 0} (x y : A) (xs : List A) → NotIn x xs → x ≢ y → NotIn x (xs ++ (y ∷ []))
+not-in-snoc x y [] h n = (n, tt)
+not-in-snoc x y (z ∷ xs) (h, hs) n = (h, not-in-snoc x y xs hs n)
+
+pub distinct-snoc : {A : Type 0} (y : A) (xs : List A) → Distinct xs → (In y xs → ⊥) → Distinct (xs ++ (y ∷ []))
+distinct-snoc y [] d f = (tt, tt)
+distinct-snoc y (x ∷ xs) (d, ds) f = (not-in-snoc x y xs d (λ e. f (inl (sym e))), distinct-snoc y xs ds (λ i. f (inr i)))
+
+-- ---- counting
+
+-- the list without one of its elements
+pub without : {A : Type 0} (x : A) (ys : List A) → In x ys → List A
+without x [] i = absurd i
+without x (y ∷ ys) (inl e) = ys
+without x (y ∷ ys) (inr i) = y ∷ without x ys i
+
+pub length-without : {A : Type 0} (x : A) (ys : List A) (i : In x ys) → length ys ≡ suc (length (without x ys i))
+unfolding without
+length-without x [] i = absurd i
+length-without x (y ∷ ys) (inl e) = refl
+length-without x (y ∷ ys) (inr i) = ap suc (length-without x ys i)
+
+pub in-without : {A : Type 0} (x z : A) (ys : List A) (i : In x ys) → z ≢ x → In z ys → In z (without x ys i)
+unfolding without
+in-without x z [] i n j = absurd i
+in-without x z (y ∷ ys) (inl e) n (inl f) = absurd (n (f ∙ sym e))
+in-without x z (y ∷ ys) (inl e) n (inr j) = j
+in-without x z (y ∷ ys) (inr i) n (inl f) = inl f
+in-without x z (y ∷ ys) (inr i) n (inr j) = inr (in-without x z ys i n j)
+
+-- a list without repeats whose every element is in another is no longer than it
+pub at-most : {A : Type 0} (xs ys : List A) → Distinct xs → ((x : A) → In x xs → In x ys) → length xs ≤ length ys
+at-most [] ys d h = omega arith
+at-most (x ∷ xs) ys d h =
+    let i : In x ys = h x (inl refl) in
+    let f : length xs ≤ length (without x ys i) = at-most xs (without x ys i) (d .1) (λ z j. in-without x z ys i (λ e. not-in→ x z xs (d .0) j (sym e)) (h z (inr j))) in
+    let g : length ys ≡ suc (length (without x ys i)) = length-without x ys i in
+    omega arith
+
+-- ---- maps and positions
+
+pub map-same : {A : Type 0} (f : A → A) (xs : List A) → All (λ x. f x ≡ x) xs → map f xs ≡ xs
+map-same f [] h = refl
+map-same f (x ∷ xs) (h, hs) = ap₂ _∷_ h (map-same f xs hs)
+
+pub getD-map : {A B : Type 0} (f : A → B) (xs : List A) (i : ℕ) (d : A) (e : B) → i < length xs → getD (map f xs) i e ≡ f (getD xs i d)
+getD-map f [] i d e h = absurd (omega arith)
+getD-map f (x ∷ xs) zero d e h = refl
+getD-map f (x ∷ xs) (suc i) d e h = getD-map f xs i d e (omega arith)
+
+pub all-getD : {A : Type 0} (P : A → Type 0) (xs : List A) (i : ℕ) (d : A) → P d → All P xs → P (getD xs i d)
+all-getD P [] i d p h = p
+all-getD P (x ∷ xs) zero d p h = h .0
+all-getD P (x ∷ xs) (suc i) d p h = all-getD P xs i d p (h .1)

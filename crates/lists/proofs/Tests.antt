@@ -1,0 +1,40 @@
+-- Tests: what a test that is passed says of the tests it is made of, and the other way round.
+use mathlib.Core.Path.{_≡_, refl, sym, subst}
+use mathlib.Core.Logic.{_⊎_, inl, inr}
+use mathlib.Core.Bool.{Bool, true, false, not, _&&_, _||_}
+use lib.Dec.{T}
+
+pub →true : (a : Bool) → T a → a ≡ true
+→true true t = refl
+→true false t = absurd t
+
+pub true→ : {a : Bool} → a ≡ true → T a
+true→ e = subst T (sym e) tt
+
+pub and→ : (a b : Bool) → T (a && b) → T a × T b
+and→ true b t = (tt, t)
+and→ false b t = absurd t
+
+pub →and : (a b : Bool) → T a → T b → T (a && b)
+→and true b s t = t
+→and false b s t = absurd s
+
+pub or→ : (a b : Bool) → T (a || b) → T a ⊎ T b
+or→ true b t = inl tt
+or→ false b t = inr t
+
+pub →or-left : (a b : Bool) → T a → T (a || b)
+→or-left true b t = tt
+→or-left false b t = absurd t
+
+pub →or-right : (a b : Bool) → T b → T (a || b)
+→or-right true b t = tt
+→or-right false b t = t
+
+pub nor→ : (a b : Bool) → T (not (a || b)) → T (not a) × T (not b)
+nor→ true b t = absurd t
+nor→ false b t = (tt, t)
+
+pub →nor : (a b : Bool) → T (not a) → T (not b) → T (not (a || b))
+→nor true b s t = absurd s
+→nor false b s t = t

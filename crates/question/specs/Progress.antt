@@ -1,0 +1,15 @@
+-- What the code keeps of a question, from the definitions of the format: the literals and the constraints stand in the bytes.
+use Prim.Native.Nat.{ℕ}
+use mathlib.Core.List.{List}
+use Rattle.format.specs.Question as format
+use Rattle.format.specs.Places.{readTo}
+use Rattle.question.specs.declared.Progress.{Progress}
+use Rattle.question.specs.declared.Reading.{Reading}
+use Rattle.question.specs.declared.Reading.the-variants.{Stopped, Ended}
+
+abbrev pub progressOf : List ℕ → Progress → format.Progress
+progressOf b s = readTo b (s .last) (s .n) (s .p) (s .q) (s .literals) (s .constraints)
+
+unfoldable pub readingOf : List ℕ → Reading → format.Reading
+readingOf b (Stopped c r) = format.Stopped c r
+readingOf b (Ended s at r) = format.Ended (progressOf b s) at r

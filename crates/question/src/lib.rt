@@ -1,0 +1,470 @@
+// The question: "Kinds 1 to 4 are the question". Checking and judging read it with this one reader, by position: what is kept of it is numbers,
+// and its literals and constraints stay where they stand in the bytes.
+ghost use mathlib.Core.Path.{_≡_};
+ghost use mathlib.Core.List.{[], _∷_};
+ghost use Prim.Native.Nat.{ℕ, _+_, _*_, _<_, _≤_};
+ghost use lib.ListN.{length, getD};
+ghost use Rattle.calculus.specs.Alphabet.{allCharacters};
+ghost use Rattle.calculus.specs.Strings.{eqString, given};
+ghost use Rattle.format.specs.Fields.{u16, u32, u32s, signed, pairsAt};
+ghost use Rattle.format.specs.Records.{kind as kindAt, size as sizeAt};
+ghost use Rattle.format.specs.Question.{headFault, textOf, literalFault, stringRange, stringFault, coefficientInRange, pairInRange, rising, formRange, arithmeticFault, kindInPlace, bodyFault, fault, advanced, ending, question};
+ghost use Rattle.format.specs.Places.{skip, texts};
+ghost use Rattle.question.specs.Progress.{progressOf, readingOf};
+ghost use Rattle.question.specs.Standing.{Stands};
+use records::Found;
+use records::bits_within;
+use records::read_at;
+use records::u16_at;
+use records::u32_at;
+
+// ---- the bodies of the question's records: the first number that applies to one, 0 for none. A body is its position and its size.
+
+// "1 head, once: u32 n (1 to 196,608), u16 p string variables, u16 q integer variables (each 0 to 16)"
+fn head_fault(b: &[u8], at: usize, size: usize) -> usize
+    requires { ⌜ at + size ≤ length (now b) ⌝ }
+    ensures { λ r. ⌜ r ≡ headFault (now (b .entry)) at size ⌝ }
+{
+    if size != 8 {
+        return 5;
+    }
+    let n = u32_at(b, at);
+    let p = u16_at(b, at + 4);
+    let q = u16_at(b, at + 6);
+    if n < 1 {
+        return 6;
+    }
+    if 196608 < n {
+        return 6;
+    }
+    if 16 < p {
+        return 6;
+    }
+    if 16 < q {
+        return 6;
+    }
+    0
+}
+
+// Whether all of the count characters from a position are below n.
+fn all_characters(b: &[u8], n: usize, at: usize, count: usize) -> bool
+    requires { ⌜ at + 4 * count ≤ length (now b) ⌝ }
+    ensures { λ r. ⌜ r ≡ allCharacters n (u32s (now (b .entry)) at count) ⌝ }
+{
+    let mut i = at;
+    let mut left = count;
+    while 0 < left {
+        if n <= u32_at(b, i) {
+            return false;
+        }
+        i += 4;
+        left -= 1;
+    }
+    true
+}
+
+// Whether the count characters at two positions are the same.
+fn same_text(b: &[u8], x: usize, y: usize, count: usize) -> bool
+    requires { ⌜ (x + 4 * count ≤ length (now b)) × (y + 4 * count ≤ length (now b)) ⌝ }
+    ensures { λ r. ⌜ r ≡ eqString (u32s (now (b .entry)) x count) (u32s (now (b .entry)) y count) ⌝ }
+{
+    let mut i = x;
+    let mut j = y;
+    let mut left = count;
+    while 0 < left {
+        let c = u32_at(b, i);
+        let d = u32_at(b, j);
+        if c != d {
+            return false;
+        }
+        i += 4;
+        j += 4;
+        left -= 1;
+    }
+    true
+}
+
+// Whether the bodies at two positions hold the same text.
+fn same_body(b: &[u8], x: usize, x_size: usize, y: usize, y_size: usize) -> bool
+    requires { ⌜ (x + «x_size» ≤ length (now b)) × (y + «y_size» ≤ length (now b)) ⌝ }
+    ensures { λ r. ⌜ r ≡ eqString (textOf (now (b .entry)) x «x_size») (textOf (now (b .entry)) y «y_size») ⌝ }
+{
+    let m = x_size / 4;
+    let k = y_size / 4;
+    if m == k { same_text(b, x, y, m) } else { false }
+}
+
+// Whether the text of a body is one of those of the first k literals, which start at position 14.
+fn repeats(b: &[u8], k: usize, at: usize, size: usize) -> bool
+    requires { ⌜ (at + size ≤ length (now b)) × (skip (now b) k 14 ≤ length (now b)) ⌝ }
+    ensures { λ r. ⌜ r ≡ given (textOf (now (b .entry)) at size) (texts (now (b .entry)) k 14) ⌝ }
+{
+    let mut j = 14;
+    let mut left = k;
+    while 0 < left {
+        let m = u32_at(b, j);
+        if same_body(b, at, size, j + 6, m) {
+            return true;
+        }
+        j = j + 6 + m;
+        left -= 1;
+    }
+    false
+}
+
+// "2 literal, 0 to 15 of them: 1 to 64 characters, u32 each, below n"; "7 when a literal repeats"
+fn literal_fault(b: &[u8], n: usize, k: usize, at: usize, size: usize) -> usize
+    requires { ⌜ (at + size ≤ length (now b)) × (skip (now b) k 14 ≤ length (now b)) ⌝ }
+    ensures { λ r. ⌜ r ≡ literalFault (now (b .entry)) n (texts (now (b .entry)) k 14) at size ⌝ }
+{
+    if size < 4 {
+        return 5;
+    }
+    if 256 < size {
+        return 5;
+    }
+    if size % 4 != 0 {
+        return 5;
+    }
+    if !all_characters(b, n, at, size / 4) {
+        return 6;
+    }
+    if repeats(b, k, at, size) {
+        return 7;
+    }
+    0
+}
+
+// Whether a string constraint's fields are in their ranges, over p variables and k literals besides the empty one.
+fn string_in_range(p: usize, k: usize, relation: usize, x: usize, y: usize) -> bool
+    ensures { λ r. ⌜ r ≡ stringRange p k relation x y ⌝ }
+{
+    if 2 < relation {
+        return false;
+    }
+    if p <= x {
+        return false;
+    }
+    if relation == 2 {
+        if k < y { false } else { true }
+    } else {
+        if p <= y { false } else { true }
+    }
+}
+
+// "3 string constraint: u16 relation, u16 a, u16 b"
+fn string_fault(b: &[u8], p: usize, k: usize, at: usize, size: usize) -> usize
+    requires { ⌜ at + size ≤ length (now b) ⌝ }
+    ensures { λ r. ⌜ r ≡ stringFault (now (b .entry)) p k at size ⌝ }
+{
+    if size != 6 {
+        return 5;
+    }
+    let relation = u16_at(b, at);
+    let x = u16_at(b, at + 2);
+    let y = u16_at(b, at + 4);
+    if string_in_range(p, k, relation, x, y) {
+        0
+    } else {
+        6
+    }
+}
+
+// Whether the number with these 32 bits may be a coefficient.
+fn coefficient_in_range(v: usize) -> bool
+    requires { ⌜ v < 4294967296 ⌝ }
+    ensures { λ r. ⌜ r ≡ coefficientInRange (signed v) ⌝ }
+{
+    if v == 0 {
+        false
+    } else {
+        bits_within(v, 1000000000)
+    }
+}
+
+// Whether a column is at least low and below c, and the number with these 32 bits may be its coefficient.
+fn pair_in_range(c: usize, low: usize, column: usize, v: usize) -> bool
+    requires { ⌜ v < 4294967296 ⌝ }
+    ensures { λ r. ⌜ r ≡ pairInRange c low (column, signed v) ⌝ }
+{
+    if column < low {
+        return false;
+    }
+    if c <= column {
+        return false;
+    }
+    coefficient_in_range(v)
+}
+
+// Whether the columns of the count pairs from a position rise strictly below c, with coefficients in their range.
+fn pairs_rise(b: &[u8], c: usize, at: usize, count: usize) -> bool
+    requires { ⌜ at + 6 * count ≤ length (now b) ⌝ }
+    ensures { λ r. ⌜ r ≡ rising c 0 (pairsAt (now (b .entry)) at count) ⌝ }
+{
+    let mut low = 0;
+    let mut i = at;
+    let mut left = count;
+    while 0 < left {
+        let column = u16_at(b, i);
+        let v = u32_at(b, i + 2);
+        if !pair_in_range(c, low, column, v) {
+            return false;
+        }
+        low = column + 1;
+        i += 6;
+        left -= 1;
+    }
+    true
+}
+
+// Whether a form, an i32 constant and then count pairs, is in its ranges over c columns.
+pub fn form_in_range(b: &[u8], c: usize, at: usize, count: usize) -> bool
+    requires { ⌜ at + 4 + 6 * count ≤ length (now b) ⌝ }
+    ensures { λ r. ⌜ r ≡ formRange (now (b .entry)) c at count ⌝ }
+{
+    let constant = u32_at(b, at);
+    if !bits_within(constant, 1000000000) {
+        return false;
+    }
+    pairs_rise(b, c, at + 4, count)
+}
+
+// "4 arithmetic constraint: u16 relation .., i32 constant, then 0 to 48 pairs"
+fn arithmetic_fault(b: &[u8], c: usize, at: usize, size: usize) -> usize
+    requires { ⌜ at + size ≤ length (now b) ⌝ }
+    ensures { λ r. ⌜ r ≡ arithmeticFault (now (b .entry)) c at size ⌝ }
+{
+    if size < 6 {
+        return 5;
+    }
+    if size % 6 != 0 {
+        return 5;
+    }
+    let sixths = size / 6;
+    if 49 < sixths {
+        return 5;
+    }
+    let relation = u16_at(b, at);
+    if 2 < relation {
+        return 6;
+    }
+    if form_in_range(b, c, at + 2, sixths - 1) {
+        0
+    } else {
+        6
+    }
+}
+
+// ---- one record
+
+// What was read so far: the kind of the last record, 0 before the head, and the question by its numbers.
+pub struct Progress {
+    pub last: usize,
+    pub n: usize,
+    pub p: usize,
+    pub q: usize,
+    pub literals: usize,
+    pub constraints: usize,
+}
+
+// "They stand in order of kind"; "4 when a kind is unknown or out of its place (a 16th literal .. included)"
+fn in_place(last: usize, literals: usize, k: usize) -> bool
+    ensures { λ r. ⌜ r ≡ kindInPlace last literals k ⌝ }
+{
+    if k == 1 {
+        return last == 0;
+    }
+    if last < 1 {
+        return false;
+    }
+    if k < 2 {
+        return false;
+    }
+    if k < last {
+        return false;
+    }
+    if 4 < k {
+        return false;
+    }
+    if k != 2 {
+        return true;
+    }
+    literals < 15
+}
+
+// The first of 5 to 7 that applies to a body of kind k.
+fn body_fault(b: &[u8], s: Progress, k: usize, at: usize, size: usize) -> usize
+    requires { ⌜ (at + size ≤ length (now b)) × (k ≡ 2 → skip (now b) (s .literals) 14 ≤ length (now b)) × (s .p ≤ 16) × (s .q ≤ 16) ⌝ }
+    ensures { λ r. ⌜ r ≡ bodyFault (now (b .entry)) (progressOf (now (b .entry)) s .question) k at size ⌝ }
+{
+    if k == 1 {
+        return head_fault(b, at, size);
+    }
+    if k == 2 {
+        return literal_fault(b, s.n, s.literals, at, size);
+    }
+    if k == 3 {
+        return string_fault(b, s.p, s.literals, at, size);
+    }
+    arithmetic_fault(b, s.q + (s.p + s.p), at, size)
+}
+
+// The first number that applies to a whole record, 10 behind the others.
+fn record_fault(b: &[u8], s: Progress, k: usize, at: usize, size: usize) -> usize
+    requires { ⌜ Stands (now b) s at ⌝ }
+    requires { ⌜ (k ≡ kindAt (now b) at) × (size ≡ sizeAt (now b) at) × (at + 6 + size ≤ length (now b)) ⌝ }
+    ensures { λ r. ⌜ r ≡ fault (now (b .entry)) (progressOf (now (b .entry)) s) at ⌝ }
+{
+    if !in_place(s.last, s.literals, k) {
+        return 4;
+    }
+    let f = body_fault(b, s, k, at + 6, size);
+    if f != 0 {
+        return f;
+    }
+    if k <= 2 {
+        return 0;
+    }
+    let constraints = s.constraints;
+    if constraints < 128 { 0 } else { 10 }
+}
+
+// What was read after a record without fault.
+fn advance(b: &[u8], s: Progress, k: usize, at: usize) -> Progress
+    requires { ⌜ Stands (now b) s at ⌝ }
+    requires { ⌜ (k ≡ kindAt (now b) at) × (fault (now b) (progressOf (now b) s) at ≡ 0) ⌝ }
+    ensures { λ r. ⌜ progressOf (now (b .entry)) r ≡ advanced (now (b .entry)) (progressOf (now (b .entry)) s) at ⌝ }
+{
+    if k == 1 {
+        let body = at + 6;
+        let n = u32_at(b, body);
+        let p = u16_at(b, body + 4);
+        let q = u16_at(b, body + 6);
+        return Progress {
+            last: 1,
+            n: n,
+            p: p,
+            q: q,
+            literals: 0,
+            constraints: 0,
+        };
+    }
+    if k == 2 {
+        return Progress {
+            last: 2,
+            n: s.n,
+            p: s.p,
+            q: s.q,
+            literals: s.literals + 1,
+            constraints: s.constraints,
+        };
+    }
+    Progress {
+        last: k,
+        n: s.n,
+        p: s.p,
+        q: s.q,
+        literals: s.literals,
+        constraints: s.constraints + 1,
+    }
+}
+
+// ---- the whole question
+
+pub enum Reading {
+    // A refusal: its number and record.
+    Stopped(usize, usize),
+    // What was read, and the position and the record where reading ended.
+    Ended(Progress, usize, usize),
+}
+
+// Whether a record of this kind ends the question: a claim or an end record.
+fn ends_question(k: usize) -> bool
+    ensures { λ r. ⌜ r ≡ ending k ⌝ }
+{
+    if k == 5 {
+        return true;
+    }
+    k == 8
+}
+
+// "reading ends at the six leading bytes of the first claim or end record"
+pub fn read_question(b: &[u8]) -> Reading
+    ensures { λ r. ⌜ readingOf (now (b .entry)) r ≡ question (now (b .entry)) ⌝ }
+{
+    if 32768 < b.len() {
+        return Reading::Stopped(2, 0);
+    }
+    let mut s = Progress {
+        last: 0,
+        n: 0,
+        p: 0,
+        q: 0,
+        literals: 0,
+        constraints: 0,
+    };
+    let mut at = 0;
+    let mut r = 0;
+    loop {
+        match read_at(b, at) {
+            Found::Nothing => return Reading::Stopped(3, r),
+            Found::Cut(k) => {
+                if ends_question(k) {
+                    return Reading::Ended(s, at, r);
+                }
+                return Reading::Stopped(3, r);
+            }
+            Found::Whole(k, size) => {
+                if ends_question(k) {
+                    return Reading::Ended(s, at, r);
+                }
+                let f = record_fault(b, s, k, at, size);
+                if f != 0 {
+                    return Reading::Stopped(f, r);
+                }
+                let t = advance(b, s, k, at);
+                s = t;
+                at = at + 6 + size;
+                r += 1;
+            }
+        }
+    }
+}
+
+// ---- literals by number
+
+// The position behind l literals.
+pub fn behind_literals(b: &[u8], l: usize) -> usize
+    requires { ⌜ skip (now b) l 14 ≤ length (now b) ⌝ }
+    ensures { λ r. ⌜ r ≡ skip (now (b .entry)) l 14 ⌝ }
+{
+    let mut j = 14;
+    let mut left = l;
+    while 0 < left {
+        j = j + 6 + u32_at(b, j);
+        left -= 1;
+    }
+    j
+}
+
+// The characters of a literal: the position of the first, and how many there are.
+pub struct Text {
+    pub at: usize,
+    pub count: usize,
+}
+
+// The text of literal l; "literal 0 is the empty string and is never written".
+pub fn literal_text(b: &[u8], l: usize) -> Text
+    requires { ⌜ skip (now b) l 14 ≤ length (now b) ⌝ }
+    ensures { λ r. ⌜ (r .at + 4 * r .count ≤ length (now (b .entry))) × ((k : ℕ) → l ≤ k → u32s (now (b .entry)) (r .at) (r .count) ≡ getD ([] ∷ texts (now (b .entry)) k 14) l []) ⌝ }
+{
+    if l == 0 {
+        return Text { at: 0, count: 0 };
+    }
+    let from = behind_literals(b, l - 1);
+    let size = u32_at(b, from);
+    Text {
+        at: from + 6,
+        count: size / 4,
+    }
+}

@@ -1,0 +1,50 @@
+-- What was found at a position says what stands there.
+use mathlib.Core.Path.{_≡_, refl}
+use mathlib.Core.Bool.{Bool, true, false}
+use mathlib.Core.List.{List}
+use Prim.Native.Nat.{ℕ, _+_, _≤_, _<_}
+use native.Mathlib.Omega.{arith}
+use lib.ListN.{length}
+use borrow.Author.Tests.{leb-true, leb-false}
+use Rattle.format.specs.Fields.{pick}
+use Rattle.format.specs.Records.{headed, whole, next, kind, size}
+use Rattle.records.specs.Found.{foundAt}
+use Rattle.records.specs.declared.Found.{Found}
+use Rattle.records.specs.declared.Found.the-variants.{Whole, Cut, Nothing}
+
+clash : {X : Type 0} → _≡_ {A = ℕ} 0 1 → X
+clash z = absurd (omega arith)
+
+module _ (b : List ℕ) (at : ℕ) where
+  -- what is found, by whether the six leading bytes and the body are there
+  abbrev found : Bool → Bool → Found
+  found h w = pick h (pick w (Whole (kind b at) (size b at)) (Cut (kind b at))) Nothing
+
+  pub found-nothing : foundAt b at ≡ Nothing → length b < at + 6
+  unfolding foundAt
+  found-nothing = go (headed b at) (whole b at) refl
+    where
+      go : (h w : Bool) → headed b at ≡ h → found h w ≡ Nothing → length b < at + 6
+      go true true eh q = clash cc
+      go true false eh q = clash cc
+      go false w eh q = leb-false (at + 6) (length b) eh
+
+  pub found-cut : (k : ℕ) → foundAt b at ≡ Cut k → (k ≡ kind b at) × (at + 6 ≤ length b) × (length b < next b at)
+  unfolding foundAt
+  found-cut k = go (headed b at) (whole b at) refl refl
+    where
+      go : (h w : Bool) → headed b at ≡ h → whole b at ≡ w → found h w ≡ Cut k → (k ≡ kind b at) × (at + 6 ≤ length b) × (length b < next b at)
+      go true true eh ew q = clash cc
+      go true false eh ew q = (cc, leb-true (at + 6) (length b) eh, leb-false (next b at) (length b) ew)
+      go false w eh ew q = clash cc
+
+  pub found-whole : (k m : ℕ) → foundAt b at ≡ Whole k m → (k ≡ kind b at) × (m ≡ size b at) × (at + 6 + m ≤ length b)
+  unfolding foundAt
+  found-whole k m = go (headed b at) (whole b at) refl refl
+    where
+      go : (h w : Bool) → headed b at ≡ h → whole b at ≡ w → found h w ≡ Whole k m → (k ≡ kind b at) × (m ≡ size b at) × (at + 6 + m ≤ length b)
+      go true true eh ew q =
+          let e : m ≡ size b at = cc in
+          (cc, e, rw e (leb-true (next b at) (length b) ew))
+      go true false eh ew q = clash cc
+      go false w eh ew q = clash cc
