@@ -8,8 +8,8 @@ use Rattle.calculus.specs.Rows.{zeros}
 use Rattle.calculus.specs.Facts.{Question, same, isLiteral, arithmetic, ge}
 use Rattle.calculus.specs.Chains.{here, along, back, OneClass}
 use Rattle.calculus.specs.Steps.{Sum, CInj}
-use Rattle.calculus.specs.Rules.{logUp, children}
 use Rattle.calculus.specs.Children.{one}
+use Rattle.calculus.specs.Rules.{logUp, children}
 use Rattle.calculus.specs.Walk.{working, enter}
 
 -- one integer variable a, two string variables, 2a − 1 ≥ 0

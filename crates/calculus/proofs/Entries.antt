@@ -7,9 +7,9 @@ use mathlib.Core.Option.{some}
 use mathlib.Core.List.{List, [], _∷_, _++_, tail}
 use lib.ListN.{length, length-append, length-replicate}
 use lib.Dec.{T, leb, leb→le, le→leb}
-use lib.IntN.{ℤ, pos, negsuc, _+ℤ_, _*ℤ_, +ℤ-idl, +ℤ-idr, zero-*ℤ, *ℤ-zero}
+use lib.IntN.{ℤ, pos, negsuc, one, _+ℤ_, _*ℤ_, +ℤ-idl, +ℤ-idr, zero-*ℤ, *ℤ-zero, *ℤ-one}
 use lib.Signed.{_≤ℤ_, _<ℤ_}
-use Rattle.integers.proofs.Laws.{*ℤ-one, floorZ, floor-low, floor-high, floor-unique, floor-multiple}
+use Rattle.integers.proofs.Laws.{floorZ, floor-low, floor-high, floor-unique, floor-multiple}
 use Rattle.lists.proofs.Options.{none-some}
 use Rattle.lists.proofs.Tests.{and→, →and}
 use Rattle.calculus.specs.Limits.{columnLimit}
@@ -66,6 +66,7 @@ dot-entries (x ∷ a) (y ∷ b) (z ∷ v) h = ap₂ _+ℤ_ (ap (λ c. c *ℤ z) 
 
 -- the constant, and the other places
 pub dot-split : (e v : List ℤ) → dot e (pos 1 ∷ v) ≡ entry e 0 +ℤ dot (tail e) v
+unfolding one
 dot-split [] v = refl
 dot-split (c ∷ e) v = ap (λ k. k +ℤ dot e v) (*ℤ-one c)
 
@@ -125,7 +126,7 @@ whole-below a h = whole-less (scale (negsuc 0) a) (whole-scale (negsuc 0) a h)
 
 -- ---- division: "Column sums must divide exactly; the constant is divided rounding down"
 
-floor-same : (z : ℤ) (d : ℕ) → floorDiv z d ≡ floorZ z d
+pub floor-same : (z : ℤ) (d : ℕ) → floorDiv z d ≡ floorZ z d
 floor-same (pos a) d = refl
 floor-same (negsuc a) d = refl
 

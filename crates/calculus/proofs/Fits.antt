@@ -17,13 +17,13 @@ use Rattle.lists.proofs.Lists.{all-at}
 use Rattle.lists.proofs.Tests.{and→, →and, or→, →or-left, →or-right}
 use Rattle.calculus.specs.Limits.{columnLimit}
 use Rattle.calculus.specs.Alphabet.{characterCount}
-use Rattle.calculus.specs.Rows.{plus, scale, number, minus, nonneg, isZero, eqRow, allZero}
-use Rattle.calculus.specs.Facts.{Question, Fact, same, apart, isLiteral, arithmetic, Branch, Relation, ge, eq, ne, Function, len, code, holds, literal, apply, valueOf}
+use Rattle.calculus.specs.Rows.{plus, scale, minus, nonneg, isZero, eqRow, allZero}
+use Rattle.calculus.specs.Facts.{Question, Fact, same, apart, isLiteral, arithmetic, Branch, Relation, ge, eq, ne, Function, len, code, holds, apply}
 use Rattle.calculus.specs.Chains.{varNode}
 use Rattle.calculus.specs.Classes.{labels, sameClass, classLiteral, conflict}
 use Rattle.calculus.specs.Steps.{Step, Sum, Split, Apart, AConf, SConf, SProp, LIntro, LValid, CCollapse, CValid, CInj, Card, Join}
+use Rattle.calculus.specs.Children.{sumChild, literalChild, pairs, boundChild}
 use Rattle.calculus.specs.Rules.{guard, then, summand, sumOf, divided, falsum, joined, statesZero, anyFact, sameLength, neighbours, distinct, logUp, lastChild, cardChildren, children, parted}
-use Rattle.calculus.specs.Children.{pairs, one}
 use Rattle.calculus.specs.Instances.{entry, FactAt, Stands, Multiplier, Summands, IsSum, IsApart, False, IsAConf, IsLiteral, LengthsStated, Neighbours, LastChild, IsJoin, Instance, HeadInRange, FactInRange, FactsInRange, StepInRange}
 use Rattle.calculus.proofs.Tests.{guard→, →guard, then→, →then, differ→, →differ, distinct→, →distinct}
 use Rattle.calculus.proofs.Rows.{eqRow→, →eqRow}
@@ -85,8 +85,8 @@ module _ (u : Question) (b : Branch) (g : FactsInRange u b) where
 
   sum-fits : (d : ℕ) (ts : List (ℕ × ℤ)) {cs : List (List Fact)} → 1 ≤ length ts → children u b (Sum d ts) ≡ some cs → IsSum b d ts cs
   sum-fits d ts l e =
-      let (r, er, e1) = then→ (sumOf b ts) (λ r. then (divided d r) (λ e. some (one (arithmetic ge e)))) e in
-      let (q, dq, e2) = then→ (divided d r) (λ e. some (one (arithmetic ge e))) e1 in
+      let (r, er, e1) = then→ (sumOf b ts) (λ r. then (divided d r) (λ e. some (sumChild e))) e in
+      let (q, dq, e2) = then→ (divided d r) (λ e. some (sumChild e)) e1 in
       let (es, h, p) = sum→ b ts er in
       let w : Divided d (summed ts es) q = subst (λ r. Divided d r q) p (divided→ d r q dq) in
       record {
@@ -109,7 +109,7 @@ module _ (u : Question) (b : Branch) (g : FactsInRange u b) where
         floor-low = subst (λ z. (pos d *ℤ entry (i .new) 0) ≤ℤ z) (sym (entry-summed ts (i .forms) 0)) (i .floor-low);
         floor-high = subst (λ z. z <ℤ (pos d *ℤ (entry (i .new) 0 +ℤ pos 1))) (sym (entry-summed ts (i .forms) 0)) (i .floor-high);
       }) in
-      →then _ (→sum b ts (i .forms) (i .summands)) (→then (λ e. some (one (arithmetic ge e))) w (ap some (sym (i .adds))))
+      →then _ (→sum b ts (i .forms) (i .summands)) (→then (λ e. some (sumChild e)) w (ap some (sym (i .adds))))
 
 -- ---- 3 Apart
 
@@ -186,7 +186,7 @@ pub last→ : (u : Question) (x m : ℕ) → 1 ≤ u .n → LastChild u x m (las
 last→ u x m h = go (leb (characterCount (u .n)) 1) refl
   where
     go : (t : Bool) → leb (characterCount (u .n)) 1 ≡ t
-        → LastChild u x m (elim t as (λ _. List (List Fact)) [ true ↦ [] | false ↦ (arithmetic ge (minus (apply u len x) (number (pos (logUp m (characterCount (u .n)) m 0)))) ∷ []) ∷ [] ])
+        → LastChild u x m (elim t as (λ _. List (List Fact)) [ true ↦ [] | false ↦ boundChild u x (logUp m (characterCount (u .n)) m 0) ])
     go true e = inl (omega (arith, leb-true (u .n) 1 e), refl)
     go false e = inr ((λ z. omega (arith, leb-false (u .n) 1 e)), record { power = logUp m (u .n) m 0; least = least-power (u .n) m (leb-false (u .n) 1 e); adds = refl })
 
@@ -194,7 +194,7 @@ last-unique : (u : Question) (x m : ℕ) {c d : List (List Fact)} → LastChild 
 last-unique u x m (inl (e, p)) (inl (f, q)) = p ∙ sym q
 last-unique u x m (inl (e, p)) (inr (f, q)) = absurd (f e)
 last-unique u x m (inr (e, p)) (inl (f, q)) = absurd (e f)
-last-unique u x m (inr (e, p)) (inr (f, q)) = p .adds ∙ ap (λ l. one (arithmetic ge (minus (apply u len x) (number (pos l))))) (least-unique (p .least) (q .least)) ∙ sym (q .adds)
+last-unique u x m (inr (e, p)) (inr (f, q)) = p .adds ∙ ap (boundChild u x) (least-unique (p .least) (q .least)) ∙ sym (q .adds)
 
 card-fits : (u : Question) (b : Branch) (xs : List ℕ) {cs : List (List Fact)} → 1 ≤ u .n → cardChildren u b xs ≡ some cs → Instance u b (Card xs) cs
 unfolding Instance
@@ -249,16 +249,13 @@ fits-join u b j k r i =
 
 module _ (u : Question) (w : HeadInRange u) (b : Branch) (r : FactsInRange u b) where
   -- 7 L-Intro and 9 C-Collapse
-  abbrev literalChild : Function → ℕ → ℕ → List (List Fact)
-  literalChild f x l = one (arithmetic eq (minus (apply u f x) (number (valueOf f (literal u l)))))
-
-  literal-fits : (f : Function) (x : ℕ) {cs : List (List Fact)} → then (classLiteral u b x) (λ l. some (literalChild f x l)) ≡ some cs → IsLiteral u b f x cs
+  literal-fits : (f : Function) (x : ℕ) {cs : List (List Fact)} → then (classLiteral u b x) (λ l. some (literalChild u f x l)) ≡ some cs → IsLiteral u b f x cs
   literal-fits f x e =
-      let (l, el, e1) = then→ (classLiteral u b x) (λ l. some (literalChild f x l)) e in
+      let (l, el, e1) = then→ (classLiteral u b x) (λ l. some (literalChild u f x l)) e in
       record { held = l; counts = literal→counts u w b r x el; adds = sym (some-injective e1) }
 
-  fits-literal : (f : Function) (x : ℕ) {cs : List (List Fact)} → IsLiteral u b f x cs → then (classLiteral u b x) (λ l. some (literalChild f x l)) ≡ some cs
-  fits-literal f x i = →then (λ l. some (literalChild f x l)) (counts→literal u w b r x (i .held) (i .counts)) (ap some (sym (i .adds)))
+  fits-literal : (f : Function) (x : ℕ) {cs : List (List Fact)} → IsLiteral u b f x cs → then (classLiteral u b x) (λ l. some (literalChild u f x l)) ≡ some cs
+  fits-literal f x i = →then (λ l. some (literalChild u f x l)) (counts→literal u w b r x (i .held) (i .counts)) (ap some (sym (i .adds)))
 
   pub fits→instance : (st : Step) {cs : List (List Fact)} → StepInRange u st → children u b st ≡ some cs → Instance u b st cs
   unfolding Instance StepInRange

@@ -15,10 +15,10 @@ use Rattle.lists.proofs.Options.{some-injective, none-some}
 use Rattle.lists.proofs.Lists.{Any}
 use Rattle.calculus.specs.Alphabet.{lastCharacter, Character}
 use Rattle.calculus.specs.Rows.{number, minus, less}
-use Rattle.calculus.specs.Facts.{Question, Fact, same, isLiteral, arithmetic, Branch, ge, eq, ne, Function, len, code, literal, apply, valueOf}
+use Rattle.calculus.specs.Facts.{Question, Fact, Branch, Function, len, code, literal, apply, valueOf}
 use Rattle.calculus.specs.Chains.{OneClass, ClassHolds, Counts}
 use Rattle.calculus.specs.Steps.{Step, SProp, LIntro, LValid, CCollapse, CValid, CInj}
-use Rattle.calculus.specs.Children.{one}
+use Rattle.calculus.specs.Children.{one, lValidChildren, cValidChildren, cInjChildren}
 use Rattle.calculus.specs.Instances.{Instance}
 use Rattle.calculus.specs.Model.{modelOf, valueIn}
 use Rattle.calculus.specs.Saturation.{HoldsAlready, SomeChild}
@@ -26,16 +26,19 @@ use Rattle.calculus.proofs.Rows.{dot-minus, dot-number, dot-column, dot
 
 -- ---- some child holds already
 
+abbrev pub AnyHeld : Branch → List ℤ → List (List Fact) → Type 0
+AnyHeld b m cs = Any (All (HoldsAlready b m)) cs
+
 module _ (b : Branch) (m : List ℤ) where
-  pub some→any : (cs : List (List Fact)) → SomeChild b m cs → Any (All (HoldsAlready b m)) cs
+  pub some→any : (cs : List (List Fact)) → SomeChild b m cs → AnyHeld b m cs
   some→any cs s = at cs (s .number) (s .is)
     where
-      at : (cs : List (List Fact)) (k : ℕ) → getElem? cs k ≡ some (s .child) → Any (All (HoldsAlready b m)) cs
+      at : (cs : List (List Fact)) (k : ℕ) → getElem? cs k ≡ some (s .child) → AnyHeld b m cs
       at [] k e = absurd (none-some e)
       at (c ∷ cs) zero e = inl (subst (All (HoldsAlready b m)) (sym (some-injective e)) (s .held))
       at (c ∷ cs) (suc k) e = inr (at cs k e)
 
-  pub any→some : (cs : List (List Fact)) → Any (All (HoldsAlready b m)) cs → SomeChild b m cs
+  pub any→some : (cs : List (List Fact)) → AnyHeld b m cs → SomeChild b m cs
   any→some [] h = absurd h
   any→some (c ∷ cs) (inl h) = record { number = 0; child = c; is = refl; held = h }
   any→some (c ∷ cs) (inr h) = let s = any→some cs h in record { number = suc (s .number); child = s .child; is = s .is; held = s .held }
@@ -43,7 +46,7 @@ module _ (b : Branch) (m : List ℤ) where
   only : (f : Fact) → SomeChild b m (one f) → HoldsAlready b m f
   only f s = go (some→any (one f) s)
     where
-      go : Any (All (HoldsAlready b m)) (one f) → HoldsAlready b m f
+      go : AnyHeld b m (one f) → HoldsAlready b m f
       go (inl (h, _)) = h
       go (inr h) = absurd h
 
@@ -101,7 +104,7 @@ module _ (u : Question) (b : Branch) (m : List ℤ) (h : ByClasses u b m) where
       empty : ClassHolds b x 0 → Counts u b x 0
       empty c = record { defined = omega arith; held = c; lowest = λ k g d. omega arith }
 
-      go : Any (All (HoldsAlready b m)) ((isLiteral x 0 ∷ []) ∷ (arithmetic ge (less (apply u len x)) ∷ []) ∷ []) → pos 0 ≤ℤ M len x
+      go : AnyHeld b m (lValidChildren u x) → pos 0 ≤ℤ M len x
       go (inl (c, _)) = subst (λ z. pos 0 ≤ℤ z) (sym (literal-value len x 0 hx (empty c))) (≤ℤ-refl (pos 0))
       go (inr (inl (e, _))) = ≤ℤ-trans (pos-≤ℤ {m = 0} {n = 1} (omega arith)) (-ℤ-nonneg→ (subst (λ z. pos 0 ≤ℤ z) (less-in x) e))
       go (inr (inr z)) = absurd z
@@ -114,9 +117,7 @@ module _ (u : Question) (b : Branch) (m : List ℤ) (h : ByClasses u b m) where
   unfolding Instance
   code-valid n x hx = go (some→any b m _ (h .c-valid x hx _ refl))
     where
-      go : Any (All (HoldsAlready b m)) ((arithmetic ne (less (apply u len x)) ∷ arithmetic eq (minus (apply u code x) (number (negsuc 0))) ∷ [])
-          ∷ (arithmetic eq (less (apply u len x)) ∷ arithmetic ge (apply u code x) ∷ arithmetic ge (minus (number (pos (lastCharacter (u .n)))) (apply u code x)) ∷ [])
-          ∷ []) → CodeValid x
+      go : AnyHeld b m (cValidChildren u x) → CodeValid x
       go (inl (p, (q, _))) = inl ((λ e. p (less-in x ∙ →-ℤ-zero e)), -ℤ-zero→ (sym (number-in code x (negsuc 0)) ∙ q))
       go (inr (inl (p, (q, (s, _))))) =
           let e : M code x ≡ pos (natAbs (M code x)) = abs-nonneg (M code x) (subst (λ z. pos 0 ≤ℤ z) (apply-in u m code x) q) in
@@ -130,8 +131,7 @@ module _ (u : Question) (b : Branch) (m : List ℤ) (h : ByClasses u b m) where
   unfolding Instance
   code-injective x y hx hy d = go (some→any b m _ (h .c-inj x y hx hy _ (record { different = d; adds = refl })))
     where
-      go : Any (All (HoldsAlready b m)) ((arithmetic eq (minus (apply u code x) (number (negsuc 0))) ∷ []) ∷ (arithmetic ne (minus (apply u code x) (apply u code y)) ∷ []) ∷ (same x y ∷ []) ∷ [])
-          → (M code x ≡ negsuc 0) ⊎ ((M code x ≢ M code y) ⊎ OneClass b x y)
+      go : AnyHeld b m (cInjChildren u x y) → (M code x ≡ negsuc 0) ⊎ ((M code x ≢ M code y) ⊎ OneClass b x y)
       go (inl (e, _)) = inl (-ℤ-zero→ (sym (number-in code x (negsuc 0)) ∙ e))
       go (inr (inl (e, _))) = inr (inl (λ p. e (difference-in code x y ∙ →-ℤ-zero p)))
       go (inr (inr (inl (c, _)))) = inr (inr c)

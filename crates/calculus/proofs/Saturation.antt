@@ -14,16 +14,16 @@ use lib.IntN.{ℤ, pos, natAbs}
 use lib.Signed.{_≤ℤ_}
 use Rattle.integers.proofs.Laws.{pos-≤ℤ, -ℤ-nonneg→, →-ℤ-nonneg, abs-nonneg, ≤ℤ-abs}
 use Rattle.lists.specs.Lists.{All, Distinct}
-use Rattle.lists.proofs.Lists.{Any, In, all-map, at-most, map-same}
+use Rattle.lists.proofs.Lists.{In, all-map, at-most, map-same}
 use Rattle.lists.proofs.Tests.{→true, true→, and→, →and, or→, →or-left, →or-right}
 use Rattle.calculus.specs.Alphabet.{characterCount}
-use Rattle.calculus.specs.Rows.{number, minus}
-use Rattle.calculus.specs.Facts.{Question, Fact, same, apart, isLiteral, arithmetic, Branch, ge, Function, len, code, apply}
+use Rattle.calculus.specs.Rows.{number}
+use Rattle.calculus.specs.Facts.{Question, Fact, same, apart, isLiteral, arithmetic, Branch, Function, len, code, apply}
 use Rattle.calculus.specs.Chains.{varNode, litNode}
 use Rattle.calculus.specs.Classes.{labels, sameClass, conflict}
 use Rattle.calculus.specs.Steps.{Step, Sum, Split, Apart, AConf, SConf, SProp, LIntro, LValid, CCollapse, CValid, CInj, Card, Join}
+use Rattle.calculus.specs.Children.{pairs, boundChild}
 use Rattle.calculus.specs.Rules.{children, logUp, lastChild}
-use Rattle.calculus.specs.Children.{pairs, one}
 use Rattle.calculus.specs.Instances.{LastChild, Instance, HeadInRange, FactsInRange, StepInRange}
 use Rattle.calculus.specs.Model.{modelOf, valueIn}
 use Rattle.calculus.specs.Saturation.{HoldsAlready, SomeChild, IsLeafCard, LeafInstance, Saturated}
@@ -36,7 +36,7 @@ use Rattle.calculus.proofs.Powers.{least-power, power-enough}
 use Rattle.calculus.proofs.Pairs.{pairs-last, pairs-or-distinct, pairs-distinct}
 use Rattle.calculus.proofs.Fits.{last→, fits→instance, instance→fits}
 use Rattle.calculus.proofs.Lowest.{lowest-joined, lowest-le, lowest→class, class→lowest, lowest-lowest, IsLowest, lowests, in-lowests, lowests-distinct}
-use Rattle.calculus.proofs.Leaf.{some→any, any→some, Chosen, ByClasses, apply-in, class-value, length-nonneg}
+use Rattle.calculus.proofs.Leaf.{AnyHeld, some→any, any→some, Chosen, ByClasses, apply-in, class-value, length-nonneg}
 
 module _ (u : Question) (w : HeadInRange u) (b : Branch) (r : FactsInRange u b) (m : List ℤ) where
   -- ---- a child holds already
@@ -61,15 +61,15 @@ module _ (u : Question) (w : HeadInRange u) (b : Branch) (r : FactsInRange u b) 
   →held-all [] h = tt
   →held-all (f ∷ c) (h, hs) = →and (held (labels b) m f) (heldAll (labels b) m c) (→held f h) (→held-all c hs)
 
-  held-some→ : (cs : List (List Fact)) → T (heldSome (labels b) m cs) → Any (All (HoldsAlready b m)) cs
+  held-some→ : (cs : List (List Fact)) → T (heldSome (labels b) m cs) → AnyHeld b m cs
   held-some→ [] t = absurd t
   held-some→ (c ∷ cs) t = go (or→ (heldAll (labels b) m c) (heldSome (labels b) m cs) t) (held-some→ cs)
     where
-      go : T (heldAll (labels b) m c) ⊎ T (heldSome (labels b) m cs) → (T (heldSome (labels b) m cs) → Any (All (HoldsAlready b m)) cs) → Any (All (HoldsAlready b m)) (c ∷ cs)
+      go : T (heldAll (labels b) m c) ⊎ T (heldSome (labels b) m cs) → (T (heldSome (labels b) m cs) → AnyHeld b m cs) → AnyHeld b m (c ∷ cs)
       go (inl s) ih = inl (held-all→ c s)
       go (inr s) ih = inr (ih s)
 
-  →held-some : (cs : List (List Fact)) → Any (All (HoldsAlready b m)) cs → T (heldSome (labels b) m cs)
+  →held-some : (cs : List (List Fact)) → AnyHeld b m cs → T (heldSome (labels b) m cs)
   →held-some [] h = h
   →held-some (c ∷ cs) (inl h) = →or-left (heldAll (labels b) m c) (heldSome (labels b) m cs) (→held-all c h)
   →held-some (c ∷ cs) (inr h) = →or-right (heldAll (labels b) m c) (heldSome (labels b) m cs) (→held-some cs h)
@@ -88,71 +88,75 @@ module _ (u : Question) (w : HeadInRange u) (b : Branch) (r : FactsInRange u b) 
 
   -- ---- Card
 
-  abbrev rep : ℕ → ℕ
-  rep x = lowestVar (labels b) x
+  abbrev low : ℕ → ℕ
+  low x = lowestVar (labels b) x
 
   abbrev M : ℕ → ℤ
   M x = modelOf u m len x
 
   -- the lowest variables of the classes whose length is that of x
-  abbrev R : ℕ → List ℕ
-  R x = lowestOf u (labels b) m (M x) (u .p)
+  abbrev ofLength : ℕ → List ℕ
+  ofLength x = lowestOf u (labels b) m (M x) (u .p)
 
   abbrev least : ℕ → ℕ
   least k = logUp k (characterCount (u .n)) k 0
 
-  card→ : (x : ℕ) → T (saturatedCard u (labels b) m x) → (length (R x) ≤ 1) ⊎ ((1 < u .n) × (least (length (R x)) ≤ natAbs (M x)))
-  card→ x t = go (or→ (leb (length (R x)) 1) (not (leb (u .n) 1) && leb (least (length (R x))) (natAbs (M x))) t)
+  -- one class of that length only, or two characters and a length that is large enough
+  abbrev Few : ℕ → Type 0
+  Few x = (length (ofLength x) ≤ 1) ⊎ ((1 < u .n) × (least (length (ofLength x)) ≤ natAbs (M x)))
+
+  card→ : (x : ℕ) → T (saturatedCard u (labels b) m x) → Few x
+  card→ x t = go (or→ (leb (length (ofLength x)) 1) (not (leb (u .n) 1) && leb (least (length (ofLength x))) (natAbs (M x))) t)
     where
-      go : T (leb (length (R x)) 1) ⊎ T (not (leb (u .n) 1) && leb (least (length (R x))) (natAbs (M x))) → (length (R x) ≤ 1) ⊎ ((1 < u .n) × (least (length (R x)) ≤ natAbs (M x)))
-      go (inl s) = inl (leb→le (length (R x)) 1 s)
-      go (inr s) = let (p, q) = and→ (not (leb (u .n) 1)) (leb (least (length (R x))) (natAbs (M x))) s in inr (nleb→lt (u .n) 1 p, leb→le (least (length (R x))) (natAbs (M x)) q)
+      go : T (leb (length (ofLength x)) 1) ⊎ T (not (leb (u .n) 1) && leb (least (length (ofLength x))) (natAbs (M x))) → Few x
+      go (inl s) = inl (leb→le (length (ofLength x)) 1 s)
+      go (inr s) = let (p, q) = and→ (not (leb (u .n) 1)) (leb (least (length (ofLength x))) (natAbs (M x))) s in inr (nleb→lt (u .n) 1 p, leb→le (least (length (ofLength x))) (natAbs (M x)) q)
 
   -- the classes of one length are no more than the strings of that length
-  card-enough : (x : ℕ) → T (saturatedCard u (labels b) m x) → length (R x) ≤ u .n ^ natAbs (M x)
+  card-enough : (x : ℕ) → T (saturatedCard u (labels b) m x) → length (ofLength x) ≤ u .n ^ natAbs (M x)
   card-enough x t = go (card→ x t)
     where
-      go : (length (R x) ≤ 1) ⊎ ((1 < u .n) × (least (length (R x)) ≤ natAbs (M x))) → length (R x) ≤ u .n ^ natAbs (M x)
+      go : Few x → length (ofLength x) ≤ u .n ^ natAbs (M x)
       go (inl h) = omega (arith, one-le-pow (natAbs (M x)) (u .n) (w .alphabet))
-      go (inr (h, g)) = power-enough (w .alphabet) (least-power (u .n) (length (R x)) h) g
+      go (inr (h, g)) = power-enough (w .alphabet) (least-power (u .n) (length (ofLength x)) h) g
 
   module _ (h : ByClasses u b m) where
-    reps-in : (x : ℕ) (ys : List ℕ) → All (λ y. y < u .p) ys → All (λ y. M y ≡ M x) ys → (z : ℕ) → In z (map rep ys) → In z (R x)
-    reps-in x [] g e z i = absurd i
-    reps-in x (y ∷ ys) (g, gs) (e, es) z (inl p) =
-        let k : rep y < u .p = omega (arith, lowest-le b y) in
-        subst (λ z. In z (R x)) (sym p) (in-lowests u (labels b) m (M x) (u .p) (rep y) (k, sym (class-value u b m h len y (rep y) g k (lowest-joined b y)) ∙ e, lowest-lowest u w b r y))
-    reps-in x (y ∷ ys) (g, gs) (e, es) z (inr i) = reps-in x ys gs es z i
+    lows-in : (x : ℕ) (ys : List ℕ) → All (λ y. y < u .p) ys → All (λ y. M y ≡ M x) ys → (z : ℕ) → In z (map low ys) → In z (ofLength x)
+    lows-in x [] g e z i = absurd i
+    lows-in x (y ∷ ys) (g, gs) (e, es) z (inl p) =
+        let k : low y < u .p = omega (arith, lowest-le b y) in
+        subst (λ z. In z (ofLength x)) (sym p) (in-lowests u (labels b) m (M x) (u .p) (low y) (k, sym (class-value u b m h len y (low y) g k (lowest-joined b y)) ∙ e, lowest-lowest u w b r y))
+    lows-in x (y ∷ ys) (g, gs) (e, es) z (inr i) = lows-in x ys gs es z i
 
-    last-held : (x k : ℕ) (cs : List (List Fact)) → x < u .p → 2 ≤ k → k ≤ length (R x) → T (saturatedCard u (labels b) m x) → LastChild u x k cs → Any (All (HoldsAlready b m)) cs
+    last-held : (x k : ℕ) (cs : List (List Fact)) → x < u .p → 2 ≤ k → k ≤ length (ofLength x) → T (saturatedCard u (labels b) m x) → LastChild u x k cs → AnyHeld b m cs
     last-held x k cs hx l g t (inl (e, p)) = absurd (go (card→ x t))
       where
-        go : (length (R x) ≤ 1) ⊎ ((1 < u .n) × (least (length (R x)) ≤ natAbs (M x))) → ⊥
+        go : Few x → ⊥
         go (inl s) = omega arith
         go (inr (s, _)) = omega arith
     last-held x k cs hx l g t (inr (e, p)) =
         let enough : k ≤ u .n ^ natAbs (M x) = omega (arith, card-enough x t) in
-        subst (Any (All (HoldsAlready b m))) (sym (p .adds)) (inl (
+        subst (AnyHeld b m) (sym (p .adds)) (inl (
           subst (λ z. pos 0 ≤ℤ z) (sym (dot-minus (apply u len x) (number (pos (p .power))) (pos 1 ∷ m) (apply-in u m len x) (dot-number m (pos (p .power)))))
               (→-ℤ-nonneg (subst (λ z. pos (p .power) ≤ℤ z) (sym (abs-nonneg (M x) (length-nonneg u b m h x hx))) (pos-≤ℤ (p .least .least (natAbs (M x)) enough)))),
           tt,
         ))
 
     card-chosen : (x : ℕ) (xs : List ℕ) (cs : List (List Fact)) → All (λ y. y < u .p) (x ∷ xs) → 2 ≤ length (x ∷ xs) → T (saturatedCard u (labels b) m x) → IsLeafCard u m x xs cs → SomeChild b m cs
-    card-chosen x xs cs g l t i = any→some b m cs (subst (Any (All (HoldsAlready b m))) (sym (i .adds))
-        (go (pairs-or-distinct rep (All (HoldsAlready b m)) ℕ-discrete (λ x y e. (lowest→class b x y e, tt)) (x ∷ xs) (i .last))))
+    card-chosen x xs cs g l t i = any→some b m cs (subst (AnyHeld b m) (sym (i .adds))
+        (go (pairs-or-distinct low (All (HoldsAlready b m)) ℕ-discrete (λ x y e. (lowest→class b x y e, tt)) (x ∷ xs) (i .last))))
       where
-        go : Any (All (HoldsAlready b m)) (pairs (x ∷ xs) (i .last)) ⊎ Distinct (map rep (x ∷ xs)) → Any (All (HoldsAlready b m)) (pairs (x ∷ xs) (i .last))
+        go : AnyHeld b m (pairs (x ∷ xs) (i .last)) ⊎ Distinct (map low (x ∷ xs)) → AnyHeld b m (pairs (x ∷ xs) (i .last))
         go (inl s) = s
         go (inr d) =
-            let few : length (map rep (x ∷ xs)) ≤ length (R x) = at-most (map rep (x ∷ xs)) (R x) d (reps-in x (x ∷ xs) g (refl, i .lengths)) in
-            let same : length (map rep (x ∷ xs)) ≡ length (x ∷ xs) = length-map (x ∷ xs) rep in
-            pairs-last rep (All (HoldsAlready b m)) (x ∷ xs) (i .last) (last-held x (length (x ∷ xs)) (i .last) (g .0) l (omega arith) t (i .last-child))
+            let few : length (map low (x ∷ xs)) ≤ length (ofLength x) = at-most (map low (x ∷ xs)) (ofLength x) d (lows-in x (x ∷ xs) g (refl, i .lengths)) in
+            let same : length (map low (x ∷ xs)) ≡ length (x ∷ xs) = length-map (x ∷ xs) low in
+            pairs-last low (All (HoldsAlready b m)) (x ∷ xs) (i .last) (last-held x (length (x ∷ xs)) (i .last) (g .0) l (omega arith) t (i .last-child))
 
   -- ---- the words give the test
 
   module _ (s : Saturated u b m) where
-    last-test : (x y k : ℕ) → M y ≡ M x → (t : Bool) → Any (All (HoldsAlready b m)) (elim t as (λ _. List (List Fact)) [ true ↦ [] | false ↦ one (arithmetic ge (minus (apply u len y) (number (pos (least k))))) ])
+    last-test : (x y k : ℕ) → M y ≡ M x → (t : Bool) → AnyHeld b m (elim t as (λ _. List (List Fact)) [ true ↦ [] | false ↦ boundChild u y (least k) ])
         → T (not t && leb (least k) (natAbs (M x)))
     last-test x y k e true h = absurd h
     last-test x y k e false (inr h) = absurd h
@@ -161,7 +165,7 @@ module _ (u : Question) (w : HeadInRange u) (b : Branch) (r : FactsInRange u b) 
 
     card-test : (x : ℕ) → T (saturatedCard u (labels b) m x)
     unfolding LeafInstance StepInRange
-    card-test x = by (R x) (lowests u (labels b) m (M x) (u .p)) (lowests-distinct u (labels b) m (M x) (u .p))
+    card-test x = by (ofLength x) (lowests u (labels b) m (M x) (u .p)) (lowests-distinct u (labels b) m (M x) (u .p))
       where
         by : (rs : List ℕ) → All (IsLowest u (labels b) m (M x) (u .p)) rs → Distinct rs → T (leb (length rs) 1 || (not (leb (u .n) 1) && leb (least (length rs)) (natAbs (M x))))
         by [] h d = tt
@@ -170,7 +174,7 @@ module _ (u : Question) (w : HeadInRange u) (b : Branch) (r : FactsInRange u b) 
             let rs = y ∷ z ∷ ys in
             let k = length (y ∷ z ∷ ys) in
             →or-right (leb k 1) (not (leb (u .n) 1) && leb (least k) (natAbs (M x))) (last-test x y k (h .0 .1) (leb (u .n) 1)
-            (pairs-distinct rep (All (HoldsAlready b m)) (λ x y p. class→lowest u w b r x y (p .0)) rs (lastChild u y k) (subst Distinct (sym (map-same rep rs (all-map rs (λ y h. h .2) h))) d)
+            (pairs-distinct low (All (HoldsAlready b m)) (λ x y p. class→lowest u w b r x y (p .0)) rs (lastChild u y k) (subst Distinct (sym (map-same low rs (all-map rs (λ y h. h .2) h))) d)
             (some→any b m _ (s .some-child (Card rs) (all-map rs (λ y h. h .0) h, omega arith) _
             (record { different = d; lengths = all-map (z ∷ ys) (λ v p. p .1 ∙ sym (h .0 .1)) (h .1); last = lastChild u y k; last-child = last→ u y k (w .alphabet); adds = refl })))))
 

@@ -20,7 +20,7 @@ use Rattle.calculus.specs.Rows.{scale, number, minus, less, below, dot}
 use Rattle.calculus.specs.Facts.{Question, Fact, same, apart, isLiteral, arithmetic, Branch, Relation, ge, eq, ne, Function, len, code, literal, apply, codeOf, valueOf}
 use Rattle.calculus.specs.Chains.{varNode, litNode, Edge, AnyEdge, Chain, here, along, back}
 use Rattle.calculus.specs.Steps.{Step, Sum, Split, Apart, AConf, SConf, SProp, LIntro, LValid, CCollapse, CValid, CInj, Card, Join}
-use Rattle.calculus.specs.Children.{pairs}
+use Rattle.calculus.specs.Children.{pairs, cValidChildren, cInjChildren}
 use Rattle.calculus.specs.Instances.{entry, FactAt, Multiplier, Summands, total, IsSum, False, IsAConf, LiteralsMeet, ApartMeet, IsLiteral, LengthsStated, Neighbours, LastChild, IsCard, IsJoin, Instance, StepInRange}
 use Rattle.calculus.specs.Meaning.{Assignment, str, For, columns, value, Meets, Met}
 use Rattle.calculus.proofs.Rows.{dot-plus, dot-scale, dot-neg, dot-minus, dot-number, dot-column, dot-less, dot-below}
@@ -236,9 +236,7 @@ module _ (u : Question) (a : Assignment) (f : For u a) where
       one-character c e = let h : c < u .n = subst (Over (u .n)) e (f .over x) .0 in omega arith
 
       go : ((c : ℕ) × (str a x ≡ c ∷ [])) ⊎ ((length (str a x) ≢ 1) × (codeOf (str a x) ≡ negsuc 0))
-          → AnyMet u a ((arithmetic ne (less (apply u len x)) ∷ arithmetic eq (minus (apply u code x) (number (negsuc 0))) ∷ [])
-          ∷ (arithmetic eq (less (apply u len x)) ∷ arithmetic ge (apply u code x) ∷ arithmetic ge (minus (number (pos (lastCharacter (u .n)))) (apply u code x)) ∷ [])
-          ∷ [])
+          → AnyMet u a (cValidChildren u x)
       go (inr (h, e)) = inl (→holds ne _ (λ z. h (pos-injective (-ℤ-zero→ (sym (less-length x g) ∙ z)))), (equals-number code x (negsuc 0) g e, tt))
       go (inl (c, e)) = inr (inl (
         →holds eq _ (less-length x g ∙ →-ℤ-zero (ap (λ s. pos (length s)) e)),
@@ -254,7 +252,7 @@ module _ (u : Question) (a : Assignment) (f : For u a) where
   instance-sound d b (CInj x y) cs (hx, hy) i m = subst (AnyMet u a) (sym (i .adds)) (go (no-code-or-equal (str a x) (str a y)))
     where
       go : (codeOf (str a x) ≡ negsuc 0) ⊎ ((codeOf (str a x) ≢ codeOf (str a y)) ⊎ (str a x ≡ str a y))
-          → AnyMet u a ((arithmetic eq (minus (apply u code x) (number (negsuc 0))) ∷ []) ∷ (arithmetic ne (minus (apply u code x) (apply u code y)) ∷ []) ∷ (same x y ∷ []) ∷ [])
+          → AnyMet u a (cInjChildren u x y)
       go (inl e) = inl (equals-number code x (negsuc 0) hx e, tt)
       go (inr (inl h)) = inr (inl (→holds ne _ (λ z. h (-ℤ-zero→ (sym (dot-minus (apply u code x) (apply u code y) (columns a) (apply-value code x hx) (apply-value code y hy)) ∙ z))), tt))
       go (inr (inr e)) = inr (inr (inl (e, tt)))

@@ -100,9 +100,6 @@ module _ (u : Question) (b : Branch) (m : List ℤ) where
       go (yes p) ih = subst (λ o. In s (fixedBehind k o)) (sym e ∙ ap (fixedString u b m) p) (inl refl)
       go (no f) ih = behind (fixedString u b m k) (ih (omega arith) e)
 
-  abbrev rep : ℕ → ℕ
-  rep x = lowestVar (labels b) x
-
   abbrev L : ℕ → ℕ
   L x = natAbs (modelOf u m len x)
 
@@ -111,16 +108,16 @@ module _ (u : Question) (b : Branch) (m : List ℤ) where
   before x = fixedStrings u b m (u .p) ++ stringsTo u b m x
 
   abbrev chosen : ℕ → Option (List ℕ) → Bool → List ℕ
-  chosen x o t = elim o as (λ _. List ℕ) [ some s ↦ s | none ↦ elim t as (λ _. List ℕ) [ true ↦ getD (stringsTo u b m x) (rep x) [] | false ↦ freshFrom (u .p) (u .n) (L x) (before x) 0 ] ]
+  chosen x o t = elim o as (λ _. List ℕ) [ some s ↦ s | none ↦ elim t as (λ _. List ℕ) [ true ↦ getD (stringsTo u b m x) (lowestVar (labels b) x) [] | false ↦ freshFrom (u .p) (u .n) (L x) (before x) 0 ] ]
 
   S-fixed : (x : ℕ) (s : List ℕ) → fixedString u b m x ≡ some s → S x ≡ s
-  S-fixed x s e = ap (λ o. chosen x o (ltb (rep x) x)) e
+  S-fixed x s e = ap (λ o. chosen x o (ltb (lowestVar (labels b) x) x)) e
 
-  S-copied : (x : ℕ) → fixedString u b m x ≡ none → rep x < x → S x ≡ S (rep x)
-  S-copied x e h = ap₂ (chosen x) e (lt-ltb (rep x) x h) ∙ strings-at x (rep x) h
+  S-copied : (x : ℕ) → fixedString u b m x ≡ none → lowestVar (labels b) x < x → S x ≡ S (lowestVar (labels b) x)
+  S-copied x e h = ap₂ (chosen x) e (lt-ltb (lowestVar (labels b) x) x h) ∙ strings-at x (lowestVar (labels b) x) h
 
-  S-new : (x : ℕ) → fixedString u b m x ≡ none → rep x ≡ x → S x ≡ freshFrom (u .p) (u .n) (L x) (before x) 0
-  S-new x e h = ap₂ (chosen x) e (le-ltb (rep x) x (omega arith))
+  S-new : (x : ℕ) → fixedString u b m x ≡ none → lowestVar (labels b) x ≡ x → S x ≡ freshFrom (u .p) (u .n) (L x) (before x) 0
+  S-new x e h = ap₂ (chosen x) e (le-ltb (lowestVar (labels b) x) x (omega arith))
 
 -- ---- a saturated leaf
 

@@ -61,8 +61,13 @@ length-strings (s ∷ ss) h =
 pub length-encode : (a : Assignment) → length (encode a) ≡ length (stringRecords (a .strs)) + (12 + 4 * length (a .ints))
 unfolding encode
 length-encode a =
-    rw (length-append (stringRecords (a .strs)) (recordBytes 10 (integerBytes (a .ints)) ++ recordBytes 8 []), length-append (recordBytes 10 (integerBytes (a .ints))) (recordBytes 8 []),
-    length-record 10 (integerBytes (a .ints)), length-record 8 [], length-integers (a .ints)) (omega arith)
+    rw (
+      length-append (stringRecords (a .strs)) (recordBytes 10 (integerBytes (a .ints)) ++ recordBytes 8 []),
+      length-append (recordBytes 10 (integerBytes (a .ints))) (recordBytes 8 []),
+      length-record 10 (integerBytes (a .ints)),
+      length-record 8 [],
+      length-integers (a .ints),
+    ) (omega arith)
 
 pub encode-short : (a : Assignment) → length (a .strs) ≤ variableLimit → All (λ s. length s ≤ lengthLimit) (a .strs) → length (a .ints) ≤ variableLimit → length (encode a) ≤ answerBytes
 encode-short a p h q = omega (arith, length-encode a, length-strings (a .strs) h)

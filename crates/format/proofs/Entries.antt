@@ -6,36 +6,22 @@ use mathlib.Core.Logic.{_≢_, inl, inr}
 use mathlib.Core.Bool.{Bool, true, false, not, _&&_, _||_}
 use mathlib.Core.List.{List, [], _∷_, _++_}
 use lib.ListN.{length, length-append}
-use lib.Dec.{ltb, leb, eqb}
-use borrow.Author.Tests.{ltb-true, leb-true, eqb-true, eqb-false, not-true}
-use Rattle.lists.specs.Lists.{All, NotIn, Distinct}
-use Rattle.lists.proofs.Lists.{all-map, all-append, In}
+use lib.Dec.{T-not, ltb, leb, eqb}
+use borrow.Author.Tests.{ltb-true, leb-true, eqb-true, eqb-false}
+use Rattle.lists.specs.Lists.{All, Distinct}
+use Rattle.lists.proofs.Tests.{true→}
+use Rattle.lists.proofs.Lists.{all-map, all-append, In, distinct-snoc}
 use Rattle.calculus.specs.Limits.{alphabetLimit, variableLimit, literalLimit, lengthLimit}
 use Rattle.calculus.specs.Alphabet.{Over, allCharacters}
 use Rattle.calculus.specs.Facts.{Question, Fact, same, apart, isLiteral, arithmetic}
 use Rattle.calculus.specs.Instances.{HeadInRange, FactInRange, FactsInRange}
 use Rattle.calculus.specs.Strings.{given}
+use Rattle.calculus.proofs.Words.{over→, →given}
 use Rattle.format.specs.Fields.{pick, u16, u32, u32s}
 use Rattle.format.specs.Records.{size, kind, whole, need}
 use Rattle.format.specs.Question.{Progress, withLiteral, withFact, headRange, headFault, headOf, textOf, literalFault, stringRange, stringFact, stringFault, columnCount, formOf, relationOf, arithmeticFault, inPlace, bodyFault, formFault, advanced}
-use Rattle.format.proofs.Faults.{none-applies, and-true, not-both}
-use Rattle.format.proofs.Texts.{→given}
+use Rattle.format.proofs.Faults.{none-applies, and-true}
 use Rattle.format.proofs.Fields.{length-u32s, length-form}
-
--- ---- lists
-
-notin-snoc : (x s : List ℕ) (ss : List (List ℕ)) → NotIn x ss → x ≢ s → NotIn x (ss ++ (s ∷ []))
-notin-snoc x s [] h f = (f, tt)
-notin-snoc x s (t ∷ ss) h f = (h .0, notin-snoc x s ss (h .1) f)
-
-distinct-snoc : (s : List ℕ) (ss : List (List ℕ)) → Distinct ss → (In s ss → ⊥) → Distinct (ss ++ (s ∷ []))
-distinct-snoc s [] d f = (tt, tt)
-distinct-snoc s (t ∷ ss) d f = (notin-snoc t s ss (d .0) (λ e. f (inl (sym e))), distinct-snoc s ss (d .1) (λ i. f (inr i)))
-
-pub over-all : (n : ℕ) (s : List ℕ) → allCharacters n s ≡ true → Over n s
-unfolding allCharacters
-over-all n [] e = tt
-over-all n (c ∷ s) e = let (h, g) = and-true _ _ e in (ltb-true c n h, over-all n s g)
 
 not-empty : (b : List ℕ) (at k : ℕ) → 1 ≤ k → [] ≢ u32s b at k
 not-empty b at k h e = omega (arith, ap length e, length-u32s b at k)
@@ -89,12 +75,13 @@ literal-in-range b u at m d few e =
         literals = omega (arith, length-append (u .literals) (textOf b at m ∷ []));
       };
       constraints = all-map (u .constraints) (still-in-range u (textOf b at m)) (d .constraints);
-      literals-differ = (
-        notin-snoc [] (textOf b at m) (u .literals) (d .literals-differ .0) (not-empty b at (m / 4) one),
-        distinct-snoc (textOf b at m) (u .literals) (d .literals-differ .1) (λ i. not-both (given s (u .literals)) (→given s (u .literals) i) (not-true (given s (u .literals)) (a7 .0))),
-      );
-      literals-over = all-append (Over (u .n)) (u .literals) (textOf b at m ∷ []) (d .literals-over) (over-all (u .n) (textOf b at m) (a6 .0), tt);
+      literals-differ = distinct-snoc s ([] ∷ u .literals) (d .literals-differ) (new one (a7 .0));
+      literals-over = all-append (Over (u .n)) (u .literals) (textOf b at m ∷ []) (d .literals-over) (over→ (u .n) (textOf b at m) (true→ (a6 .0)), tt);
     }
+  where
+    new : 1 ≤ m / 4 → not (given (textOf b at m) (u .literals)) ≡ true → In (textOf b at m) ([] ∷ u .literals) → ⊥
+    new one t (inl e) = not-empty b at (m / 4) one (sym e)
+    new one t (inr i) = T-not (given (textOf b at m) (u .literals)) (true→ t) (→given (textOf b at m) (u .literals) i)
 
 -- a constraint more changes no range
 same-range : (u : Question) (g f : Fact) → FactInRange u f → FactInRange (withFact u g) f

@@ -6,12 +6,14 @@ use mathlib.Core.Bool.{Bool, true, false, not}
 use mathlib.Core.Option.{Option, none, some}
 use mathlib.Core.List.{List, [], _∷_}
 use lib.ListN.{length, getD, getElem?}
-use lib.Dec.{leb}
+use lib.Dec.{T-not, not-T, leb}
 use Rattle.lists.proofs.Tests.{→true, true→}
 use Rattle.calculus.specs.Alphabet.{Over, allCharacters}
 use Rattle.calculus.specs.Facts.{Question, Fact, same, apart, isLiteral, arithmetic, Branch, holds, literal}
 use Rattle.calculus.specs.Strings.{eqString}
 use Rattle.calculus.specs.Meaning.{Assignment, str, value, For, Meets, Met}
+use Rattle.calculus.proofs.Words.{over→, eqString→, →eqString}
+use Rattle.calculus.proofs.Sound.{met-at}
 use Rattle.format.specs.Records.{next}
 use Rattle.format.specs.Question.{Reading, Stopped, Ended, question, asked, questionOf}
 use Rattle.format.specs.Places.{skip}
@@ -19,42 +21,27 @@ use Rattle.format.specs.Answer.{answerForm, stringAt, stringsAt, assignm
 use Rattle.format.specs.Judging.{Judging, Refused, Judged, judgeAnswer, judgeBehind, judging, meets, meetsAll, Judgement, Refusal, AllMet, Unmet, Says}
 use Rattle.format.specs.Demands.{TH-3}
 use Rattle.format.proofs.Faults.{and-true, not-both}
-use Rattle.format.proofs.Texts.{equal→, →equal}
 use Rattle.format.proofs.Fields.{length-i32s}
-use Rattle.format.proofs.Entries.{over-all}
 use Rattle.format.proofs.Asked.{headed-asked, question→form}
 
 -- ---- a constraint is met exactly when its test holds
 
 meets→ : (u : Question) (a : Assignment) (f : Fact) → meets u a f ≡ true → Meets u a f
-meets→ u a (same x y) e = equal→ (str a x) (str a y) e
-meets→ u a (apart x y) e = λ p. go (eqString (str a x) (str a y)) (→equal (str a x) (str a y) p) e
-  where
-    go : (b : Bool) → b ≡ true → not b ≡ true → ⊥
-    go true t e = not-both false e refl
-    go false t e = not-both false t refl
-meets→ u a (isLiteral x l) e = equal→ (str a x) (literal u l) e
+meets→ u a (same x y) e = eqString→ (str a x) (str a y) (true→ e)
+meets→ u a (apart x y) e = λ p. T-not (eqString (str a x) (str a y)) (true→ e) (→eqString p)
+meets→ u a (isLiteral x l) e = eqString→ (str a x) (literal u l) (true→ e)
 meets→ u a (arithmetic r e) h = true→ h
 
 →meets : (u : Question) (a : Assignment) (f : Fact) → Meets u a f → meets u a f ≡ true
-→meets u a (same x y) h = →equal (str a x) (str a y) h
-→meets u a (apart x y) h = go (eqString (str a x) (str a y)) (λ t. h (equal→ (str a x) (str a y) t))
-  where
-    go : (b : Bool) → (b ≡ true → ⊥) → not b ≡ true
-    go true f = absurd (f refl)
-    go false f = refl
-→meets u a (isLiteral x l) h = →equal (str a x) (literal u l) h
+→meets u a (same x y) h = →true (eqString (str a x) (str a y)) (→eqString h)
+→meets u a (apart x y) h = →true (not (eqString (str a x) (str a y))) (not-T (eqString (str a x) (str a y)) (λ t. h (eqString→ (str a x) (str a y) t)))
+→meets u a (isLiteral x l) h = →true (eqString (str a x) (literal u l)) (→eqString h)
 →meets u a (arithmetic r e) h = →true (holds r (value a e)) h
 
 meetsAll→ : (u : Question) (a : Assignment) (b : Branch) → meetsAll u a b ≡ true → Met u a b
 unfolding meetsAll
 meetsAll→ u a [] e = tt
 meetsAll→ u a (f ∷ b) e = let (h, g) = and-true (meets u a f) (meetsAll u a b) e in (meets→ u a f h, meetsAll→ u a b g)
-
-met-at : (u : Question) (a : Assignment) (b : Branch) (k : ℕ) (f : Fact) → getElem? b k ≡ some f → Met u a b → Meets u a f
-met-at u a [] k f e m = absurd (let z : _≡_ {A = ℕ} 0 1 = cc in omega arith)
-met-at u a (g ∷ b) zero f e m = let z : g ≡ f = cc in subst (Meets u a) z (m .0)
-met-at u a (g ∷ b) (suc k) f e m = met-at u a b k f e (m .1)
 
 -- ---- the answer's values are an assignment of the question
 
@@ -71,7 +58,7 @@ inside-over v u (suc p) r at e x = go (allCharacters (u .n) (stringAt v at)) ref
     go : (b : Bool) → allCharacters (u .n) (stringAt v at) ≡ b → _≡_ {A = Option ℕ} (elim b as (λ _. Option ℕ) [ true ↦ outside v u p (suc r) (next v at) | false ↦ some r ]) none → (x : ℕ)
         → (outside v u p (suc r) (next v at) ≡ none → (y : ℕ) → Over (u .n) (getD (stringsAt v p (next v at)) y []))
         → Over (u .n) (getD (stringAt v at ∷ stringsAt v p (next v at)) x [])
-    go true t e zero ih = over-all (u .n) (stringAt v at) t
+    go true t e zero ih = over→ (u .n) (stringAt v at) (true→ t)
     go true t e (suc y) ih = ih e y
     go false t e x ih = absurd (let z : _≡_ {A = ℕ} 0 1 = cc in omega arith)
 
@@ -127,7 +114,7 @@ judging-is-theory b v j s u a e =
     said-all-met : (j : Judgement) → Says (Judged u a) j → Met u a (u .constraints) → j ≡ AllMet
     said-all-met (Refusal c r) s m = absurd s
     said-all-met AllMet s m = refl
-    said-all-met (Unmet k) s m = absurd (not-both (meets u a (s .0)) (→meets u a (s .0) (met-at u a (u .constraints) k (s .0) (s .1) m)) (s .2))
+    said-all-met (Unmet k) s m = absurd (not-both (meets u a (s .0)) (→meets u a (s .0) (met-at u a (u .constraints) k m (s .1))) (s .2))
 
     unmet-said : (j : Judgement) → Says (Judged u a) j → (k : ℕ) → j ≡ Unmet k → (f : Fact) × (getElem? (u .constraints) k ≡ some f) × (Meets u a f → ⊥)
     unmet-said (Refusal c r) s k p = absurd s

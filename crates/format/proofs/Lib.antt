@@ -1,6 +1,5 @@
 pub mod Fields
 pub mod Faults
-pub mod Texts
 pub mod Records
 pub mod Places
 pub mod Turns
@@ -19,5 +18,7 @@ pub mod Strings
 pub mod Proper
 pub mod Judged
 pub mod Demands
+pub mod RecordFaults
+pub mod Sums
 pub mod Encoded
 pub mod Cases

@@ -1,5 +1,5 @@
 -- A question by position: one record more moves the numbers only.
-use Prim.Native.Nat.{ℕ, zero, suc, _+_, _≤_, _<_}
+use Prim.Native.Nat.{ℕ, zero, suc, _+_, _-_, _≤_, _<_}
 use native.Mathlib.Omega.{arith}
 use native.Mathlib.Numerals.{add-one}
 use mathlib.Core.Path.{_≡_, refl, sym, _∙_, ap, ap₂}
@@ -7,7 +7,6 @@ use mathlib.Core.Bool.{false}
 use mathlib.Core.List.{List, [], _∷_, _++_}
 use lib.ListN.{length, getD}
 use lib.Dec.{eqb}
-use Rattle.calculus.specs.Facts.{Question, Fact}
 use Rattle.format.specs.Fields.{pick, u16, u32}
 use Rattle.format.specs.Records.{size, kind, next}
 use Rattle.format.specs.Question.{Progress, withLiteral, withFact, headOf, textOf, constraintOf, extended, advanced}
@@ -20,6 +19,16 @@ unfolding skip
 skip-far b zero at = omega arith
 skip-far b (suc k) at = omega (arith, skip-far b k (next b at))
 
+pub skip-done : (b : List ℕ) (k at : ℕ) → k ≤ 0 → skip b k at ≡ at
+unfolding skip
+skip-done b zero at h = refl
+skip-done b (suc k) at h = absurd (omega arith)
+
+pub skip-one : (b : List ℕ) (k at : ℕ) → 0 < k → skip b k at ≡ skip b (k - 1) (next b at)
+unfolding skip
+skip-one b zero at h = absurd (omega arith)
+skip-one b (suc k) at h = let e : suc k - 1 ≡ k = omega arith in rw e
+
 pub skip-snoc : (b : List ℕ) (k at : ℕ) → skip b (suc k) at ≡ next b (skip b k at)
 unfolding skip
 skip-snoc b zero at = refl
@@ -31,6 +40,16 @@ unfolding skip
 skip-room b j zero at h = absurd (omega arith)
 skip-room b zero (suc k) at h = skip-far b k (next b at)
 skip-room b (suc j) (suc k) at h = skip-room b j k (next b at) (omega arith)
+
+pub skip-up : (b : List ℕ) (j k at : ℕ) → j ≤ k → skip b j at ≤ skip b k at
+unfolding skip
+skip-up b zero k at h = skip-far b k at
+skip-up b (suc j) zero at h = absurd (omega arith)
+skip-up b (suc j) (suc k) at h = skip-up b j k (next b at) (omega arith)
+
+-- the next of k records ends within the bytes, as all do
+pub skip-within : (b : List ℕ) (k at : ℕ) → 0 < k → skip b k at ≤ length b → next b at ≤ length b
+skip-within b k at h g = omega (arith, skip-one b k at h, skip-far b (k - 1) (next b at))
 
 -- ---- texts and constraints
 

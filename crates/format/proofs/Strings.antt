@@ -12,6 +12,7 @@ use Rattle.calculus.specs.Facts.{Question, Fact, Branch}
 use Rattle.calculus.specs.Steps.{Step}
 use Rattle.calculus.specs.Walk.{working}
 use Rattle.calculus.specs.Meaning.{Assignment, Met}
+use Rattle.calculus.proofs.Sound.{met-left}
 use Rattle.calculus.proofs.Walks.{Followed, followed→path, path→followed, leaf-in-range}
 use Rattle.format.specs.Records.{next, records}
 use Rattle.format.specs.Question.{columnCount}
@@ -85,14 +86,10 @@ accepted→given work answer b out e =
         }
 
 -- what meets the leaf meets the branch before the steps
-met-front : (u : Question) (a : Assignment) (b c : Branch) → Met u a (b ++ c) → Met u a b
-met-front u a [] c h = tt
-met-front u a (f ∷ b) c h = (h .0, met-front u a b c (h .1))
-
 met-before : (u : Question) (a : Assignment) (b leaf : Branch) (ts : List (Step × ℕ)) → Followed u b ts leaf → Met u a leaf → Met u a b
 unfolding Followed
 met-before u a b leaf [] h m = subst (Met u a) (sym h) m
-met-before u a b leaf (t ∷ ts) (c, _, h) m = met-front u a b c (met-before u a (b ++ c) leaf ts h m)
+met-before u a b leaf (t ∷ ts) (c, _, h) m = met-left u a b c (met-before u a (b ++ c) leaf ts h m)
 
 pub strings-hold : TH-5
 strings-hold work answer t out e =

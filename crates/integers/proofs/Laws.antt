@@ -2,12 +2,12 @@
 use Prim.Native.Nat.{ℕ, zero, suc, _+_, _*_, _/_, _%_, _^_, _≤_, _<_}
 use native.Mathlib.Omega.{arith}
 use native.Mathlib.Nat.{mul-le-mul, mul-le-mul-left, div-add-mod, mod-lt, le-of-mul-le-mul-left, lt-of-mul-lt-mul-left, lt-of-le-of-lt}
-use mathlib.Core.Path.{_≡_, refl, ap}
+use mathlib.Core.Path.{_≡_, refl, sym, ap}
 use mathlib.Core.Logic.{_≢_, _⊎_, inl, inr}
 use mathlib.Core.Bool.{Bool}
 use lib.Dec.{eqb}
 use lib.IntN.{ℤ, pos, negsuc, negℤ, natAbs, _+ℤ_, _-ℤ_, _*ℤ_}
-use lib.Signed.{mag, _≤ℤ_, _<ℤ_, ≤ℤ-refl}
+use lib.Signed.{mag, _≤ℤ_, _<ℤ_, ≤ℤ-refl, yes-nonNeg, pos-natAbs}
 use mir.Syntax.{Width}
 use mir.Val.{SFits, hbits}
 use Rattle.integers.proofs.Ring.{up, dn, inj, up-le, up-lt, le-up, lt-up, up-neg, dn-neg, Expr, v, _⊕_, _⊖_, _⊗_, ⊝, ev, ups, dns, sound, ring, le-by, lt-by, le-of, lt-of, eq-of}
@@ -28,9 +28,6 @@ interchange a b c d = ring (v a ⊕ v b ⊕ (v c ⊕ v d)) (v a ⊕ v c ⊕ (v b
 
 pub one-*ℤ : (a : ℤ) → pos 1 *ℤ a ≡ a
 one-*ℤ a = ring (v (pos 1) ⊗ v a) (v a) (omega arith)
-
-pub *ℤ-one : (a : ℤ) → a *ℤ pos 1 ≡ a
-*ℤ-one a = ring (v a ⊗ v (pos 1)) (v a) (omega arith)
 
 pub minus-one-*ℤ : (a : ℤ) → negsuc 0 *ℤ a ≡ negℤ a
 minus-one-*ℤ a = ring (v (negsuc 0) ⊗ v a) (⊝ (v a)) (omega arith)
@@ -107,8 +104,7 @@ abs-is (pos n) = omega arith
 abs-is (negsuc n) = omega arith
 
 pub abs-nonneg : (z : ℤ) → pos 0 ≤ℤ z → z ≡ pos (natAbs z)
-abs-nonneg (pos n) h = refl
-abs-nonneg (negsuc n) h = absurd (h .le)
+abs-nonneg z h = sym (pos-natAbs z (yes-nonNeg h))
 
 pub ≤ℤ-abs : (z : ℤ) {n : ℕ} → pos n ≤ℤ z → n ≤ natAbs z
 ≤ℤ-abs (pos a) h = ≤ℤ-pos h

@@ -1,11 +1,11 @@
 -- What the machine asks and tells of signed integers: a signed local holds bits, so that its value stands as `toZ w (ofZ w z)`, which is z where z fits.
-use Prim.Native.Nat.{ℕ, zero, suc, _-_, _/_, _%_, _^_, _≤_, _<_}
+use Prim.Native.Nat.{ℕ, zero, suc, _-_, _/_, _%_, _^_, _≤_, _<_, _*_}
 use native.Mathlib.Omega.{arith}
-use native.Mathlib.Nat.{div-le-self, mod-le}
+use native.Mathlib.Nat.{div-le-self, mod-le, div-mul-le-self, mul-div-cancel-left, mul-pos}
 use mathlib.Core.Path.{_≡_, refl, sym, _∙_, ap, subst}
 use mathlib.Core.Bool.{Bool, true, false, not}
 use lib.Dec.{T, eqb, leb→le, lt→ltb, nleb→lt}
-use lib.IntN.{ℤ, pos, negsuc, negℤ, natAbs, _+ℤ_, _-ℤ_}
+use lib.IntN.{ℤ, pos, negsuc, negℤ, natAbs, _+ℤ_, _-ℤ_, _*ℤ_}
 use lib.Signed.{mag, _≤ℤ_, _<ℤ_, leZ, ltZ, quotZ, remZ, leZ-yes, ltZ-yes, ltZ-no}
 use mir.Syntax.{Width, w32, w64}
 use mir.Val.{SFits, hbits, bits, toZ, ofZ}
@@ -132,3 +132,25 @@ isZ (negsuc a) n = false
 pub is-bits : (x : ℤ) (n : ℕ) → SFits w64 x → n < 9223372036854775808 → eqb (ofZ w64 x) n ≡ isZ x n
 is-bits (pos a) n f h = refl
 is-bits (negsuc a) n f h = ne-eqb (2 ^ 64 - suc a) n (omega (arith, f .sfits))
+
+-- ---- exact division by way of the quotient: x / d × d is x just where d divides x
+neg-product : (k n a : ℕ) → k * n ≤ suc a → mag (negℤ (pos k) *ℤ pos n) ≤ a
+neg-product zero n a h = omega arith
+neg-product (suc k) n a h = mag-neg (suc k * n) a h
+
+back-mag : (x : ℤ) (n : ℕ) → mag (quotZ x (pos n) *ℤ pos n) ≤ mag x
+back-mag (pos a) n = div-mul-le-self a n
+back-mag (negsuc a) n = neg-product (suc a / n) n a (div-mul-le-self (suc a) n)
+
+-- the quotient times the divisor fits
+pub back-fits : {w : Width} (x : ℤ) (n : ℕ) → SFits w x → SFits w (quotZ x (pos n) *ℤ pos n)
+back-fits x n f = sfits-le (back-mag x n) f
+
+quot-neg : (t n : ℕ) → 0 < t → quotZ (negℤ (pos t)) (pos n) ≡ negℤ (pos (t / n))
+quot-neg zero n h = absurd (omega arith)
+quot-neg (suc t) n h = refl
+
+-- the quotient of a multiple
+pub quot-multiple : (n : ℕ) (k : ℤ) → 1 ≤ n → quotZ (pos n *ℤ k) (pos n) ≡ k
+quot-multiple n (pos m) h = ap pos (mul-div-cancel-left m h)
+quot-multiple n (negsuc m) h = quot-neg (n * suc m) n (mul-pos h (omega arith)) ∙ ap (λ q. negℤ (pos q)) (mul-div-cancel-left (suc m) h)

@@ -1,22 +1,14 @@
 -- A test of every element of a list, as a loop from the front takes it: none is left, the next one fails, the next one passes.
 use Prim.Native.Nat.{ℕ, zero, suc, _+_, _<_, _≤_}
-use native.Mathlib.Omega.{arith}
 use native.Mathlib.Numerals.{add-one}
-use mathlib.Core.Path.{_≡_, refl, sym, _∙_, ap, ap₂, subst}
+use mathlib.Core.Path.{_≡_, refl, sym, _∙_, ap, ap₂}
 use mathlib.Core.Bool.{Bool, true, false, _&&_, and-comm, and-assoc, and-false}
 use mathlib.Core.Option.{some}
 use mathlib.Core.List.{List, [], _∷_, _++_}
-use lib.Dec.{T}
 use lib.ListN.{length, getD, take, drop, getElem?, drop-of-length-le}
 use lib.Seq.{drop-cons}
-
-pub and-left : (a b : Bool) → (a && b) ≡ true → a ≡ true
-and-left true b e = refl
-and-left false b e = e
-
-pub and-right : (a b : Bool) → (a && b) ≡ true → b ≡ true
-and-right true b e = e
-and-right false b e = absurd (subst T (sym e) tt)
+use Rattle.lists.proofs.Tests.{→true, true→, and→}
+use Rattle.lists.proofs.Options.{some-injective, none-some}
 
 take-zero : {A : Type 0} (l : List A) → take 0 l ≡ []
 take-zero [] = refl
@@ -42,8 +34,8 @@ module _ {A : Type 0} (test : A → Bool) (every : List A → Bool) (none : ever
 
   -- one element that fails
   pub every-broken : (l : List A) (k : ℕ) (x : A) → getElem? l k ≡ some x → test x ≡ false → every l ≡ false
-  every-broken [] k x h e = absurd (let z : _≡_ {A = ℕ} 0 1 = cc in omega arith)
-  every-broken (y ∷ l) zero x h e = let q : y ≡ x = cc in more y l ∙ ap (λ t. t && every l) (ap test q ∙ e)
+  every-broken [] k x h e = absurd (none-some h)
+  every-broken (y ∷ l) zero x h e = more y l ∙ ap (λ t. t && every l) (ap test (some-injective h) ∙ e)
   every-broken (y ∷ l) (suc k) x h e = more y l ∙ ap (λ t. test y && t) (every-broken l k x h e) ∙ and-false (test y)
 
   -- the first elements
@@ -51,5 +43,5 @@ module _ {A : Type 0} (test : A → Bool) (every : List A → Bool) (none : ever
   every-take l zero e = ap every (take-zero l) ∙ none
   every-take [] (suc n) e = none
   every-take (x ∷ l) (suc n) e =
-      let p : (test x && every l) ≡ true = sym (more x l) ∙ e in
-      more x (take n l) ∙ ap₂ _&&_ (and-left (test x) (every l) p) (every-take l n (and-right (test x) (every l) p))
+      let (p, q) = and→ (test x) (every l) (true→ (sym (more x l) ∙ e)) in
+      more x (take n l) ∙ ap₂ _&&_ (→true (test x) p) (every-take l n (→true (every l) q))

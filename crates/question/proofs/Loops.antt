@@ -4,7 +4,6 @@ use mathlib.Core.Bool.{Bool, true, false, _&&_}
 use mathlib.Core.List.{List}
 use Prim.Native.Nat.{ℕ, zero, suc, _+_, _-_, _≤_, _<_}
 use native.Mathlib.Omega.{arith}
-use lib.ListN.{length}
 use lib.Dec.{eqb}
 use borrow.Author.Tests.{lt-ltb, le-ltb, eq-eqb, ne-eqb, le-leb, lt-leb}
 use Rattle.calculus.specs.Alphabet.{allCharacters}
@@ -12,8 +11,7 @@ use Rattle.calculus.specs.Strings.{eqString, given}
 use Rattle.format.specs.Fields.{u16, u32, i32, u32s, pairsAt}
 use Rattle.format.specs.Records.{size, next}
 use Rattle.format.specs.Question.{textOf, pairInRange, rising}
-use Rattle.format.specs.Places.{skip, texts}
-use Rattle.format.proofs.Places.{skip-far}
+use Rattle.format.specs.Places.{texts}
 
 -- the tests of a definition, each from a fact in scope
 pub ruleset tests = (eq-eqb, ne-eqb, le-leb, lt-leb, le-ltb)
@@ -41,33 +39,33 @@ module _ (b : List ℕ) (n at : ℕ) where
 
 -- ---- two texts
 
-module _ (b : List ℕ) (x y : ℕ) where
-  pub same-done : (k : ℕ) → k ≤ 0 → eqString (u32s b x k) (u32s b y k) ≡ true
+module _ (a b : List ℕ) (x y : ℕ) where
+  pub same-done : (k : ℕ) → k ≤ 0 → eqString (u32s a x k) (u32s b y k) ≡ true
   unfolding u32s
   same-done zero h = refl
   same-done (suc k) h = absurd (omega arith)
 
-  pub same-yes : (k : ℕ) → 0 < k → u32 b x ≡ u32 b y → eqString (u32s b x k) (u32s b y k) ≡ eqString (u32s b (x + 4) (k - 1)) (u32s b (y + 4) (k - 1))
+  pub same-yes : (k : ℕ) → 0 < k → u32 a x ≡ u32 b y → eqString (u32s a x k) (u32s b y k) ≡ eqString (u32s a (x + 4) (k - 1)) (u32s b (y + 4) (k - 1))
   unfolding u32s
   same-yes zero h g = absurd (omega arith)
-  same-yes (suc k) h g = rw (eq-eqb (u32 b x) (u32 b y) g, down k)
+  same-yes (suc k) h g = rw (eq-eqb (u32 a x) (u32 b y) g, down k)
 
-  pub same-no : (k : ℕ) → 0 < k → (u32 b x ≡ u32 b y → ⊥) → eqString (u32s b x k) (u32s b y k) ≡ false
+  pub same-no : (k : ℕ) → 0 < k → (u32 a x ≡ u32 b y → ⊥) → eqString (u32s a x k) (u32s b y k) ≡ false
   unfolding u32s
   same-no zero h g = absurd (omega arith)
-  same-no (suc k) h g = rw (ne-eqb (u32 b x) (u32 b y) g)
+  same-no (suc k) h g = rw (ne-eqb (u32 a x) (u32 b y) g)
 
 and-false : (t : Bool) → (t && false) ≡ false
 and-false true = refl
 and-false false = refl
 
 -- texts of different lengths differ
-pub same-lengths : (b : List ℕ) (m k x y : ℕ) → (m ≡ k → ⊥) → eqString (u32s b x m) (u32s b y k) ≡ false
+pub same-lengths : (a b : List ℕ) (m k x y : ℕ) → (m ≡ k → ⊥) → eqString (u32s a x m) (u32s b y k) ≡ false
 unfolding u32s
-same-lengths b zero zero x y h = absurd (h refl)
-same-lengths b zero (suc k) x y h = refl
-same-lengths b (suc m) zero x y h = refl
-same-lengths b (suc m) (suc k) x y h = rw (same-lengths b m k (x + 4) (y + 4) (λ e. h (ap suc e))) (and-false (eqb (u32 b x) (u32 b y)))
+same-lengths a b zero zero x y h = absurd (h refl)
+same-lengths a b zero (suc k) x y h = refl
+same-lengths a b (suc m) zero x y h = refl
+same-lengths a b (suc m) (suc k) x y h = rw (same-lengths a b m k (x + 4) (y + 4) (λ e. h (ap suc e))) (and-false (eqb (u32 a x) (u32 b y)))
 
 -- ---- literals one after another
 
@@ -86,20 +84,6 @@ module _ (b : List ℕ) (t : List ℕ) (at : ℕ) where
   unfolding texts
   given-no zero h e = absurd (omega arith)
   given-no (suc k) h e = rw (e, down k)
-
-pub skip-done : (b : List ℕ) (k at : ℕ) → k ≤ 0 → skip b k at ≡ at
-unfolding skip
-skip-done b zero at h = refl
-skip-done b (suc k) at h = absurd (omega arith)
-
-pub skip-one : (b : List ℕ) (k at : ℕ) → 0 < k → skip b k at ≡ skip b (k - 1) (next b at)
-unfolding skip
-skip-one b zero at h = absurd (omega arith)
-skip-one b (suc k) at h = rw (down k)
-
--- the next of k records ends within the bytes, as all do
-pub skip-within : (b : List ℕ) (k at : ℕ) → 0 < k → skip b k at ≤ length b → next b at ≤ length b
-skip-within b k at h g = omega (arith, skip-one b k at h, skip-far b (k - 1) (next b at))
 
 -- ---- pairs
 

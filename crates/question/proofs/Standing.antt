@@ -1,5 +1,5 @@
 -- A question that is read stands in the bytes: what holds where reading began holds after each record, and where it ended.
-use mathlib.Core.Path.{_≡_, refl, sym, _∙_, ap, ap₂, subst}
+use mathlib.Core.Path.{_≡_, refl, sym, _∙_, ap, subst}
 use mathlib.Core.Bool.{Bool, true, false}
 use mathlib.Core.List.{List}
 use Prim.Native.Nat.{ℕ, zero, suc, _+_, _≤_, _<_}
@@ -8,21 +8,20 @@ use native.Mathlib.Numerals.{add-one}
 use native.Mathlib.Decide.{ℕ-discrete}
 use lib.ListN.{length}
 use lib.Dec.{leb, eqb}
-use borrow.Author.Count.{below-none, below-more}
+use borrow.Author.Count.{below-more}
 use borrow.Author.Tests.{leb-true, leb-false, ltb-true, lt-leb, eq-eqb, ne-eqb}
-use Rattle.calculus.specs.Facts.{Question, Fact}
 use Rattle.calculus.specs.Limits.{ticketBytes, factLimit}
 use Rattle.format.specs.Fields.{pick, u16, u32}
 use Rattle.format.specs.Records.{size, kind, next}
 use Rattle.format.specs.Question as format
-use Rattle.format.specs.Question.{headFault, literalFault, stringFault, arithmeticFault, fault, advanced, fresh, ending, readOn, question}
+use Rattle.format.specs.Question.{fault, advanced, fresh, ending, readOn, question}
 use Rattle.format.specs.Places.{skip, texts, constraintsAt, literalsFrom}
-use Rattle.format.proofs.Places.{skip-far, skip-snoc, skip-room, length-texts, length-constraints, read-head, read-literal, read-constraint}
+use Rattle.format.proofs.Places.{skip-far, skip-snoc, skip-up, length-texts, length-constraints, read-head, read-literal, read-constraint}
 use Rattle.format.proofs.Turns.{read-none, read-ended, read-stopped, read-more, read-long, read-begin}
 use Rattle.question.specs.declared.Progress.{Progress}
 use Rattle.question.specs.Progress.{progressOf}
 use Rattle.question.specs.Standing.{LiteralAt, ConstraintAt, Stands}
-use Rattle.question.proofs.RecordFaults.{Passed, passed, head-first, Behind, behind-head, Head, head-formed, Literal, literal-formed}
+use Rattle.format.proofs.RecordFaults.{Passed, passed, head-first, Behind, behind-head, Head, head-formed, literal-formed}
 
 -- ---- the numbers are all that is kept
 
@@ -40,14 +39,8 @@ same-numbers b s t e =
 -- ---- positions
 
 pub literals-within : (b : List ℕ) (s : Progress) (at l : ℕ) → Stands b s at → 1 ≤ s .last → l ≤ s .literals → skip b l literalsFrom ≤ length b
-literals-within b s at l h g few = go (ℕ-discrete l (s .literals))
-  where
-    all : skip b (s .literals) literalsFrom ≤ length b
-    all = omega (arith, h .ends-here g, skip-far b (s .constraints) (skip b (s .literals) literalsFrom), h .within)
-
-    go : Dec (l ≡ s .literals) → skip b l literalsFrom ≤ length b
-    go (yes e) = subst (λ m. skip b m literalsFrom ≤ length b) (sym e) all
-    go (no x) = omega (arith, all, skip-room b l (s .literals) literalsFrom (omega arith))
+literals-within b s at l h g few =
+    omega (arith, h .ends-here g, skip-up b l (s .literals) literalsFrom few, skip-far b (s .constraints) (skip b (s .literals) literalsFrom), h .within)
 
 -- ---- one record more
 
@@ -220,7 +213,7 @@ begun-stands b = record {
 }
 
 -- where reading ended
-abbrev Ends : List ℕ → Progress → ℕ → Type 0
+abbrev pub Ends : List ℕ → Progress → ℕ → Type 0
 Ends b t to = Stands b t to × (to + 6 ≤ length b)
 
 clash : {X : Type 0} → _≡_ {A = ℕ} 0 1 → X

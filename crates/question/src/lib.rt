@@ -47,7 +47,7 @@ fn head_fault(b: &[u8], at: usize, size: usize) -> usize
 }
 
 // Whether all of the count characters from a position are below n.
-fn all_characters(b: &[u8], n: usize, at: usize, count: usize) -> bool
+pub fn all_characters(b: &[u8], n: usize, at: usize, count: usize) -> bool
     requires { ⌜ at + 4 * count ≤ length (now b) ⌝ }
     ensures { λ r. ⌜ r ≡ allCharacters n (u32s (now (b .entry)) at count) ⌝ }
 {
@@ -63,16 +63,19 @@ fn all_characters(b: &[u8], n: usize, at: usize, count: usize) -> bool
     true
 }
 
-// Whether the count characters at two positions are the same.
-fn same_text(b: &[u8], x: usize, y: usize, count: usize) -> bool
-    requires { ⌜ (x + 4 * count ≤ length (now b)) × (y + 4 * count ≤ length (now b)) ⌝ }
-    ensures { λ r. ⌜ r ≡ eqString (u32s (now (b .entry)) x count) (u32s (now (b .entry)) y count) ⌝ }
+// Whether the m characters at one position and the k at another are the same.
+pub fn same_text(a: &[u8], x: usize, m: usize, b: &[u8], y: usize, k: usize) -> bool
+    requires { ⌜ (x + 4 * m ≤ length (now a)) × (y + 4 * k ≤ length (now b)) ⌝ }
+    ensures { λ r. ⌜ r ≡ eqString (u32s (now (a .entry)) x m) (u32s (now (b .entry)) y k) ⌝ }
 {
+    if m != k {
+        return false;
+    }
     let mut i = x;
     let mut j = y;
-    let mut left = count;
+    let mut left = m;
     while 0 < left {
-        let c = u32_at(b, i);
+        let c = u32_at(a, i);
         let d = u32_at(b, j);
         if c != d {
             return false;
@@ -84,16 +87,6 @@ fn same_text(b: &[u8], x: usize, y: usize, count: usize) -> bool
     true
 }
 
-// Whether the bodies at two positions hold the same text.
-fn same_body(b: &[u8], x: usize, x_size: usize, y: usize, y_size: usize) -> bool
-    requires { ⌜ (x + «x_size» ≤ length (now b)) × (y + «y_size» ≤ length (now b)) ⌝ }
-    ensures { λ r. ⌜ r ≡ eqString (textOf (now (b .entry)) x «x_size») (textOf (now (b .entry)) y «y_size») ⌝ }
-{
-    let m = x_size / 4;
-    let k = y_size / 4;
-    if m == k { same_text(b, x, y, m) } else { false }
-}
-
 // Whether the text of a body is one of those of the first k literals, which start at position 14.
 fn repeats(b: &[u8], k: usize, at: usize, size: usize) -> bool
     requires { ⌜ (at + size ≤ length (now b)) × (skip (now b) k 14 ≤ length (now b)) ⌝ }
@@ -102,11 +95,11 @@ fn repeats(b: &[u8], k: usize, at: usize, size: usize) -> bool
     let mut j = 14;
     let mut left = k;
     while 0 < left {
-        let m = u32_at(b, j);
-        if same_body(b, at, size, j + 6, m) {
+        let other = u32_at(b, j);
+        if same_text(b, at, size / 4, b, j + 6, other / 4) {
             return true;
         }
-        j = j + 6 + m;
+        j = j + 6 + other;
         left -= 1;
     }
     false

@@ -1,7 +1,7 @@
 // The bytes of a ticket or an answer: little-endian fields, and the record at a position.
 ghost use mathlib.Core.Path.{_≡_};
 ghost use Prim.Native.Nat.{_+_, _*_, _<_, _≤_};
-ghost use lib.ListN.{length, getD};
+ghost use lib.ListN.{length};
 ghost use lib.IntN.{natAbs};
 ghost use Rattle.format.specs.Fields.{u16, u32, i32, signed, within};
 ghost use Rattle.records.specs.Found.{foundAt};

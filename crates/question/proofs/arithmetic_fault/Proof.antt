@@ -1,15 +1,11 @@
 -- `question::arithmetic_fault` meets its contract.
 use borrow.Author.Needs.{needs}
-use mathlib.Core.Path.{_≡_, _∙_, sym, ap}
-use mathlib.Core.Bool.{Bool, true, false, _&&_}
-use Prim.Native.Nat.{ℕ, _+_, _-_, _/_, _%_, _≤_, _<_}
+use mathlib.Core.Path.{_∙_, sym}
+use Prim.Native.Nat.{_≤_, _<_}
 use native.Mathlib.Omega.{arith}
 use borrow.Author.Tests.{le-leb, lt-leb, eq-eqb}
-use lib.Dec.{leb}
 use denote.Ref.{now}
 use Rattle.format.specs.Fields.{u16}
-use Rattle.format.specs.Records.{need}
-use Rattle.format.specs.Question.{formRange, arithmeticFault}
 use Rattle.question.proofs.Loops.{tests}
 use Rattle.question.proofs.arithmetic_fault.Statement.{statement}
 use Rattle.question.proofs.arithmetic_fault.Tie as tie

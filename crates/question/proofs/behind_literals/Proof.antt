@@ -6,7 +6,7 @@ use native.Mathlib.Omega.{arith}
 use denote.Ref.{now}
 use lib.ListN.{length}
 use Rattle.format.specs.Places.{skip}
-use Rattle.question.proofs.Loops.{skip-done, skip-one, skip-within}
+use Rattle.format.proofs.Places.{skip-done, skip-one, skip-within}
 use Rattle.question.proofs.behind_literals.Statement.{statement}
 use Rattle.question.proofs.behind_literals.Tie as tie
 

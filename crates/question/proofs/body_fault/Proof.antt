@@ -1,10 +1,6 @@
 -- `question::body_fault` meets its contract.
 use borrow.Author.Needs.{needs}
-use mathlib.Core.Path.{_∙_, sym, ap}
-use Prim.Native.Nat.{ℕ, _+_}
-use denote.Ref.{now}
 use borrow.Author.Tests.{eq-eqb, ne-eqb}
-use Rattle.format.specs.Question.{stringFault}
 use Rattle.format.proofs.Places.{length-texts}
 use Rattle.question.proofs.body_fault.Statement.{statement}
 use Rattle.question.proofs.body_fault.Tie as tie

@@ -1,12 +1,6 @@
 -- `question::coefficient_in_range` meets its contract.
 use borrow.Author.Needs.{needs}
-use native.Mathlib.Omega.{arith}
-use mathlib.Core.Path.{_≡_, _∙_, sym, ap}
-use mathlib.Core.Bool.{true, false}
-use Prim.Native.Nat.{ℕ, _+_, _*_, _-_, _/_, _%_, _≤_, _<_}
-use denote.Ref.{now}
-use lib.ListN.{length}
-use Rattle.format.specs.Fields.{u16, u32, signed, pairsAt}
+use Rattle.format.specs.Fields.{signed}
 use lib.IntN.{natAbs}
 use borrow.Author.Tests.{lt-ltb}
 use Rattle.records.proofs.Signed.{signed-nonzero}

@@ -1,7 +1,7 @@
 -- `question::head_fault` meets its contract.
 use borrow.Author.Needs.{needs}
 use native.Mathlib.Omega.{arith}
-use Prim.Native.Nat.{ℕ, _+_, _≤_, _<_}
+use Prim.Native.Nat.{_+_, _≤_, _<_}
 use mathlib.Core.Path.{_≡_}
 use denote.Ref.{now}
 use Rattle.question.proofs.Loops.{tests}

@@ -1,13 +1,9 @@
 -- `question::literal_fault` meets its contract.
 use borrow.Author.Needs.{needs}
 use native.Mathlib.Omega.{arith}
-use mathlib.Core.Path.{_≡_, _∙_, sym, ap}
-use mathlib.Core.Bool.{true, false}
-use Prim.Native.Nat.{ℕ, _+_, _*_, _-_, _/_, _%_, _≤_, _<_}
-use denote.Ref.{now}
-use lib.ListN.{length}
+use mathlib.Core.Path.{_≡_, _∙_, sym}
+use Prim.Native.Nat.{_%_, _≤_}
 use borrow.Author.Tests.{not-true, not-false}
-use Rattle.format.specs.Fields.{u16, u32, signed}
 use Rattle.question.proofs.Loops.{tests}
 use Rattle.question.proofs.literal_fault.Statement.{statement}
 use Rattle.question.proofs.literal_fault.Tie as tie

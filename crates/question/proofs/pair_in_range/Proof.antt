@@ -1,9 +1,8 @@
 -- `question::pair_in_range` meets its contract.
 use borrow.Author.Needs.{needs}
 use mathlib.Core.Path.{_∙_, sym}
-use Prim.Native.Nat.{_≤_, _<_}
 use native.Mathlib.Omega.{arith}
-use borrow.Author.Tests.{le-leb, lt-leb, lt-ltb, le-ltb}
+use borrow.Author.Tests.{le-leb, lt-ltb}
 use Rattle.question.proofs.Loops.{tests}
 use Rattle.question.proofs.pair_in_range.Statement.{statement}
 use Rattle.question.proofs.pair_in_range.Tie as tie

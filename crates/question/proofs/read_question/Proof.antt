@@ -1,26 +1,26 @@
 -- `question::read_question` meets its contract.
 use borrow.Author.Needs.{needs}
-use mathlib.Core.Path.{_≡_, refl, _∙_, sym, ap, subst}
+use mathlib.Core.Path.{_≡_, refl, _∙_, sym, ap}
 use mathlib.Core.Bool.{true, false}
 use mathlib.Core.List.{List}
-use Prim.Native.Nat.{ℕ, zero, suc, _+_, _-_, _≤_, _<_}
+use Prim.Native.Nat.{ℕ, zero, suc, _+_, _-_, _≤_}
 use native.Mathlib.Omega.{arith}
 use native.Mathlib.Numerals.{add-one}
 use denote.Ref.{now}
 use lib.ListN.{length}
 use Rattle.calculus.specs.Limits.{ticketBytes}
-use Rattle.format.specs.Records.{kind, size, next}
+use Rattle.format.specs.Records.{kind, size}
 use Rattle.format.specs.Question as format
 use Rattle.format.specs.Question.{fault, advanced, fresh, ending, readOn, question}
 use Rattle.format.proofs.Turns.{read-none, read-ended, read-stopped, read-more, read-long, read-begin}
 use Rattle.records.specs.Found.{foundAt}
-use Rattle.records.specs.declared.Found.the-variants.{Whole, Cut, Nothing}
+use Rattle.records.specs.declared.Found.the-variants.{Nothing}
 use Rattle.records.proofs.Finding.{found-nothing, found-cut, found-whole}
 use Rattle.question.specs.declared.Progress.{Progress}
 use Rattle.question.specs.declared.Reading.the-variants.{Stopped, Ended}
 use Rattle.question.specs.Progress.{progressOf, readingOf}
 use Rattle.question.specs.Standing.{Stands}
-use Rattle.question.proofs.RecordFaults.{cut-short}
+use Rattle.format.proofs.RecordFaults.{cut-short}
 use Rattle.question.proofs.Standing.{begun-fresh, begun-stands, advanced-stands}
 use Rattle.question.proofs.read_question.Statement.{statement}
 use Rattle.question.proofs.read_question.Tie as tie

@@ -3,7 +3,7 @@ use borrow.Author.Needs.{needs}
 use mathlib.Core.Path.{_≡_, _∙_, sym, ap}
 use mathlib.Core.Bool.{Bool, true, false, _||_}
 use mathlib.Core.List.{List}
-use Prim.Native.Nat.{ℕ, _+_, _≤_, _<_}
+use Prim.Native.Nat.{ℕ, _+_, _≤_}
 use native.Mathlib.Omega.{arith}
 use denote.Ref.{now}
 use lib.ListN.{length}
@@ -11,13 +11,13 @@ use lib.Dec.{leb, ltb}
 use borrow.Author.Tests.{not-true, not-false, le-leb, lt-leb, lt-ltb, le-ltb}
 use Rattle.calculus.specs.Limits.{factLimit}
 use Rattle.format.specs.Records.{kind, size, need}
-use Rattle.format.specs.Question.{kindInPlace, inPlace, bodyFault, roomFor, fault}
+use Rattle.format.specs.Question.{kindInPlace, inPlace, bodyFault, fault}
 use Rattle.format.specs.Places.{skip, literalsFrom}
 use Rattle.format.proofs.Places.{length-texts, length-constraints}
 use Rattle.question.specs.declared.Progress.{Progress}
 use Rattle.question.specs.Progress.{progressOf}
 use Rattle.question.specs.Standing.{Stands}
-use Rattle.question.proofs.RecordFaults.{behind-head, out-of-place, ill-formed, by-room}
+use Rattle.format.proofs.RecordFaults.{behind-head, out-of-place, ill-formed, by-room}
 use Rattle.question.proofs.Standing.{literals-within}
 use Rattle.question.proofs.record_fault.Statement.{statement}
 use Rattle.question.proofs.record_fault.Tie as tie

@@ -1,14 +1,15 @@
 -- `question::repeats` meets its contract.
 use borrow.Author.Needs.{needs}
 use mathlib.Core.Path.{_≡_, _∙_, sym}
-use Prim.Native.Nat.{_+_, _≤_, _<_}
+use Prim.Native.Nat.{_≤_}
 use native.Mathlib.Omega.{arith}
 use denote.Ref.{now}
 use lib.ListN.{length}
 use Rattle.calculus.specs.Strings.{given}
 use Rattle.format.specs.Question.{textOf}
 use Rattle.format.specs.Places.{skip, texts}
-use Rattle.question.proofs.Loops.{skip-within, skip-one, given-done, given-yes, given-no}
+use Rattle.format.proofs.Places.{skip-within, skip-one}
+use Rattle.question.proofs.Loops.{given-done, given-yes, given-no}
 use Rattle.question.proofs.repeats.Statement.{statement}
 use Rattle.question.proofs.repeats.Tie as tie
 
@@ -25,16 +26,15 @@ loop-holds c = search needs
 u32-at-requires : tie.Need-u32-at-requires Inv-loop μ-loop
 u32-at-requires c κs = omega (arith, skip-within _ _ _ (c .loop-test .taken) (c .before .loop .inv .0))
 
-add-same-body : tie.Need-add-same-body Inv-loop μ-loop
-add-same-body c = omega (arith, skip-within _ _ _ (c .before .loop-test .taken) (c .before .before .loop .inv .0))
+add-same-text : tie.Need-add-same-text Inv-loop μ-loop
+add-same-text c = omega (arith, skip-within _ _ _ (c .before .loop-test .taken) (c .before .before .loop .inv .0))
 
-same-body-requires : tie.Need-same-body-requires Inv-loop μ-loop
-same-body-requires c κs = omega (arith, skip-within _ _ _ (c .before .loop-test .taken) (c .before .before .loop .inv .0))
+same-text-requires : tie.Need-same-text-requires Inv-loop μ-loop
+same-text-requires c κs = omega (arith, skip-within _ _ _ (c .before .loop-test .taken) (c .before .before .loop .inv .0))
 
 returns : tie.Need-returns Inv-loop μ-loop
 returns c =
-    sym (given-yes _ _ _ _ (c .before .before .before .loop-test .taken) (rw (c .before .before .u32-at .ensures .0) at (sym (c .before .same-body .ensures) ∙ c .if1 .taken)))
-    ∙ c .before .before .before .before .loop .inv .1
+    sym (given-yes _ _ _ _ (c .before .before .before .loop-test .taken) (rw (c .before .before .u32-at .ensures .0) at (sym (c .before .same-text .ensures) ∙ c .if1 .taken))) ∙ c .before .before .before .before .loop .inv .1
 
 add-j : tie.Need-add-j Inv-loop μ-loop
 add-j c = omega (arith, skip-within _ _ _ (c .before .before .before .loop-test .taken) (c .before .before .before .before .loop .inv .0))
@@ -52,8 +52,7 @@ loop-again : tie.Need-loop-again Inv-loop μ-loop
 loop-again c =
     rw (c .before .before .u32-at .ensures .0) (
       omega (arith, skip-one (now (c .before .before .before .before .before .before .args .b)) (c .before .before .before .before .loop .left) (c .before .before .before .before .loop .j) (c .before .before .before .loop-test .taken)),
-      sym (given-no _ _ _ _ (c .before .before .before .loop-test .taken) (rw (c .before .before .u32-at .ensures .0) at (sym (c .before .same-body .ensures) ∙ c .if1 .left)))
-          ∙ c .before .before .before .before .loop .inv .1,
+      sym (given-no _ _ _ _ (c .before .before .before .loop-test .taken) (rw (c .before .before .u32-at .ensures .0) at (sym (c .before .same-text .ensures) ∙ c .if1 .left))) ∙ c .before .before .before .before .loop .inv .1,
     )
 
 returns-2 : tie.Need-returns-2 Inv-loop μ-loop
@@ -67,8 +66,8 @@ repeats-spec =
     μ-loop
     loop-holds
     u32-at-requires
-    add-same-body
-    same-body-requires
+    add-same-text
+    same-text-requires
     returns
     add-j
     add-j-2

@@ -1,13 +1,7 @@
 -- `question::string_fault` meets its contract.
 use borrow.Author.Needs.{needs}
 use native.Mathlib.Omega.{arith}
-use mathlib.Core.Path.{_≡_, _∙_, sym, ap}
-use mathlib.Core.Bool.{true, false}
-use Prim.Native.Nat.{ℕ, suc, _+_, _*_, _-_, _/_, _%_, _≤_, _<_}
-use denote.Ref.{now}
-use lib.ListN.{length}
-use borrow.Author.Tests.{not-true, not-false, lt-ltb}
-use Rattle.format.specs.Fields.{u16, u32, signed}
+use mathlib.Core.Path.{_≡_, _∙_, sym}
 use Rattle.question.proofs.Loops.{tests}
 use Rattle.question.proofs.string_fault.Statement.{statement}
 use Rattle.question.proofs.string_fault.Tie as tie

@@ -1,0 +1,158 @@
+-- The answer's records, one after another: what each test says of the form and the ranges.
+use Prim.Native.Nat.{ℕ, zero, suc, _+_, _*_, _-_, _/_, _%_, _≤_, _<_}
+use native.Mathlib.Numerals.{add-one}
+use native.Mathlib.Omega.{arith}
+use mathlib.Core.Path.{_≡_, refl, sym, _∙_, ap, ap₂, subst}
+use mathlib.Core.Bool.{Bool, true, false, _&&_}
+use mathlib.Core.Option.{Option, none, some}
+use mathlib.Core.List.{List, [], _∷_, _++_, map}
+use lib.ListN.{length, getD, set}
+use lib.Seq.{getD-set-same, getD-set-other}
+use native.Mathlib.Decide.{decLt}
+use lib.Dec.{leb, eqb}
+use lib.IntN.{ℤ, pos, negsuc}
+use borrow.Author.Tests.{leb-true, eqb-true, le-leb, lt-leb}
+use Rattle.calculus.specs.Limits.{lengthLimit, valueLimit}
+use Rattle.calculus.specs.Alphabet.{allCharacters}
+use Rattle.calculus.specs.Facts.{Question, codeOf}
+use Rattle.format.specs.Fields.{pick, u32, u32s, i32, i32s, within}
+use Rattle.format.specs.Records.{size, kind, next, headed, whole}
+use Rattle.format.specs.Places.{skip}
+use Rattle.format.specs.Answer.{answerForm, stringAt, integersAt, stringsAt, allWithin, outside}
+use Rattle.format.proofs.Faults.{and-true}
+use Rattle.format.proofs.Places.{skip-room}
+use Rattle.records.specs.declared.Found.the-variants.{Whole, Cut, Nothing}
+use Rattle.records.specs.Found.{foundAt}
+use Rattle.records.proofs.Finding.{found-nothing, found-cut, found-whole}
+use Rattle.answer.specs.Form.{recordIs, stringForm, asking}
+
+-- ---- what was found at a position
+
+module _ (b : List ℕ) (at : ℕ) where
+  pub whole-there : {k m : ℕ} → foundAt b at ≡ Whole k m → (whole b at ≡ true) × (k ≡ kind b at) × (m ≡ size b at)
+  whole-there {k} {m} e = let (f, g, h) = found-whole b at k m e in (le-leb (next b at) (length b) (omega arith), f, g)
+
+  pub cut-there : {k : ℕ} → foundAt b at ≡ Cut k → whole b at ≡ false
+  cut-there {k} e = lt-leb (next b at) (length b) (found-cut b at k e .2)
+
+  pub nothing-there : foundAt b at ≡ Nothing → whole b at ≡ false
+  nothing-there e = lt-leb (next b at) (length b) (omega (arith, found-nothing b at e))
+
+-- ---- the form, record by record
+
+joined : (a b c d : Bool) → (a && (b && (c && d))) ≡ ((a && (b && c)) && d)
+joined true true c d = refl
+joined true false c d = refl
+joined false b c d = refl
+
+regrouped : (a b c d e : Bool) → (a && (b && (c && (d && e)))) ≡ ((a && (b && (c && d))) && e)
+regrouped true b c d e = joined b c d e
+regrouped false b c d e = refl
+
+down : (k : ℕ) → suc k - 1 ≡ k
+down k = omega arith
+
+module _ (b : List ℕ) (q at : ℕ) where
+  pub form-split : (p : ℕ) → answerForm b (suc p) q at ≡ (stringForm b at && answerForm b p q (next b at))
+  unfolding answerForm
+  form-split p = regrouped (whole b at) (eqb (kind b at) 9) (eqb (size b at % 4) 0) (leb (size b at) (4 * lengthLimit)) (answerForm b p q (next b at))
+
+  pub form-yes : (p : ℕ) → 0 < p → stringForm b at ≡ true → answerForm b p q at ≡ answerForm b (p - 1) q (next b at)
+  form-yes zero h e = absurd (omega arith)
+  form-yes (suc p) h e = form-split p ∙ rw (e, down p)
+
+  pub form-no : (p : ℕ) → 0 < p → stringForm b at ≡ false → answerForm b p q at ≡ false
+  form-no zero h e = absurd (omega arith)
+  form-no (suc p) h e = form-split p ∙ rw e
+
+  pub tail-split : answerForm b 0 q at ≡ (recordIs b at 10 (4 * q) && (recordIs b (next b at) 8 0 && eqb (next b (next b at)) (length b)))
+  unfolding answerForm
+  tail-split =
+      let n : ℕ = next b at in
+      joined (whole b at) (eqb (kind b at) 10) (eqb (size b at) (4 * q)) (whole b n && (eqb (kind b n) 8 && (eqb (size b n) 0 && eqb (next b n) (length b))))
+      ∙ ap (λ (t : Bool). recordIs b at 10 (4 * q) && t) (joined (whole b n) (eqb (kind b n) 8) (eqb (size b n) 0) (eqb (next b n) (length b)))
+
+-- a record that passed its test is whole and of its size
+pub record-there : (b : List ℕ) (at k m : ℕ) → recordIs b at k m ≡ true → (next b at ≤ length b) × (size b at ≡ m)
+record-there b at k m e =
+    let (w, t) = and-true (whole b at) (eqb (kind b at) k && eqb (size b at) m) e in
+    (leb-true (next b at) (length b) w, eqb-true (size b at) m (and-true (eqb (kind b at) k) (eqb (size b at) m) t .1))
+
+pub string-there : (b : List ℕ) (at : ℕ) → stringForm b at ≡ true → next b at ≤ length b
+string-there b at e = leb-true (next b at) (length b) (and-true (whole b at) (eqb (kind b at) 9 && (eqb (size b at % 4) 0 && leb (size b at) (4 * lengthLimit))) e .0)
+
+-- ---- where the records of a formed answer stand
+
+pub form-tail : (b : List ℕ) (q p at : ℕ) → answerForm b p q at ≡ true → answerForm b 0 q (skip b p at) ≡ true
+unfolding skip
+form-tail b q zero at e = e
+form-tail b q (suc p) at e = form-tail b q p (next b at) (and-true (stringForm b at) (answerForm b p q (next b at)) (sym (form-split b q at p) ∙ e) .1)
+
+pub tail-there : (b : List ℕ) (q at : ℕ) → answerForm b 0 q at ≡ true → (next b at ≤ length b) × (size b at ≡ 4 * q)
+tail-there b q at e = record-there b at 10 (4 * q) (and-true (recordIs b at 10 (4 * q)) (recordIs b (next b at) 8 0 && eqb (next b (next b at)) (length b)) (sym (tail-split b q at) ∙ e) .0)
+
+-- ---- the ranges, record by record
+
+module _ (b : List ℕ) (at : ℕ) where
+  pub within-done : (k : ℕ) → k ≤ 0 → allWithin (i32s b at k) ≡ true
+  unfolding allWithin i32s
+  within-done zero h = refl
+  within-done (suc k) h = absurd (omega arith)
+
+  pub within-yes : (k : ℕ) → 0 < k → within valueLimit (i32 b at) ≡ true → allWithin (i32s b at k) ≡ allWithin (i32s b (at + 4) (k - 1))
+  unfolding allWithin i32s
+  within-yes zero h e = absurd (omega arith)
+  within-yes (suc k) h e = rw (e, down k)
+
+  pub within-no : (k : ℕ) → 0 < k → within valueLimit (i32 b at) ≡ false → allWithin (i32s b at k) ≡ false
+  unfolding allWithin i32s
+  within-no zero h e = absurd (omega arith)
+  within-no (suc k) h e = rw e
+
+module _ (b : List ℕ) (u : Question) (r at : ℕ) where
+  abbrev byStrings : ℕ → Bool → Option ℕ
+  byStrings p t = elim t as (λ _. Option ℕ) [ true ↦ outside b u p (suc r) (next b at) | false ↦ some r ]
+
+  abbrev byIntegers : Bool → Option ℕ
+  byIntegers t = elim t as (λ _. Option ℕ) [ true ↦ none | false ↦ some r ]
+
+  pub outside-yes : (p : ℕ) → 0 < p → allCharacters (u .n) (stringAt b at) ≡ true → outside b u p r at ≡ outside b u (p - 1) (suc r) (next b at)
+  unfolding outside
+  outside-yes zero h e = absurd (omega arith)
+  outside-yes (suc p) h e = ap (byStrings p) e ∙ ap (λ (k : ℕ). outside b u k (suc r) (next b at)) (sym (down p))
+
+  pub outside-no : (p : ℕ) → 0 < p → allCharacters (u .n) (stringAt b at) ≡ false → outside b u p r at ≡ some r
+  unfolding outside
+  outside-no zero h e = absurd (omega arith)
+  outside-no (suc p) h e = ap (byStrings p) e
+
+  pub outside-none : (p : ℕ) → p ≡ 0 → allWithin (integersAt b (u .q) at) ≡ true → outside b u p r at ≡ none
+  unfolding outside
+  outside-none zero h e = ap byIntegers e
+  outside-none (suc p) h e = absurd (omega arith)
+
+  pub outside-last : (p : ℕ) → p ≡ 0 → allWithin (integersAt b (u .q) at) ≡ false → outside b u p r at ≡ some r
+  unfolding outside
+  outside-last zero h e = ap byIntegers e
+  outside-last (suc p) h e = absurd (omega arith)
+
+-- ---- a table of positions, filled one by one
+
+pub placed-more : (places : List ℕ) (at : ℕ) (here : ℕ → ℕ) (x : ℕ) → length places ≡ 17 → x < 17 → at ≡ here x → ((k : ℕ) → k < x → getD places k 0 ≡ here k)
+    → (k : ℕ) → k ≤ x → getD (set places x at) k 0 ≡ here k
+placed-more places at here x n h e f k g = go (decLt k x)
+  where
+    go : Dec (k < x) → getD (set places x at) k 0 ≡ here k
+    go (yes l) = getD-set-other places x k at 0 (λ d. omega arith) ∙ f k l
+    go (no m) =
+        let d : k ≡ x = omega arith in
+        ap (λ (j : ℕ). getD (set places x at) j 0) d ∙ getD-set-same places x at 0 (omega arith) ∙ e ∙ ap here (sym d)
+
+-- ---- the records of a formed answer are all there
+
+module _ (b : List ℕ) (p q : ℕ) (formed : answerForm b p q 0 ≡ true) where
+  pub integers-there : skip b p 0 + 6 + 4 * q ≤ length b
+  integers-there = let (h, m) = tail-there b q (skip b p 0) (form-tail b q p 0 formed) in omega arith
+
+  pub text-there : (x : ℕ) → x < p → next b (skip b x 0) ≤ length b
+  text-there x h = omega (arith, skip-room b x p 0 h, integers-there)

@@ -1,0 +1,248 @@
+-- Laws of labels, rows and tests below a bound, in the form that a loop asks.
+use mathlib.Core.Path.{_≡_, refl, sym, _∙_, ap, ap₂}
+use mathlib.Core.Bool.{Bool, true, false, cond, _||_}
+use mathlib.Core.Option.{Option, none, some}
+use mathlib.Core.List.{List, [], _∷_, _++_}
+use Prim.Native.Nat.{ℕ, zero, suc, _+_, _*_, _-_, _^_, _≤_, _<_}
+use native.Mathlib.Numerals.{add-one}
+use native.Mathlib.Omega.{arith}
+use native.Mathlib.Decide.{decLt}
+use borrow.Author.Tests.{le-leb, lt-leb, lt-ltb, le-ltb, ltb-true, ltb-false}
+use lib.Dec.{eqb}
+use lib.ListN.{length, getD, drop}
+use lib.IntN.{ℤ, pos, negsuc}
+use lib.Signed.{ltZ}
+use mir.Syntax.{w64}
+use mir.Val.{SFits, toZ, ofZ}
+use mir.Facts.{toZ-ofZ}
+use Rattle.calculus.specs.Facts.{Fact, Branch, same, apart, isLiteral, arithmetic}
+use Rattle.calculus.specs.Chains.{varNode, litNode}
+use Rattle.calculus.specs.Classes.{upFrom, relabel, joinNodes, joinFact, labelsFrom, labels, sameClass, lowest, anyBelow, apartMeet}
+use Rattle.calculus.specs.Rules.{logUp}
+use Rattle.calculus.specs.SaturationTest.{lowestFrom}
+use Rattle.rows.specs.Rows.{index, tagged, factOf, rowAt, branchOf}
+use Rattle.rows.proofs.Branches.{row-number}
+
+-- ---- labels
+
+-- an element that is there does not depend on the default
+pub getD-any : {A : Type 0} (l : List A) (i : ℕ) (d e : A) → i < length l → getD l i d ≡ getD l i e
+getD-any [] i d e h = absurd (omega arith)
+getD-any (x ∷ l) zero d e h = refl
+getD-any (x ∷ l) (suc i) d e h = getD-any l i d e (omega arith)
+
+pub length-relabel : (old new : ℕ) (ls : List ℕ) → length (relabel old new ls) ≡ length ls
+length-relabel old new [] = refl
+length-relabel old new (c ∷ ls) = ap suc (length-relabel old new ls)
+
+pub getD-relabel : (old new : ℕ) (ls : List ℕ) (i d : ℕ) → i < length ls → getD (relabel old new ls) i d ≡ cond (eqb (getD ls i d) old) new (getD ls i d)
+getD-relabel old new [] i d h = absurd (omega arith)
+getD-relabel old new (c ∷ ls) zero d h = refl
+getD-relabel old new (c ∷ ls) (suc i) d h = getD-relabel old new ls i d (omega arith)
+
+from-snoc : (ls : List ℕ) (b : Branch) (f : Fact) → labelsFrom ls (b ++ f ∷ []) ≡ joinFact (labelsFrom ls b) f
+from-snoc ls [] f = refl
+from-snoc ls (g ∷ b) f = from-snoc (joinFact ls g) b f
+
+pub labels-snoc : (b : Branch) (f : Fact) → labels (b ++ f ∷ []) ≡ joinFact (labels b) f
+labels-snoc b f = from-snoc (upFrom 0 32) b f
+
+-- ---- the lowest literal
+
+module _ (ls : List ℕ) (x k : ℕ) where
+  pub lowest-done : (m : ℕ) → m ≤ 0 → lowest ls x k m ≡ none
+  lowest-done zero h = refl
+  lowest-done (suc m) h = absurd (omega arith)
+
+  pub lowest-yes : (m : ℕ) → 0 < m → sameClass ls (varNode x) (litNode k) ≡ true → lowest ls x k m ≡ some k
+  lowest-yes zero h e = absurd (omega arith)
+  lowest-yes (suc m) h e = rw (e, lowest)
+
+  pub lowest-no : (m : ℕ) → 0 < m → sameClass ls (varNode x) (litNode k) ≡ false → lowest ls x k m ≡ lowest ls x (k + 1) (m - 1)
+  lowest-no zero h e = absurd (omega arith)
+  lowest-no (suc m) h e = rw (e, lowest) (ap (λ (i : ℕ). lowest ls x i m) one ∙ ap (λ (i : ℕ). lowest ls x (k + 1) i) less)
+    where
+      one : suc k ≡ k + 1
+      one = omega arith
+
+      less : m ≡ suc m - 1
+      less = omega arith
+
+-- ---- the lowest variable
+
+module _ (ls : List ℕ) (x y : ℕ) where
+  pub first-done : (d : ℕ) → d ≤ 0 → lowestFrom d ls x y ≡ x
+  first-done zero h = refl
+  first-done (suc m) h = absurd (omega arith)
+
+  pub first-yes : (d : ℕ) → 0 < d → sameClass ls (varNode x) (varNode y) ≡ true → lowestFrom d ls x y ≡ y
+  first-yes zero h e = absurd (omega arith)
+  first-yes (suc m) h e = rw (e, lowestFrom)
+
+  pub first-no : (d : ℕ) → 0 < d → sameClass ls (varNode x) (varNode y) ≡ false → lowestFrom d ls x y ≡ lowestFrom (d - 1) ls x (y + 1)
+  first-no zero h e = absurd (omega arith)
+  first-no (suc m) h e = rw (e, lowestFrom) (ap (λ (i : ℕ). lowestFrom m ls x i) one ∙ ap (λ (i : ℕ). lowestFrom i ls x (y + 1)) less)
+    where
+      one : suc y ≡ y + 1
+      one = omega arith
+
+      less : m ≡ suc m - 1
+      less = omega arith
+
+-- ---- some number below a bound
+
+or-true : (a : Bool) → (a || true) ≡ true
+or-true true = refl
+or-true false = refl
+
+module _ (t : ℕ → Bool) where
+  pub any-more : (i : ℕ) → anyBelow i t ≡ false → t i ≡ false → anyBelow (i + 1) t ≡ false
+  any-more i e f = rw (add-one, e, f)
+
+  pub any-yes : (m i : ℕ) → i < m → t i ≡ true → anyBelow m t ≡ true
+  any-yes zero i h e = absurd (omega arith)
+  any-yes (suc m) i h e = go (λ l. any-yes m i l e) (decLt i m)
+    where
+      go : (i < m → anyBelow m t ≡ true) → Dec (i < m) → anyBelow (suc m) t ≡ true
+      go ih (yes l) = rw (ih l) (or-true (t m))
+      go ih (no n) = let k : m ≡ i = omega arith in ap (λ (z : ℕ). t z || anyBelow m t) k ∙ rw e
+
+-- ---- the smallest power that is enough
+
+module _ (n m k : ℕ) where
+  pub log-done : (d : ℕ) → d ≤ 0 → logUp d n m k ≡ k
+  log-done zero h = refl
+  log-done (suc d) h = absurd (omega arith)
+
+  pub log-yes : (d : ℕ) → m ≤ n ^ k → logUp d n m k ≡ k
+  log-yes zero h = refl
+  log-yes (suc d) h = rw (le-leb m (n ^ k) h, logUp)
+
+  pub log-no : (d : ℕ) → 0 < d → n ^ k < m → logUp d n m k ≡ logUp (d - 1) n m (k + 1)
+  log-no zero h l = absurd (omega arith)
+  log-no (suc d) h l = rw (lt-leb m (n ^ k) l, logUp) (ap (λ (i : ℕ). logUp d n m i) one ∙ ap (λ (i : ℕ). logUp i n m (k + 1)) less)
+    where
+      one : suc k ≡ k + 1
+      one = omega arith
+
+      less : d ≡ suc d - 1
+      less = omega arith
+
+-- ---- ≉ facts
+
+or-false : (a : Bool) → (a || false) ≡ a
+or-false true = refl
+or-false false = refl
+
+or-assoc : (a b c : Bool) → ((a || b) || c) ≡ (a || (b || c))
+or-assoc true b c = refl
+or-assoc false b c = refl
+
+apart-cons : (ls : List ℕ) (f : Fact) (b : Branch) → apartMeet ls (f ∷ b) ≡ (apartMeet ls (f ∷ []) || apartMeet ls b)
+apart-cons ls (same x y) b = refl
+apart-cons ls (apart x y) b = ap (λ (t : Bool). t || apartMeet ls b) (sym (or-false (sameClass ls (varNode x) (varNode y))))
+apart-cons ls (isLiteral x l) b = refl
+apart-cons ls (arithmetic r e) b = refl
+
+pub apart-snoc : (ls : List ℕ) (b : Branch) (f : Fact) → apartMeet ls (b ++ f ∷ []) ≡ (apartMeet ls b || apartMeet ls (f ∷ []))
+apart-snoc ls [] f = refl
+apart-snoc ls (g ∷ b) f =
+    apart-cons ls g (b ++ f ∷ [])
+    ∙ ap (λ (t : Bool). apartMeet ls (g ∷ []) || t) (apart-snoc ls b f)
+    ∙ sym (or-assoc (apartMeet ls (g ∷ [])) (apartMeet ls b) (apartMeet ls (f ∷ [])))
+    ∙ ap (λ (t : Bool). t || apartMeet ls (f ∷ [])) (sym (apart-cons ls g b))
+
+-- ---- what a row says, from the work area's numbers
+
+pub tag-yes : (n : ℕ) (z : ℤ) → SFits w64 z → ofZ w64 z ≡ n → z ≡ toZ w64 n
+tag-yes n z f e = sym (toZ-ofZ f) ∙ ap (toZ w64) e
+
+pub tag-no : (n : ℕ) (z : ℤ) → (ofZ w64 z ≡ n → ⊥) → z ≡ pos n → ⊥
+tag-no n z h e = h (ap (ofZ w64) e)
+
+row-fact : (w : List ℤ) (k : ℕ)
+    → factOf (rowAt w k) ≡ tagged (getD w (50 * k) (pos 0)) (index (getD w (50 * k + 1) (pos 0))) (index (getD w (50 * k + 2) (pos 0))) (drop 1 (rowAt w k))
+unfolding factOf
+row-fact w k =
+    ap (λ (t : ℤ). tagged t (index (getD (rowAt w k) 1 (pos 0))) (index (getD (rowAt w k) 2 (pos 0))) (drop 1 (rowAt w k))) (row-number w k 0 (pos 0) (omega arith) ∙ ap (λ (i : ℕ). getD w i (pos 0)) none)
+    ∙ ap₂ (λ (a b : ℤ). tagged (getD w (50 * k) (pos 0)) (index a) (index b) (drop 1 (rowAt w k))) (row-number w k 1 (pos 0) (omega arith)) (row-number w k 2 (pos 0) (omega arith))
+  where
+    none : 50 * k + 0 ≡ 50 * k
+    none = omega arith
+
+not-joined : (ls : List ℕ) (a b : ℕ) (e : List ℤ) (t : ℤ) → (t ≡ pos 3 → ⊥) → (t ≡ pos 5 → ⊥) → joinFact ls (tagged t a b e) ≡ ls
+unfolding tagged
+not-joined ls a b e (pos zero) h k = refl
+not-joined ls a b e (pos (suc zero)) h k = refl
+not-joined ls a b e (pos (suc (suc zero))) h k = refl
+not-joined ls a b e (pos (suc (suc (suc zero)))) h k = absurd (h refl)
+not-joined ls a b e (pos (suc (suc (suc (suc zero))))) h k = refl
+not-joined ls a b e (pos (suc (suc (suc (suc (suc zero)))))) h k = absurd (k refl)
+not-joined ls a b e (pos (suc (suc (suc (suc (suc (suc n))))))) h k = refl
+not-joined ls a b e (negsuc n) h k = refl
+
+not-apart : (ls : List ℕ) (a b : ℕ) (e : List ℤ) (t : ℤ) → (t ≡ pos 4 → ⊥) → apartMeet ls (tagged t a b e ∷ []) ≡ false
+unfolding tagged
+not-apart ls a b e (pos zero) h = refl
+not-apart ls a b e (pos (suc zero)) h = refl
+not-apart ls a b e (pos (suc (suc zero))) h = refl
+not-apart ls a b e (pos (suc (suc (suc zero)))) h = refl
+not-apart ls a b e (pos (suc (suc (suc (suc zero))))) h = absurd (h refl)
+not-apart ls a b e (pos (suc (suc (suc (suc (suc zero)))))) h = refl
+not-apart ls a b e (pos (suc (suc (suc (suc (suc (suc n))))))) h = refl
+not-apart ls a b e (negsuc n) h = refl
+
+module _ (w : List ℤ) (k : ℕ) (ls : List ℕ) where
+  abbrev tag : ℤ
+  tag = getD w (50 * k) (pos 0)
+
+  abbrev first : ℕ
+  first = index (getD w (50 * k + 1) (pos 0))
+
+  abbrev second : ℕ
+  second = index (getD w (50 * k + 2) (pos 0))
+
+  pub row-same : tag ≡ pos 3 → joinFact ls (factOf (rowAt w k)) ≡ joinNodes ls (varNode first) (varNode second)
+  unfolding tagged
+  row-same e = ap (joinFact ls) (row-fact w k ∙ ap (λ (t : ℤ). tagged t first second (drop 1 (rowAt w k))) e)
+
+  pub row-literal : tag ≡ pos 5 → joinFact ls (factOf (rowAt w k)) ≡ joinNodes ls (varNode first) (litNode second)
+  unfolding tagged
+  row-literal e = ap (joinFact ls) (row-fact w k ∙ ap (λ (t : ℤ). tagged t first second (drop 1 (rowAt w k))) e)
+
+  pub row-joins-none : (tag ≡ pos 3 → ⊥) → (tag ≡ pos 5 → ⊥) → joinFact ls (factOf (rowAt w k)) ≡ ls
+  row-joins-none h g = ap (joinFact ls) (row-fact w k) ∙ not-joined ls first second (drop 1 (rowAt w k)) tag h g
+
+  pub row-apart : tag ≡ pos 4 → apartMeet ls (factOf (rowAt w k) ∷ []) ≡ sameClass ls (varNode first) (varNode second)
+  unfolding tagged
+  row-apart e =
+      ap (λ (f : Fact). apartMeet ls (f ∷ [])) (row-fact w k ∙ ap (λ (t : ℤ). tagged t first second (drop 1 (rowAt w k))) e)
+      ∙ or-false (sameClass ls (varNode first) (varNode second))
+
+  pub row-not-apart : (tag ≡ pos 4 → ⊥) → apartMeet ls (factOf (rowAt w k) ∷ []) ≡ false
+  row-not-apart h = ap (λ (f : Fact). apartMeet ls (f ∷ [])) (row-fact w k) ∙ not-apart ls first second (drop 1 (rowAt w k)) tag h
+
+-- ---- a row's number as an index
+
+module _ (z : ℤ) (f : SFits w64 z) where
+  pub index-negative : ltZ (toZ w64 (ofZ w64 z)) (pos 0) ≡ true → index z ≡ 0
+  index-negative e = go z (rw (toZ-ofZ f) at e)
+    where
+      go : (z : ℤ) → ltZ z (pos 0) ≡ true → index z ≡ 0
+      go (pos n) h = absurd (let k : n < 0 = ltb-true n 0 h in omega arith)
+      go (negsuc n) h = refl
+
+  pub index-high : ltZ (pos 15) (toZ w64 (ofZ w64 z)) ≡ true → index z ≡ 0
+  index-high e = go z (rw (toZ-ofZ f) at e)
+    where
+      go : (z : ℤ) → ltZ (pos 15) z ≡ true → index z ≡ 0
+      go (pos n) h = rw (le-ltb n 16 (let k : 15 < n = ltb-true 15 n h in omega arith))
+      go (negsuc n) h = refl
+
+  pub index-within : ltZ (toZ w64 (ofZ w64 z)) (pos 0) ≡ false → ltZ (pos 15) (toZ w64 (ofZ w64 z)) ≡ false
+      → (n : ℕ) × (n < 16) × (toZ w64 (ofZ w64 z) ≡ pos n) × (index z ≡ n)
+  index-within e g = rw (toZ-ofZ f) (go z (rw (toZ-ofZ f) at e) (rw (toZ-ofZ f) at g))
+    where
+      go : (z : ℤ) → ltZ z (pos 0) ≡ false → ltZ (pos 15) z ≡ false → (n : ℕ) × (n < 16) × (z ≡ pos n) × (index z ≡ n)
+      go (pos n) h k = let l : n < 16 = (let m : n ≤ 15 = ltb-false 15 n k in omega arith) in (n, l, refl, rw (lt-ltb n 16 l))
+      go (negsuc n) h k = absurd (let c : true ≡ false = h in let z : _≡_ {A = ℕ} 0 1 = cc in omega arith)

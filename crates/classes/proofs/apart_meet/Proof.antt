@@ -1,0 +1,54 @@
+-- `classes::apart_meet` meets its contract.
+use Prim.Native.Nat.{_-_, _≤_, ℕ}
+use borrow.Author.Needs.{needs}
+use denote.Ref.{now}
+use mathlib.Core.Bool.{_||_}
+use mathlib.Core.Path.{_∙_, _≡_, ap, ap₂, refl, sym}
+use native.Mathlib.Omega.{arith}
+use Rattle.calculus.specs.Classes.{apartMeet}
+use Rattle.classes.proofs.Laws.{apart-snoc}
+use Rattle.rows.proofs.Branches.{branch-more}
+use Rattle.rows.specs.Rows.{branchOf, factOf, rowAt}
+use Rattle.classes.proofs.apart_meet.Statement.{statement}
+use Rattle.classes.proofs.apart_meet.Tie as tie
+
+abbrev Inv-loop : tie.InvT-loop
+Inv-loop work count labels found₀ k₀ found k = (k ≤ count) × (found ≡ apartMeet labels (branchOf work k))
+
+abbrev μ-loop : tie.MeasureT-loop
+μ-loop work count labels found₀ k₀ found k = count - k
+
+loop-holds : tie.Need-loop-holds Inv-loop μ-loop
+unfolding branchOf
+loop-holds c = (omega arith, refl)
+
+apart-row-requires : tie.Need-apart-row-requires Inv-loop μ-loop
+apart-row-requires c κs = search needs
+
+add-k : tie.Need-add-k Inv-loop μ-loop
+add-k c = search needs
+
+loop-less : tie.Need-loop-less Inv-loop μ-loop
+loop-less c = search needs
+
+loop-again : tie.Need-loop-again Inv-loop μ-loop
+loop-again c =
+    let l = c .before .before .loop in
+    let s = c .before .before .before .args in
+    let w = now (s .work) in (
+      omega arith,
+      ap₂ _||_ (l .inv .1) (c .apart-row .ensures)
+          ∙ sym (ap (apartMeet (s .labels)) (branch-more w (l .k)) ∙ apart-snoc (s .labels) (branchOf w (l .k)) (factOf (rowAt w (l .k)))),
+    )
+
+returns : tie.Need-returns Inv-loop μ-loop
+returns c =
+    let l = c .before .loop in
+    let s = c .before .before .args in
+    let e : l .k ≡ s .count = omega arith in
+    l .inv .1 ∙ ap (λ (k : ℕ). apartMeet (s .labels) (branchOf (now (s .work)) k)) e
+
+pub apart-meet-spec : {M : Type 1} → statement M
+apart-meet-spec =
+    tie.close
+    (tie.spec Inv-loop μ-loop loop-holds apart-row-requires add-k loop-less loop-again returns)

@@ -1,0 +1,66 @@
+-- `classes::labels` meets its contract.
+use Prim.Native.Nat.{_-_, _≤_, ℕ}
+use borrow.Author.Needs.{needs}
+use denote.Ref.{now}
+use mathlib.Core.List.{List}
+use mathlib.Core.Path.{_∙_, _≡_, ap, sym}
+use native.Mathlib.Omega.{arith}
+use Rattle.calculus.specs.Classes.{joinFact, labels}
+use Rattle.classes.proofs.Laws.{labels-snoc}
+use Rattle.rows.proofs.Branches.{branch-more}
+use Rattle.rows.specs.Rows.{branchOf, factOf, rowAt}
+use Rattle.classes.proofs.labels.Statement.{statement}
+use Rattle.classes.proofs.labels.Tie as tie
+
+abbrev Inv-loop : tie.InvT-loop
+Inv-loop work count out₀ k₀ out k = (k ≤ count) × (out ≡ labels (branchOf work k))
+
+abbrev μ-loop : tie.MeasureT-loop
+μ-loop work count out₀ k₀ out k = count - k
+
+first-labels-requires : tie.Need-first-labels-requires Inv-loop μ-loop
+first-labels-requires c κs = search needs
+
+loop-holds : tie.Need-loop-holds Inv-loop μ-loop
+unfolding branchOf
+loop-holds c = (omega arith, c .first-labels .ensures)
+
+join-row-requires : tie.Need-join-row-requires Inv-loop μ-loop
+join-row-requires c κs = search needs
+
+add-k : tie.Need-add-k Inv-loop μ-loop
+add-k c = search needs
+
+loop-less : tie.Need-loop-less Inv-loop μ-loop
+loop-less c = search needs
+
+loop-again : tie.Need-loop-again Inv-loop μ-loop
+loop-again c =
+    let l = c .before .before .loop in
+    let w = now (c .before .before .before .before .args .work) in (
+      omega arith,
+      c .join-row .ensures
+          ∙ ap (λ (ls : List ℕ). joinFact ls (factOf (rowAt w (l .k)))) (l .inv .1)
+          ∙ sym (ap labels (branch-more w (l .k)) ∙ labels-snoc (branchOf w (l .k)) (factOf (rowAt w (l .k)))),
+    )
+
+returns : tie.Need-returns Inv-loop μ-loop
+returns c =
+    let l = c .before .loop in
+    let s = c .before .before .before .args in
+    let e : l .k ≡ s .count = omega arith in
+    l .inv .1 ∙ ap (λ (k : ℕ). labels (branchOf (now (s .work)) k)) e
+
+pub labels-spec : {M : Type 1} → statement M
+labels-spec =
+    tie.close
+    (tie.spec
+    Inv-loop
+    μ-loop
+    first-labels-requires
+    loop-holds
+    join-row-requires
+    add-k
+    loop-less
+    loop-again
+    returns)

@@ -1,0 +1,71 @@
+-- `classes::lowest_var` meets its contract.
+use Prim.Native.Nat.{_+_}
+use borrow.Author.Needs.{needs}
+use mathlib.Core.Path.{_∙_, _≡_, refl, sym}
+use native.Mathlib.Omega.{arith}
+use Rattle.calculus.specs.SaturationTest.{lowestFrom, lowestVar}
+use Rattle.classes.proofs.Laws.{first-done, first-no, first-yes}
+use Rattle.classes.proofs.lowest_var.Statement.{statement}
+use Rattle.classes.proofs.lowest_var.Tie as tie
+
+abbrev Inv-loop : tie.InvT-loop
+Inv-loop labels x y₀ left₀ y left = (y + left ≡ x) × (lowestFrom left labels x y ≡ lowestVar labels x)
+
+abbrev μ-loop : tie.MeasureT-loop
+μ-loop labels x y₀ left₀ y left = left
+
+loop-holds : tie.Need-loop-holds Inv-loop μ-loop
+loop-holds c = (omega arith, refl)
+
+mul-same-class : tie.Need-mul-same-class Inv-loop μ-loop
+mul-same-class c = search needs
+
+mul-same-class-2 : tie.Need-mul-same-class-2 Inv-loop μ-loop
+mul-same-class-2 c = search needs
+
+same-class-requires : tie.Need-same-class-requires Inv-loop μ-loop
+same-class-requires c κs = search needs
+
+returns : tie.Need-returns Inv-loop μ-loop
+returns c =
+    let l = c .before .before .before .loop in
+    let s = c .before .before .before .before .args in
+    sym (first-yes (s .labels) (s .x) (l .y) (l .left) (omega arith) (sym (c .before .same-class .ensures) ∙ c .if1 .taken)) ∙ l .inv .1
+
+add-y : tie.Need-add-y Inv-loop μ-loop
+add-y c = search needs
+
+sub-left : tie.Need-sub-left Inv-loop μ-loop
+sub-left c = search needs
+
+loop-less : tie.Need-loop-less Inv-loop μ-loop
+loop-less c = search needs
+
+loop-again : tie.Need-loop-again Inv-loop μ-loop
+loop-again c =
+    let l = c .before .before .before .loop in
+    let s = c .before .before .before .before .args in
+    (omega arith, sym (first-no (s .labels) (s .x) (l .y) (l .left) (omega arith) (sym (c .before .same-class .ensures) ∙ c .if1 .left)) ∙ l .inv .1)
+
+returns-2 : tie.Need-returns-2 Inv-loop μ-loop
+returns-2 c =
+    let l = c .before .loop in
+    let s = c .before .before .args in
+    sym (first-done (s .labels) (s .x) (l .y) (l .left) (omega arith)) ∙ l .inv .1
+
+pub lowest-var-spec : {M : Type 1} → statement M
+lowest-var-spec =
+    tie.close
+    (tie.spec
+    Inv-loop
+    μ-loop
+    loop-holds
+    mul-same-class
+    mul-same-class-2
+    same-class-requires
+    returns
+    add-y
+    sub-left
+    loop-less
+    loop-again
+    returns-2)

@@ -1,0 +1,278 @@
+// Classes of variables and literals: labels of the 32 nodes, from the rows of a branch.
+ghost use mathlib.Core.Path.{_≡_};
+ghost use mathlib.Core.Bool.{Bool, true, false, cond};
+ghost use mathlib.Core.List.{[], _∷_};
+ghost use Prim.Native.Nat.{ℕ, _+_, _*_, _≤_, _<_};
+ghost use lib.ListN.{length, getD};
+ghost use lib.Dec.{eqb};
+ghost use lib.IntN.{pos};
+ghost use Rattle.calculus.specs.Chains.{varNode, litNode};
+ghost use Rattle.calculus.specs.Classes as classes;
+ghost use Rattle.calculus.specs.Classes.{upFrom, joinNodes, joinFact, sameClass, lowest, anyBelow, apartMeet};
+ghost use Rattle.calculus.specs.Rules.{logUp};
+ghost use Rattle.calculus.specs.SaturationTest.{lowestVar};
+ghost use Rattle.rows.specs.Rows.{index, factOf, rowAt, branchOf};
+ghost use Rattle.classes.specs.Classes.{literalOf, literalMeets, clash};
+
+// The lowest literal of a class, if it holds one.
+pub enum Lowest {
+    Literal(usize),
+    Nothing,
+}
+
+// Every node is in a class of its own.
+fn first_labels() -> [u8; 32]
+    ensures { λ r. ⌜ r ≡ upFrom 0 32 ⌝ }
+{
+    [
+        0,
+        1,
+        2,
+        3,
+        4,
+        5,
+        6,
+        7,
+        8,
+        9,
+        10,
+        11,
+        12,
+        13,
+        14,
+        15,
+        16,
+        17,
+        18,
+        19,
+        20,
+        21,
+        22,
+        23,
+        24,
+        25,
+        26,
+        27,
+        28,
+        29,
+        30,
+        31,
+    ]
+}
+
+fn relabelled(old: u8, new: u8, label: u8) -> u8
+    ensures { λ r. ⌜ r ≡ cond (eqb label old) new label ⌝ }
+{
+    if label == old {
+        return new;
+    }
+    label
+}
+
+fn relabel(old: u8, new: u8, labels: [u8; 32]) -> [u8; 32]
+    ensures { λ r. ⌜ r ≡ classes.relabel old new labels ⌝ }
+{
+    let mut out = labels;
+    let mut i = 0;
+    while i < 32 {
+        let label = labels[i];
+        let to = relabelled(old, new, label);
+        out[i] = to;
+        i += 1;
+    }
+    out
+}
+
+// The classes of two nodes become one.
+fn join(labels: [u8; 32], i: usize, j: usize) -> [u8; 32]
+    requires { ⌜ (i < 32) × (j < 32) ⌝ }
+    ensures { λ r. ⌜ r ≡ joinNodes labels i j ⌝ }
+{
+    let new = labels[i];
+    let old = labels[j];
+    relabel(old, new, labels)
+}
+
+// An operand of a row: the number of a variable or a literal.
+fn operand(work: &[i64], at: usize) -> usize
+    requires { ⌜ at < length (now work) ⌝ }
+    ensures { λ r. ⌜ r ≡ index (getD (now (work .entry)) at (pos 0)) ⌝ }
+    ensures { λ r. ⌜ r < 16 ⌝ }
+{
+    let z = work[at];
+    if z < 0 {
+        return 0;
+    }
+    if z > 15 {
+        return 0;
+    }
+    z as usize
+}
+
+// The labels once the fact of row k stands.
+fn join_row(work: &[i64], k: usize, labels: [u8; 32]) -> [u8; 32]
+    requires { ⌜ (k < 128) × (50 * k + 50 ≤ length (now work)) ⌝ }
+    ensures { λ r. ⌜ r ≡ joinFact labels (factOf (rowAt (now (work .entry)) k)) ⌝ }
+{
+    let at = 50 * k;
+    let tag = work[at];
+    if tag == 3 {
+        let a = operand(work, at + 1);
+        let b = operand(work, at + 2);
+        return join(labels, 2 * a, 2 * b);
+    }
+    if tag == 5 {
+        let a = operand(work, at + 1);
+        let b = operand(work, at + 2);
+        return join(labels, 2 * a, 2 * b + 1);
+    }
+    labels
+}
+
+// The labels of a branch of `count` facts.
+pub fn labels(work: &[i64], count: usize) -> [u8; 32]
+    requires { ⌜ (count ≤ 128) × (50 * count ≤ length (now work)) ⌝ }
+    ensures { λ r. ⌜ r ≡ classes.labels (branchOf (now (work .entry)) count) ⌝ }
+{
+    let mut out = first_labels();
+    let mut k = 0;
+    while k < count {
+        let next = join_row(work, k, out);
+        out = next;
+        k += 1;
+    }
+    out
+}
+
+// Are two nodes in one class?
+pub fn same_class(labels: [u8; 32], i: usize, j: usize) -> bool
+    requires { ⌜ (i < 32) × (j < 32) ⌝ }
+    ensures { λ r. ⌜ r ≡ sameClass labels i j ⌝ }
+{
+    let a = labels[i];
+    let b = labels[j];
+    a == b
+}
+
+// The lowest of the first m literals in the class of variable x: "the lowest literal number counts".
+pub fn class_literal(labels: [u8; 32], m: usize, x: usize) -> Lowest
+    requires { ⌜ (m ≤ 16) × (x < 16) ⌝ }
+    ensures { λ r. ⌜ literalOf r ≡ lowest labels x 0 m ⌝ }
+{
+    let mut l = 0;
+    let mut left = m;
+    while 0 < left {
+        if same_class(labels, 2 * x, 2 * l + 1) {
+            return Lowest::Literal(l);
+        }
+        l += 1;
+        left -= 1;
+    }
+    Lowest::Nothing
+}
+
+// The lowest variable in the class of variable x.
+pub fn lowest_var(labels: [u8; 32], x: usize) -> usize
+    requires { ⌜ x < 16 ⌝ }
+    ensures { λ r. ⌜ r ≡ lowestVar labels x ⌝ }
+{
+    let mut y = 0;
+    let mut left = x;
+    while 0 < left {
+        if same_class(labels, 2 * x, 2 * y) {
+            return y;
+        }
+        y += 1;
+        left -= 1;
+    }
+    x
+}
+
+// Does literal i share a class with a lower one?
+fn literal_meets(labels: [u8; 32], i: usize) -> bool
+    requires { ⌜ i < 16 ⌝ }
+    ensures { λ r. ⌜ r ≡ literalMeets labels i ⌝ }
+{
+    let mut j = 0;
+    while j < i {
+        if same_class(labels, 2 * i + 1, 2 * j + 1) {
+            return true;
+        }
+        j += 1;
+    }
+    false
+}
+
+// "two different literals share a class", of the first m.
+fn literals_meet(labels: [u8; 32], m: usize) -> bool
+    requires { ⌜ m ≤ 16 ⌝ }
+    ensures { λ r. ⌜ r ≡ anyBelow m (literalMeets labels) ⌝ }
+{
+    let mut i = 0;
+    while i < m {
+        if literal_meets(labels, i) {
+            return true;
+        }
+        i += 1;
+    }
+    false
+}
+
+// Is row k a fact a ≉ b with both sides in one class?
+fn apart_row(work: &[i64], k: usize, labels: [u8; 32]) -> bool
+    requires { ⌜ (k < 128) × (50 * k + 50 ≤ length (now work)) ⌝ }
+    ensures { λ r. ⌜ r ≡ apartMeet labels (factOf (rowAt (now (work .entry)) k) ∷ []) ⌝ }
+{
+    let at = 50 * k;
+    let tag = work[at];
+    if tag == 4 {
+        let a = operand(work, at + 1);
+        let b = operand(work, at + 2);
+        return same_class(labels, 2 * a, 2 * b);
+    }
+    false
+}
+
+// "a ≉ fact has both sides in one", among the first `count` facts.
+fn apart_meet(work: &[i64], count: usize, labels: [u8; 32]) -> bool
+    requires { ⌜ (count ≤ 128) × (50 * count ≤ length (now work)) ⌝ }
+    ensures { λ r. ⌜ r ≡ apartMeet labels (branchOf (now (work .entry)) count) ⌝ }
+{
+    let mut found = false;
+    let mut k = 0;
+    while k < count {
+        let one = apart_row(work, k, labels);
+        found = found | one;
+        k += 1;
+    }
+    found
+}
+
+// Does S-Conf fit on a branch of `count` facts with these labels, where the question has m literals, the empty one included?
+pub fn conflict(work: &[i64], count: usize, labels: [u8; 32], m: usize) -> bool
+    requires { ⌜ (count ≤ 128) × (50 * count ≤ length (now work)) × (m ≤ 16) ⌝ }
+    ensures { λ r. ⌜ r ≡ clash m labels (branchOf (now (work .entry)) count) ⌝ }
+{
+    if literals_meet(labels, m) {
+        return true;
+    }
+    apart_meet(work, count, labels)
+}
+
+// Card's bound: "the smallest number such that n to the power L is at least m". The power stops once m is reached.
+pub fn log_up(n: usize, m: usize) -> usize
+    requires { ⌜ (n ≤ 196608) × (m ≤ 16) ⌝ }
+    ensures { λ r. ⌜ r ≡ logUp m n m 0 ⌝ }
+    ensures { λ r. ⌜ r ≤ m ⌝ }
+{
+    let mut power = 1;
+    let mut k = 0;
+    while k < m {
+        if m <= power {
+            return k;
+        }
+        power = power * n;
+        k += 1;
+    }
+    k
+}

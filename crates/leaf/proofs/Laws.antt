@@ -1,0 +1,258 @@
+-- Laws of texts, of the tests by values, and of loops over variables.
+use mathlib.Core.Path.{_≡_, refl, sym, _∙_, ap, ap₂}
+use mathlib.Core.Bool.{Bool, true, false, not, cond, _&&_, _||_}
+use mathlib.Core.Option.{Option, none, some}
+use mathlib.Core.List.{List, [], _∷_}
+use Prim.Native.Nat.{ℕ, zero, suc, _+_, _-_, _≤_, _<_}
+use native.Mathlib.Omega.{arith}
+use native.Mathlib.Numerals.{add-one}
+use native.Mathlib.Decide.{decLt}
+use borrow.Author.Tests.{eq-eqb, ne-eqb, le-leb, lt-leb}
+use lib.ListN.{length}
+use lib.Dec.{eqb, leb}
+use lib.IntN.{ℤ, pos, negsuc, natAbs}
+use lib.Signed.{ltZ}
+use Rattle.calculus.specs.Alphabet.{lastCharacter, characterCount}
+use Rattle.calculus.specs.Rows.{eqℤ}
+use Rattle.calculus.specs.Facts.{Question, Branch, codeOf, literal, len, code}
+use Rattle.calculus.specs.Chains.{varNode, litNode}
+use Rattle.calculus.specs.Classes.{labels, sameClass, lowest, conflict}
+use Rattle.calculus.specs.Rules.{logUp}
+use Rattle.calculus.specs.Model.{modelOf}
+use Rattle.calculus.specs.SaturationTest.{every, lowestVar, lowestOf, saturatedCard}
+use Rattle.format.specs.Fields.{u32, u32s}
+use Rattle.format.specs.Records.{next}
+use Rattle.format.specs.Places.{skip, texts, literalsFrom}
+use Rattle.classes.specs.Classes.{clash}
+use Rattle.classes.proofs.Laws.{lowest-done, lowest-yes, lowest-no}
+use Rattle.leaf.specs.declared.Leaf.{Leaf}
+use Rattle.leaf.specs.Leaf.{asked}
+use Rattle.leaf.specs.Values.{textFits, literalFits, lengthFits, codeBy, codeFits, varFits, pairBy, pairFits}
+
+-- ---- texts
+
+pub length-u32s : (b : List ℕ) (at k : ℕ) → length (u32s b at k) ≡ k
+unfolding u32s
+length-u32s b at zero = refl
+length-u32s b at (suc k) = ap suc (length-u32s b (at + 4) k)
+
+pub code-one : (b : List ℕ) (at k : ℕ) → k ≡ 1 → codeOf (u32s b at k) ≡ pos (u32 b at)
+unfolding u32s
+code-one b at k e = rw e
+
+pub code-other : (b : List ℕ) (at k : ℕ) → (k ≡ 1 → ⊥) → codeOf (u32s b at k) ≡ negsuc 0
+unfolding u32s
+code-other b at zero h = refl
+code-other b at (suc zero) h = absurd (h refl)
+code-other b at (suc (suc k)) h = refl
+
+pub length-texts : (b : List ℕ) (k at : ℕ) → length (texts b k at) ≡ k
+unfolding texts
+length-texts b zero at = refl
+length-texts b (suc k) at = ap suc (length-texts b k (next b at))
+
+-- a literal that was found is one of the m
+some-is : (k l : ℕ) → _≡_ {A = Option ℕ} (some k) (some l) → k ≡ l
+some-is k l e = cc
+
+none-found : (l : ℕ) → _≡_ {A = Option ℕ} none (some l) → ⊥
+none-found l e = let z : _≡_ {A = ℕ} 0 1 = cc in omega arith
+
+from-below : (ls : List ℕ) (x m k l : ℕ) → lowest ls x k m ≡ some l → l < k + m
+from-below ls x zero k l e = absurd (none-found l e)
+from-below ls x (suc m) k l e = go (sameClass ls (varNode x) (litNode k)) refl (λ h. from-below ls x m (k + 1) l h)
+  where
+    down : suc m - 1 ≡ m
+    down = omega arith
+
+    go : (t : Bool) → sameClass ls (varNode x) (litNode k) ≡ t → (lowest ls x (k + 1) m ≡ some l → l < k + 1 + m) → l < k + suc m
+    go true h ih = let f : k ≡ l = some-is k l (sym (lowest-yes ls x k (suc m) (omega arith) h) ∙ e) in omega arith
+    go false h ih = omega (arith, ih (ap (λ (i : ℕ). lowest ls x (k + 1) i) (sym down) ∙ sym (lowest-no ls x k (suc m) (omega arith) h) ∙ e))
+
+pub literal-below : (ls : List ℕ) (x m l : ℕ) → lowest ls x 0 m ≡ some l → l < m
+literal-below ls x m l e = omega (arith, from-below ls x m 0 l e)
+
+-- records that stand before whole ones are whole
+skip-far : (b : List ℕ) (k at : ℕ) → at ≤ skip b k at
+unfolding skip
+skip-far b zero at = omega arith
+skip-far b (suc k) at = let h : next b at ≤ skip b k (next b at) = skip-far b k (next b at) in omega arith
+
+pub skip-more : (b : List ℕ) (j k at : ℕ) → j ≤ k → skip b j at ≤ skip b k at
+unfolding skip
+skip-more b zero k at h = skip-far b k at
+skip-more b (suc j) zero at h = absurd (omega arith)
+skip-more b (suc j) (suc k) at h = skip-more b j k (next b at) (omega arith)
+
+-- ---- tests of a variable
+
+pub text-no : (t : List ℕ) (z c : ℤ) → eqℤ z (pos (length t)) ≡ false → textFits t z c ≡ false
+unfolding textFits
+text-no t z c e = rw e
+
+pub text-yes : (t : List ℕ) (z c : ℤ) → eqℤ z (pos (length t)) ≡ true → textFits t z c ≡ eqℤ c (codeOf t)
+unfolding textFits
+text-yes t z c e = rw e
+
+module _ (u : Question) (z c : ℤ) where
+  pub literal-some : (o : Option ℕ) (l : ℕ) → o ≡ some l → literalFits u o z c ≡ textFits (literal u l) z c
+  unfolding literalFits
+  literal-some o l e = rw e
+
+  pub literal-none : (o : Option ℕ) → o ≡ none → literalFits u o z c ≡ true
+  unfolding literalFits
+  literal-none o e = rw e
+
+module _ (ls : List ℕ) (x : ℕ) (z : ℤ) where
+  pub length-empty : sameClass ls (varNode x) (litNode 0) ≡ true → lengthFits ls x z ≡ true
+  unfolding lengthFits
+  length-empty e = ap (λ (t : Bool). t || ltZ (pos 0) z) e
+
+  pub length-other : sameClass ls (varNode x) (litNode 0) ≡ false → lengthFits ls x z ≡ ltZ (pos 0) z
+  unfolding lengthFits
+  length-other e = ap (λ (t : Bool). t || ltZ (pos 0) z) e
+
+module _ (n : ℕ) (z : ℤ) where
+  pub code-character : (k : ℕ) → eqℤ z (pos 1) ≡ true → codeFits n z (pos k) ≡ leb k (lastCharacter n)
+  unfolding codeBy
+  code-character k e = ap (λ (t : Bool). codeBy t n (pos k)) e
+
+  pub code-negative : (k : ℕ) → eqℤ z (pos 1) ≡ true → codeFits n z (negsuc k) ≡ false
+  unfolding codeBy
+  code-negative k e = ap (λ (t : Bool). codeBy t n (negsuc k)) e
+
+  pub code-longer : (c : ℤ) → eqℤ z (pos 1) ≡ false → codeFits n z c ≡ eqℤ c (negsuc 0)
+  unfolding codeBy
+  code-longer c e = ap (λ (t : Bool). codeBy t n c) e
+
+-- ---- tests of a pair
+
+module _ (z w c d : ℤ) where
+  pub pair-lengths : (s : Bool) → s ≡ true → eqℤ z w ≡ false → pairBy s z w c d ≡ false
+  unfolding pairBy
+  pair-lengths s e h = rw (e, h)
+
+  pub pair-codes : (s : Bool) → s ≡ true → eqℤ z w ≡ true → pairBy s z w c d ≡ eqℤ c d
+  unfolding pairBy
+  pair-codes s e h = rw (e, h)
+
+  pub pair-no-code : (s : Bool) → s ≡ false → eqℤ c (negsuc 0) ≡ true → pairBy s z w c d ≡ true
+  unfolding pairBy
+  pair-no-code s e h = rw (e, h)
+
+  pub pair-apart : (s : Bool) → s ≡ false → eqℤ c (negsuc 0) ≡ false → pairBy s z w c d ≡ not (eqℤ c d)
+  unfolding pairBy
+  pair-apart s e h = rw (e, h)
+
+-- ---- counting classes
+
+module _ (a y : ℕ) (t : Bool) where
+  pub tally-other : t ≡ false → _≡_ {A = ℕ} 0 (cond (t && eqb a y) 1 0)
+  tally-other e = rw e
+
+  pub tally-higher : t ≡ true → (a ≡ y → ⊥) → _≡_ {A = ℕ} 0 (cond (t && eqb a y) 1 0)
+  tally-higher e h = rw (e, ne-eqb a y h)
+
+  pub tally-one : t ≡ true → a ≡ y → _≡_ {A = ℕ} 1 (cond (t && eqb a y) 1 0)
+  tally-one e h = rw (e, eq-eqb a y h)
+
+module _ (u : Question) (ls : List ℕ) (m : List ℤ) (z : ℤ) where
+  pub count-more : (y r : ℕ) → r ≡ cond (eqℤ (modelOf u m len y) z && eqb (lowestVar ls y) y) 1 0
+      → length (lowestOf u ls m z y) + r ≡ length (lowestOf u ls m z (y + 1))
+  count-more y r e =
+      ap (λ (k : ℕ). length (lowestOf u ls m z y) + k) e ∙ go (eqℤ (modelOf u m len y) z && eqb (lowestVar ls y) y)
+      ∙ sym (ap (λ (k : ℕ). length (lowestOf u ls m z k)) (add-one y))
+    where
+      go : (t : Bool) → length (lowestOf u ls m z y) + cond t 1 0 ≡ length {A = ℕ} (elim t as (λ _. List ℕ) [ true ↦ y ∷ lowestOf u ls m z y | false ↦ lowestOf u ls m z y ])
+      go true = add-one (length (lowestOf u ls m z y))
+      go false = omega arith
+
+-- Card, by the count k of the classes of the length of x
+module _ (u : Question) (ls : List ℕ) (m : List ℤ) (x k : ℕ) (e : k ≡ length (lowestOf u ls m (modelOf u m len x) (u .p))) where
+  abbrev byCount : ℕ → Bool
+  byCount k = leb k 1 || (not (leb (u .n) 1) && leb (logUp k (u .n) k 0) (natAbs (modelOf u m len x)))
+
+  counted : saturatedCard u ls m x ≡ byCount k
+  counted = ap byCount (sym e)
+
+  pub card-few : k ≤ 1 → saturatedCard u ls m x ≡ true
+  card-few h = counted ∙ rw (le-leb k 1 h)
+
+  pub card-unary : 1 < k → u .n ≤ 1 → saturatedCard u ls m x ≡ false
+  card-unary h g = counted ∙ rw (lt-leb k 1 h, le-leb (u .n) 1 g)
+
+  pub card-many : 1 < k → 1 < u .n → saturatedCard u ls m x ≡ leb (logUp k (u .n) k 0) (natAbs (modelOf u m len x))
+  card-many h g = counted ∙ rw (lt-leb k 1 h, lt-leb (u .n) 1 g)
+
+-- ---- every variable
+
+and-false : (a : Bool) → (a && false) ≡ false
+and-false true = refl
+and-false false = refl
+
+module _ (t : ℕ → Bool) where
+  pub every-more : (i : ℕ) → every i t ≡ true → t i ≡ true → every (i + 1) t ≡ true
+  every-more i e f = rw (add-one, e, f)
+
+  pub every-no : (m i : ℕ) → i < m → t i ≡ false → every m t ≡ false
+  every-no zero i h e = absurd (omega arith)
+  every-no (suc m) i h e = go (λ l. every-no m i l e) (decLt i m)
+    where
+      go : (i < m → every m t ≡ false) → Dec (i < m) → every (suc m) t ≡ false
+      go ih (yes l) = rw (ih l) (and-false (t m))
+      go ih (no n) = let k : m ≡ i = omega arith in ap (λ (z : ℕ). t z && every m t) k ∙ rw e
+
+-- ---- the tests without literals do not read the ticket
+
+lowest-any : (b : List ℕ) (f : Leaf) (ls : List ℕ) (m : List ℤ) (z : ℤ) (k : ℕ) → lowestOf (asked [] f) ls m z k ≡ lowestOf (asked b f) ls m z k
+lowest-any b f ls m z zero = refl
+lowest-any b f ls m z (suc k) =
+    ap (λ (l : List ℕ). elim (eqℤ (modelOf (asked b f) m len k) z && eqb (lowestVar ls k) k) as (λ _. List ℕ) [ true ↦ k ∷ l | false ↦ l ]) (lowest-any b f ls m z k)
+
+pub card-any : (b : List ℕ) (f : Leaf) (ls : List ℕ) (m : List ℤ) (x : ℕ) → saturatedCard (asked [] f) ls m x ≡ saturatedCard (asked b f) ls m x
+card-any b f ls m x =
+    ap (λ (l : List ℕ). leb (length l) 1 || (not (leb (f .n) 1) && leb (logUp (length l) (f .n) (length l) 0) (natAbs (modelOf (asked b f) m len x))))
+    (lowest-any b f ls m (modelOf (asked b f) m len x) (f .p))
+
+pub pairs-any : (b : List ℕ) (f : Leaf) (ls : List ℕ) (m : List ℤ) (x : ℕ) → every (f .p) (pairFits (asked [] f) ls m x) ≡ every (f .p) (pairFits (asked b f) ls m x)
+unfolding pairFits
+pairs-any b f ls m x = refl
+
+-- ---- the rules of one variable
+
+-- the four tests, one after the other
+module _ (u : Question) (ls : List ℕ) (m : List ℤ) (x : ℕ) where
+  abbrev z : ℤ
+  z = modelOf u m len x
+
+  abbrev c : ℤ
+  c = modelOf u m code x
+
+  abbrev pub fromLiteral : Bool
+  fromLiteral = literalFits u (lowest ls x 0 (suc (length (u .literals)))) z c
+
+  pub var-literal : fromLiteral ≡ false → varFits u ls m x ≡ false
+  unfolding varFits
+  var-literal e = ap (λ (t : Bool). t && (lengthFits ls x z && (codeFits (u .n) z c && saturatedCard u ls m x))) e
+
+  past-literal : fromLiteral ≡ true → varFits u ls m x ≡ (lengthFits ls x z && (codeFits (u .n) z c && saturatedCard u ls m x))
+  unfolding varFits
+  past-literal e = ap (λ (t : Bool). t && (lengthFits ls x z && (codeFits (u .n) z c && saturatedCard u ls m x))) e
+
+  pub var-length : fromLiteral ≡ true → lengthFits ls x z ≡ false → varFits u ls m x ≡ false
+  var-length e f = past-literal e ∙ ap (λ (t : Bool). t && (codeFits (u .n) z c && saturatedCard u ls m x)) f
+
+  past-length : fromLiteral ≡ true → lengthFits ls x z ≡ true → varFits u ls m x ≡ (codeFits (u .n) z c && saturatedCard u ls m x)
+  past-length e f = past-literal e ∙ ap (λ (t : Bool). t && (codeFits (u .n) z c && saturatedCard u ls m x)) f
+
+  pub var-code : fromLiteral ≡ true → lengthFits ls x z ≡ true → codeFits (u .n) z c ≡ false → varFits u ls m x ≡ false
+  var-code e f g = past-length e f ∙ ap (λ (t : Bool). t && saturatedCard u ls m x) g
+
+  pub var-card : fromLiteral ≡ true → lengthFits ls x z ≡ true → codeFits (u .n) z c ≡ true → varFits u ls m x ≡ saturatedCard u ls m x
+  var-card e f g = past-length e f ∙ ap (λ (t : Bool). t && saturatedCard u ls m x) g
+
+-- ---- S-Conf
+
+pub conflict-is : (t : List ℕ) (f : Leaf) (b : Branch) → f .labels ≡ labels b → clash (f .literals + 1) (f .labels) b ≡ conflict (asked t f) b
+conflict-is t f b e =
+    ap₂ (λ (m : ℕ) (ls : List ℕ). clash m ls b) (add-one (f .literals) ∙ ap suc (sym (length-texts t (f .literals) literalsFrom))) e

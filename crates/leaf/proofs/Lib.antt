@@ -1,0 +1,3 @@
+pub mod Saturation
+pub mod Signed
+pub mod Laws

@@ -1,0 +1,214 @@
+-- The test of a leaf is the test by values: a child's facts hold just if lengths and codes fit.
+use Prim.Native.Nat.{ℕ, zero, suc, _-_, _≤_, _<_}
+use native.Mathlib.Omega.{arith}
+use mathlib.Core.Path.{_≡_, refl, sym, _∙_, ap, ap₂, subst}
+use mathlib.Core.Bool.{Bool, true, false, not, _&&_, _||_}
+use mathlib.Core.Option.{Option, none, some}
+use mathlib.Core.List.{List, [], _∷_}
+use lib.ListN.{length}
+use lib.Dec.{T, eqb→eq, eqb-refl, leb, ltb, eqb, le→leb, leb→le, ltb→lt}
+use lib.IntN.{ℤ, pos, negsuc, _-ℤ_, _+ℤ_, negℤ}
+use lib.Signed.{ltZ}
+use borrow.Author.Tests.{lt-ltb, eqb-true}
+use Rattle.integers.proofs.Laws.{≤ℤ-pos, pos-≤ℤ, →-ℤ-zero, →-ℤ-nonneg, -ℤ-zero→, -ℤ-nonneg→}
+use Rattle.lists.proofs.Tests.{→true, true→}
+use Rattle.calculus.specs.Alphabet.{lastCharacter}
+use Rattle.calculus.specs.Rows.{eqℤ, isZero, nonneg, number, minus, less}
+use Rattle.calculus.specs.Facts.{Question, Branch, Fact, same, isLiteral, arithmetic, ge, eq, ne, Function, len, code, literal, valueOf, apply}
+use Rattle.calculus.specs.Chains.{varNode, litNode}
+use Rattle.calculus.specs.Classes.{label, labels, sameClass, classLiteral, conflict}
+use Rattle.calculus.specs.Rules.{guard, then}
+use Rattle.calculus.specs.Children.{one}
+use Rattle.calculus.specs.Steps.{SProp, LIntro, LValid, CCollapse, CValid, CInj}
+use Rattle.calculus.specs.Model.{modelOf, valueIn}
+use Rattle.calculus.specs.SaturationTest.{held, heldAll, heldSome, byChildren, saturatedStep, saturatedCard, saturated, every}
+use Rattle.calculus.proofs.Rows.{eqℤ→, →eqℤ, isZero→, →isZero, dot-minus, dot-number, dot-less}
+use Rattle.calculus.proofs.Relations.{nonneg→, →nonneg}
+use Rattle.calculus.proofs.Leaf.{apply-in}
+use Rattle.leaf.specs.Values.{textFits, literalFits, lengthFits, codeBy, codeFits, varFits, pairBy, pairFits, byValues}
+
+-- ---- tests of equal meaning
+
+equal-tests : (a b : Bool) → (T a → T b) → (T b → T a) → a ≡ b
+equal-tests true true f g = refl
+equal-tests true false f g = absurd (f tt)
+equal-tests false true f g = absurd (g tt)
+equal-tests false false f g = refl
+
+zero-minus : (x y : ℤ) → isZero (x -ℤ y) ≡ eqℤ x y
+zero-minus x y = equal-tests (isZero (x -ℤ y)) (eqℤ x y)
+    (λ t. →eqℤ (let e : x ≡ y = -ℤ-zero→ (isZero→ (x -ℤ y) t) in e))
+    (λ t. →isZero (→-ℤ-zero (eqℤ→ x y t)))
+
+-- c ≤ k for numbers
+leb-minus : (k c : ℕ) → nonneg (pos k -ℤ pos c) ≡ leb c k
+leb-minus k c = equal-tests (nonneg (pos k -ℤ pos c)) (leb c k)
+    (λ t. le→leb c k (≤ℤ-pos (-ℤ-nonneg→ (nonneg→ (pos k -ℤ pos c) t))))
+    (λ t. →nonneg (pos k -ℤ pos c) (→-ℤ-nonneg (pos-≤ℤ (leb→le c k t))))
+
+positive-minus : (z : ℤ) → nonneg (z -ℤ pos 1) ≡ ltZ (pos 0) z
+positive-minus (pos k) = leb-minus k 1 ∙ equal-tests (leb 1 k) (ltb 0 k) (λ t. true→ (lt-ltb 0 k (leb→le 1 k t))) (λ t. le→leb 1 k (ltb→lt 0 k t))
+positive-minus (negsuc k) = refl
+
+and-true : (a : Bool) → (a && true) ≡ a
+and-true true = refl
+and-true false = refl
+
+or-false : (a : Bool) → (a || false) ≡ a
+or-false true = refl
+or-false false = refl
+
+-- ---- the children of each rule
+
+module _ (u : Question) (ls : List ℕ) (m : List ℤ) where
+  abbrev M : Function → ℕ → ℤ
+  M f x = modelOf u m f x
+
+  one-holds : (f : Fact) {t : Bool} → held ls m f ≡ t → heldSome ls m (one f) ≡ t
+  one-holds f e = or-false (held ls m f && true) ∙ and-true (held ls m f) ∙ e
+
+  number-is : (f : Function) (x : ℕ) (k : ℤ) → held ls m (arithmetic eq (minus (apply u f x) (number k))) ≡ eqℤ (M f x) k
+  number-is f x k = ap isZero (dot-minus (apply u f x) (number k) (pos 1 ∷ m) (apply-in u m f x) (dot-number m k)) ∙ zero-minus (M f x) k
+
+  equal-is : (f : Function) (x y : ℕ) → held ls m (arithmetic eq (minus (apply u f x) (apply u f y))) ≡ eqℤ (M f x) (M f y)
+  equal-is f x y = ap isZero (dot-minus (apply u f x) (apply u f y) (pos 1 ∷ m) (apply-in u m f x) (apply-in u m f y)) ∙ zero-minus (M f x) (M f y)
+
+  less-is : (x : ℕ) → valueIn m (less (apply u len x)) ≡ M len x -ℤ pos 1
+  less-is x = dot-less m (apply u len x) (apply-in u m len x)
+
+  -- L-Intro and C-Collapse
+  abbrev byLiteral : Function → Option ℕ → ℤ → Bool
+  byLiteral f none z = true
+  byLiteral f (some l) z = eqℤ z (valueOf f (literal u l))
+
+  literal-step : (f : Function) (x : ℕ) (o : Option ℕ)
+      → byChildren ls m (then o (λ l. some (one (arithmetic eq (minus (apply u f x) (number (valueOf f (literal u l)))))))) ≡ byLiteral f o (M f x)
+  literal-step f x none = refl
+  literal-step f x (some l) = one-holds (arithmetic eq (minus (apply u f x) (number (valueOf f (literal u l))))) (number-is f x (valueOf f (literal u l)))
+
+  both-values : (o : Option ℕ) (z c : ℤ) → (byLiteral len o z && byLiteral code o c) ≡ literalFits u o z c
+  unfolding literalFits textFits
+  both-values none z c = refl
+  both-values (some l) z c = refl
+
+  -- L-Valid
+  length-step : (x : ℕ) → heldSome ls m ((isLiteral x 0 ∷ []) ∷ (arithmetic ge (less (apply u len x)) ∷ []) ∷ []) ≡ lengthFits ls x (M len x)
+  unfolding lengthFits
+  length-step x =
+      ap₂ _||_ (and-true (sameClass ls (varNode x) (litNode 0)))
+      (one-holds (arithmetic ge (less (apply u len x))) (ap nonneg (less-is x) ∙ positive-minus (M len x)))
+
+  -- C-Valid
+  code-cases : (n : ℕ) (t : Bool) (c : ℤ)
+      → ((not t && (eqℤ c (negsuc 0) && true)) || ((t && (nonneg c && (nonneg (pos (lastCharacter n) -ℤ c) && true))) || false)) ≡ codeBy t n c
+  unfolding codeBy
+  code-cases n true (pos c) = or-false (nonneg (pos (lastCharacter n) -ℤ pos c) && true) ∙ and-true (nonneg (pos (lastCharacter n) -ℤ pos c)) ∙ leb-minus (lastCharacter n) c
+  code-cases n true (negsuc c) = refl
+  code-cases n false c = or-false (eqℤ c (negsuc 0) && true) ∙ and-true (eqℤ c (negsuc 0))
+
+  last-is : (x : ℕ) → valueIn m (minus (number (pos (lastCharacter (u .n)))) (apply u code x)) ≡ pos (lastCharacter (u .n)) -ℤ M code x
+  last-is x = dot-minus (number (pos (lastCharacter (u .n)))) (apply u code x) (pos 1 ∷ m) (dot-number m (pos (lastCharacter (u .n)))) (apply-in u m code x)
+
+  code-step : (x : ℕ) → heldSome ls m
+      ((arithmetic ne (less (apply u len x)) ∷ arithmetic eq (minus (apply u code x) (number (negsuc 0))) ∷ [])
+      ∷ (arithmetic eq (less (apply u len x)) ∷ arithmetic ge (apply u code x) ∷ arithmetic ge (minus (number (pos (lastCharacter (u .n)))) (apply u code x)) ∷ [])
+      ∷ []) ≡ codeFits (u .n) (M len x) (M code x)
+  code-step x =
+      let single : isZero (valueIn m (less (apply u len x))) ≡ eqℤ (M len x) (pos 1) = ap isZero (less-is x) ∙ zero-minus (M len x) (pos 1) in
+      ap₂ _||_ (ap₂ (λ (s t : Bool). not s && (t && true)) single (number-is code x (negsuc 0)))
+      (ap₂ (λ (s t : Bool). (s && t) || false) single (ap₂ (λ (s t : Bool). s && (t && true)) (ap nonneg (apply-in u m code x)) (ap nonneg (last-is x))))
+      ∙ code-cases (u .n) (eqℤ (M len x) (pos 1)) (M code x)
+
+  -- S-Prop and C-Inj
+  abbrev byClass : Bool → Bool → Bool
+  byClass true t = t
+  byClass false t = true
+
+  same-step : (f : Function) (x y : ℕ) (g : Bool) → byChildren ls m (guard g (one (arithmetic eq (minus (apply u f x) (apply u f y))))) ≡ byClass g (eqℤ (M f x) (M f y))
+  same-step f x y true = one-holds (arithmetic eq (minus (apply u f x) (apply u f y))) (equal-is f x y)
+  same-step f x y false = refl
+
+  inj-step : (x y : ℕ) (g : Bool) → byChildren ls m (guard g
+      ((arithmetic eq (minus (apply u code x) (number (negsuc 0))) ∷ [])
+      ∷ (arithmetic ne (minus (apply u code x) (apply u code y)) ∷ [])
+      ∷ (same x y ∷ [])
+      ∷ [])) ≡ byClass g (eqℤ (M code x) (negsuc 0) || (not (eqℤ (M code x) (M code y)) || sameClass ls (varNode x) (varNode y)))
+  inj-step x y true =
+      ap₂ _||_ (and-true _ ∙ number-is code x (negsuc 0))
+      (ap₂ _||_ (and-true (not (held ls m (arithmetic eq (minus (apply u code x) (apply u code y))))) ∙ ap not (equal-is code x y))
+      (or-false (sameClass ls (varNode x) (varNode y) && true) ∙ and-true (sameClass ls (varNode x) (varNode y))))
+  inj-step x y false = refl
+
+  -- e: the variables are one; s: the classes are one
+  pair-cases : (e s : Bool) (z w c d : ℤ) → (T e → (s ≡ true) × (z ≡ w) × (c ≡ d))
+      → (byClass (not e && s) (eqℤ z w) && byClass (not e && s) (eqℤ c d) && byClass (not e) (eqℤ c (negsuc 0) || (not (eqℤ c d) || s))) ≡ pairBy s z w c d
+  unfolding pairBy
+  pair-cases true s z w c d h =
+      let (p, q, r) = h tt in
+      sym (ap (λ (s : Bool). pairBy s z w c d) p ∙ ap₂ _&&_ (→true (eqℤ z w) (→eqℤ q)) (→true (eqℤ c d) (→eqℤ r)))
+  pair-cases false true z w c d h = by-third (eqℤ z w && eqℤ c d) (eqℤ c (negsuc 0)) (not (eqℤ c d))
+    where
+      by-third : (a b e : Bool) → (a && (b || (e || true))) ≡ a
+      by-third a true e = and-true a
+      by-third a false true = and-true a
+      by-third a false false = and-true a
+  pair-cases false false z w c d h = ap (λ (t : Bool). eqℤ c (negsuc 0) || t) (or-false (not (eqℤ c d)))
+
+  pair-step : (x y : ℕ)
+      → (byChildren ls m (guard (not (eqb x y) && sameClass ls (varNode x) (varNode y)) (one (arithmetic eq (minus (apply u len x) (apply u len y)))))
+      && byChildren ls m (guard (not (eqb x y) && sameClass ls (varNode x) (varNode y)) (one (arithmetic eq (minus (apply u code x) (apply u code y)))))
+      && byChildren ls m (guard (not (eqb x y))
+      ((arithmetic eq (minus (apply u code x) (number (negsuc 0))) ∷ [])
+      ∷ (arithmetic ne (minus (apply u code x) (apply u code y)) ∷ [])
+      ∷ (same x y ∷ [])
+      ∷ []))) ≡ pairFits u ls m x y
+  unfolding pairFits
+  pair-step x y =
+      let one-class = sameClass ls (varNode x) (varNode y) in
+      let g = not (eqb x y) && one-class in
+      ap₂ _&&_ (ap₂ _&&_ (same-step len x y g) (same-step code x y g)) (inj-step x y (not (eqb x y)))
+      ∙ pair-cases (eqb x y) one-class (M len x) (M len y) (M code x) (M code y) itself
+    where
+      itself : T (eqb x y) → (sameClass ls (varNode x) (varNode y) ≡ true) × (M len x ≡ M len y) × (M code x ≡ M code y)
+      itself t =
+          let e : x ≡ y = eqb→eq x y t in
+          (→true (sameClass ls (varNode x) (varNode y)) (subst (λ (i : ℕ). T (sameClass ls (varNode x) (varNode i))) e (eqb-refl (label ls (varNode x)))), ap (M len) e, ap (M code) e)
+
+-- ---- the whole test
+
+swap : (a b c : Bool) → (a && b && c) ≡ (a && c && b)
+swap true true c = sym (and-true c)
+swap true false true = refl
+swap true false false = refl
+swap false b c = refl
+
+assoc : (a b c : Bool) → (a && b && c) ≡ (a && (b && c))
+assoc true b c = refl
+assoc false b c = refl
+
+every-ap : (k : ℕ) (s t : ℕ → Bool) → ((x : ℕ) → s x ≡ t x) → every k s ≡ every k t
+every-ap zero s t h = refl
+every-ap (suc k) s t h = ap₂ _&&_ (h k) (every-ap k s t h)
+
+module _ (u : Question) (b : Branch) (m : List ℤ) where
+  var-step : (x : ℕ)
+      → (saturatedStep u b m (LIntro x) && saturatedStep u b m (LValid x) && saturatedStep u b m (CCollapse x) && saturatedStep u b m (CValid x) && saturatedCard u (labels b) m x)
+      ≡ varFits u (labels b) m x
+  unfolding varFits
+  var-step x =
+      let a = saturatedStep u b m (LIntro x) in
+      let c = saturatedStep u b m (CCollapse x) in
+      let l = lengthFits (labels b) x (modelOf u m len x) in
+      let k = codeFits (u .n) (modelOf u m len x) (modelOf u m code x) in
+      let f = literalFits u (classLiteral u b x) (modelOf u m len x) (modelOf u m code x) in
+      let literal : (a && c) ≡ f =
+      ap₂ _&&_ (literal-step u (labels b) m len x (classLiteral u b x)) (literal-step u (labels b) m code x (classLiteral u b x))
+      ∙ both-values u (labels b) m (classLiteral u b x) (modelOf u m len x) (modelOf u m code x) in
+      ap (λ (t : Bool). t && saturatedCard u (labels b) m x)
+      (ap₂ _&&_ (ap (λ (t : Bool). a && t && c) (length-step u (labels b) m x) ∙ swap a l c ∙ ap (λ (t : Bool). t && l) literal) (code-step u (labels b) m x))
+      ∙ assoc (f && l) k (saturatedCard u (labels b) m x)
+      ∙ assoc f l (k && saturatedCard u (labels b) m x)
+
+  pub saturated-is : saturated u b m ≡ (not (conflict u b) && every (u .p) (byValues u (labels b) m))
+  saturated-is = ap (λ (t : Bool). not (conflict u b) && t) (every-ap (u .p) _ (byValues u (labels b) m) (λ x.
+      ap₂ _&&_ (var-step x) (every-ap (u .p) _ (pairFits u (labels b) m x) (λ y. pair-step u (labels b) m x y))))

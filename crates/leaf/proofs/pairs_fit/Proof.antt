@@ -1,0 +1,66 @@
+-- `leaf::pairs_fit` meets its contract.
+use Prim.Native.Nat.{_-_, _≤_, ℕ}
+use borrow.Author.Needs.{needs}
+use borrow.Author.Tests.{not-false, not-true}
+use denote.Ref.{now}
+use mathlib.Core.Bool.{true}
+use mathlib.Core.List.{[]}
+use mathlib.Core.Path.{_∙_, _≡_, ap, refl, sym}
+use native.Mathlib.Omega.{arith}
+use Rattle.calculus.specs.SaturationTest.{every}
+use Rattle.leaf.proofs.Laws.{every-more, every-no}
+use Rattle.leaf.specs.Leaf.{asked}
+use Rattle.leaf.specs.Values.{pairFits}
+use Rattle.leaf.proofs.pairs_fit.Statement.{statement}
+use Rattle.leaf.proofs.pairs_fit.Tie as tie
+
+abbrev Inv-loop : tie.InvT-loop
+Inv-loop model leaf x y₀ y = (y ≤ leaf .p) × (every y (pairFits (asked [] leaf) (leaf .labels) model x) ≡ true)
+
+abbrev μ-loop : tie.MeasureT-loop
+μ-loop model leaf x y₀ y = leaf .p - y
+
+loop-holds : tie.Need-loop-holds Inv-loop μ-loop
+loop-holds c = (omega arith, refl)
+
+pair-fits-requires : tie.Need-pair-fits-requires Inv-loop μ-loop
+pair-fits-requires c κs = search needs
+
+returns : tie.Need-returns Inv-loop μ-loop
+returns c =
+    let l = c .before .before .before .before .loop in
+    let s = c .before .before .before .before .before .args in
+    sym (every-no (pairFits (asked [] (s .leaf)) (s .leaf .labels) (now (s .model)) (s .x)) (s .leaf .p) (l .y) (omega arith) (sym (c .before .pair-fits .ensures) ∙ not-true _ (c .if2 .taken)))
+
+add-y : tie.Need-add-y Inv-loop μ-loop
+add-y c = search needs
+
+loop-less : tie.Need-loop-less Inv-loop μ-loop
+loop-less c = search needs
+
+loop-again : tie.Need-loop-again Inv-loop μ-loop
+loop-again c =
+    let l = c .before .before .before .before .loop in
+    let s = c .before .before .before .before .before .args in
+    (omega arith, every-more (pairFits (asked [] (s .leaf)) (s .leaf .labels) (now (s .model)) (s .x)) (l .y) (l .inv .1) (sym (c .before .pair-fits .ensures) ∙ not-false _ (c .if2 .left)))
+
+returns-2 : tie.Need-returns-2 Inv-loop μ-loop
+returns-2 c =
+    let l = c .before .before .loop in
+    let s = c .before .before .before .args in
+    let e : l .y ≡ s .leaf .p = omega arith in
+    sym (ap (λ (k : ℕ). every k (pairFits (asked [] (s .leaf)) (s .leaf .labels) (now (s .model)) (s .x))) (sym e) ∙ l .inv .1)
+
+pub pairs-fit-spec : {M : Type 1} → statement M
+pairs-fit-spec =
+    tie.close
+    (tie.spec
+    Inv-loop
+    μ-loop
+    loop-holds
+    pair-fits-requires
+    returns
+    add-y
+    loop-less
+    loop-again
+    returns-2)

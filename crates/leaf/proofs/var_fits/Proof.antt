@@ -1,0 +1,99 @@
+-- `leaf::var_fits` meets its contract.
+use Prim.Native.Nat.{suc, ℕ}
+use borrow.Author.Needs.{needs}
+use borrow.Author.Tests.{not-false, not-true}
+use denote.Ref.{now}
+use lib.IntN.{ℤ}
+use mathlib.Core.Path.{_∙_, _≡_, ap, ap₂, sym}
+use mir.Facts.{toZ-ofZ}
+use mir.Syntax.{w64}
+use mir.Val.{ofZ, toZ}
+use Rattle.calculus.specs.Classes.{lowest}
+use Rattle.calculus.specs.Facts.{code, len}
+use Rattle.calculus.specs.Model.{modelOf}
+use Rattle.format.specs.Places.{literalsFrom}
+use Rattle.leaf.proofs.Laws.{card-any, fromLiteral, length-texts, var-card, var-code, var-length, var-literal}
+use Rattle.leaf.specs.Leaf.{asked}
+use Rattle.leaf.specs.Values.{codeFits, lengthFits, literalFits}
+use Rattle.leaf.proofs.var_fits.Statement.{statement}
+use Rattle.leaf.proofs.var_fits.Tie as tie
+
+-- the length and the code that were read
+z-is : (c : tie.After-len-of) → toZ w64 (ofZ w64 (c .len-of .result)) ≡ modelOf (asked (now (c .before .before .before .args .ticket)) (c .before .before .before .args .leaf)) (now (c .before .before .before .args .model)) len (c .before .before .before .args .x)
+z-is c = toZ-ofZ (record { sfits = c .len-of .ok }) ∙ c .len-of .ensures
+
+c-is : (c : tie.After-code-of) → toZ w64 (ofZ w64 (c .code-of .result)) ≡ modelOf (asked (now (c .before .before .before .before .args .ticket)) (c .before .before .before .before .args .leaf)) (now (c .before .before .before .before .args .model)) code (c .before .before .before .before .args .x)
+c-is c = toZ-ofZ (record { sfits = c .code-of .ok }) ∙ c .code-of .ensures
+
+-- the tests before Card
+literal-test : (c : tie.After-literal-fits) → c .literal-fits .result
+    ≡ fromLiteral (asked (now (c .before .before .before .before .before .args .ticket)) (c .before .before .before .before .before .args .leaf)) (c .before .before .before .before .before .args .leaf .labels) (now (c .before .before .before .before .before .args .model)) (c .before .before .before .before .before .args .x)
+literal-test c =
+    let s = c .before .before .before .before .before .args in
+    let u = asked (now (s .ticket)) (s .leaf) in
+    let m = now (s .model) in
+    c .literal-fits .ensures
+    ∙ ap₂ (λ (z w : ℤ). literalFits u (lowest (s .leaf .labels) (s .x) 0 (suc (s .leaf .literals))) z w) (z-is (c .before .before)) (c-is (c .before))
+    ∙ ap (λ (k : ℕ). literalFits u (lowest (s .leaf .labels) (s .x) 0 (suc k)) (modelOf u m len (s .x)) (modelOf u m code (s .x))) (sym (length-texts (now (s .ticket)) (s .leaf .literals) literalsFrom))
+
+length-test : (c : tie.After-length-fits) → c .length-fits .result
+    ≡ lengthFits (c .before .before .before .before .before .before .before .args .leaf .labels) (c .before .before .before .before .before .before .before .args .x) (modelOf (asked (now (c .before .before .before .before .before .before .before .args .ticket)) (c .before .before .before .before .before .before .before .args .leaf)) (now (c .before .before .before .before .before .before .before .args .model)) len (c .before .before .before .before .before .before .before .args .x))
+length-test c = c .length-fits .ensures ∙ ap (lengthFits (c .before .before .before .before .before .before .before .args .leaf .labels) (c .before .before .before .before .before .before .before .args .x)) (z-is (c .before .before .before .before))
+
+code-test : (c : tie.After-code-fits) → c .code-fits .result
+    ≡ codeFits (c .before .before .before .before .before .before .before .before .before .args .leaf .n) (modelOf (asked (now (c .before .before .before .before .before .before .before .before .before .args .ticket)) (c .before .before .before .before .before .before .before .before .before .args .leaf)) (now (c .before .before .before .before .before .before .before .before .before .args .model)) len (c .before .before .before .before .before .before .before .before .before .args .x)) (modelOf (asked (now (c .before .before .before .before .before .before .before .before .before .args .ticket)) (c .before .before .before .before .before .before .before .before .before .args .leaf)) (now (c .before .before .before .before .before .before .before .before .before .args .model)) code (c .before .before .before .before .before .before .before .before .before .args .x))
+code-test c = c .code-fits .ensures ∙ ap₂ (λ (z w : ℤ). codeFits (c .before .before .before .before .before .before .before .before .before .args .leaf .n) z w) (z-is (c .before .before .before .before .before .before)) (c-is (c .before .before .before .before .before))
+
+len-of-requires : tie.Need-len-of-requires
+len-of-requires c κs = search needs
+
+code-of-requires : tie.Need-code-of-requires
+code-of-requires c κs = search needs
+
+literal-fits-requires : tie.Need-literal-fits-requires
+literal-fits-requires c κs = search needs
+
+returns : tie.Need-returns
+returns c =
+    let s = c .before .before .before .before .before .before .args in
+    sym (var-literal (asked (now (s .ticket)) (s .leaf)) (s .leaf .labels) (now (s .model)) (s .x) (sym (literal-test (c .before)) ∙ not-true _ (c .if1 .taken)))
+
+length-fits-requires : tie.Need-length-fits-requires
+length-fits-requires c κs = search needs
+
+returns-2 : tie.Need-returns-2
+returns-2 c =
+    let s = c .before .before .before .before .before .before .before .before .args in
+    sym (var-length (asked (now (s .ticket)) (s .leaf)) (s .leaf .labels) (now (s .model)) (s .x) (sym (literal-test (c .before .before .before)) ∙ not-false _ (c .before .before .if1 .left)) (sym (length-test (c .before)) ∙ not-true _ (c .if2 .taken)))
+
+code-fits-requires : tie.Need-code-fits-requires
+code-fits-requires c κs = search needs
+
+returns-3 : tie.Need-returns-3
+returns-3 c =
+    let s = c .before .before .before .before .before .before .before .before .before .before .args in
+    sym (var-code (asked (now (s .ticket)) (s .leaf)) (s .leaf .labels) (now (s .model)) (s .x) (sym (literal-test (c .before .before .before .before .before)) ∙ not-false _ (c .before .before .before .before .if1 .left)) (sym (length-test (c .before .before .before)) ∙ not-false _ (c .before .before .if2 .left)) (sym (code-test (c .before)) ∙ not-true _ (c .if3 .taken)))
+
+card-fits-requires : tie.Need-card-fits-requires
+card-fits-requires c κs = search needs
+
+returns-4 : tie.Need-returns-4
+returns-4 c =
+    let s = c .before .before .before .before .before .before .before .before .before .before .before .args in
+    c .card-fits .ensures ∙ card-any (now (s .ticket)) (s .leaf) (s .leaf .labels) (now (s .model)) (s .x)
+    ∙ sym (var-card (asked (now (s .ticket)) (s .leaf)) (s .leaf .labels) (now (s .model)) (s .x) (sym (literal-test (c .before .before .before .before .before .before)) ∙ not-false _ (c .before .before .before .before .before .if1 .left)) (sym (length-test (c .before .before .before .before)) ∙ not-false _ (c .before .before .before .if2 .left)) (sym (code-test (c .before .before)) ∙ not-false _ (c .before .if3 .left)))
+
+pub var-fits-spec : {M : Type 1} → statement M
+var-fits-spec =
+    tie.close
+    (tie.spec
+    len-of-requires
+    code-of-requires
+    literal-fits-requires
+    returns
+    length-fits-requires
+    returns-2
+    code-fits-requires
+    returns-3
+    card-fits-requires
+    returns-4)

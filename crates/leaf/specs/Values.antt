@@ -1,0 +1,60 @@
+-- Saturation by values: the tests of rules 6 to 11 on lengths and codes, which the code runs. Card's is the calculus' own.
+use Prim.Native.Nat.{ℕ, suc}
+use mathlib.Core.Bool.{Bool, true, false, not, _&&_, _||_}
+use mathlib.Core.Option.{Option, none, some}
+use mathlib.Core.List.{List}
+use lib.ListN.{length}
+use lib.Dec.{leb}
+use lib.IntN.{ℤ, pos, negsuc}
+use lib.Signed.{ltZ}
+use Rattle.calculus.specs.Alphabet.{lastCharacter}
+use Rattle.calculus.specs.Rows.{eqℤ}
+use Rattle.calculus.specs.Facts.{Question, literal, codeOf, len, code}
+use Rattle.calculus.specs.Chains.{varNode, litNode}
+use Rattle.calculus.specs.Classes.{sameClass, lowest}
+use Rattle.calculus.specs.Model.{modelOf}
+use Rattle.calculus.specs.SaturationTest.{every, saturatedCard}
+
+-- z and c are a text's length and code
+unfoldable pub textFits : List ℕ → ℤ → ℤ → Bool
+textFits t z c = eqℤ z (pos (length t)) && eqℤ c (codeOf t)
+
+-- L-Intro and C-Collapse, by the literal of the class
+unfoldable pub literalFits : Question → Option ℕ → ℤ → ℤ → Bool
+literalFits u none z c = true
+literalFits u (some l) z c = textFits (literal u l) z c
+
+-- L-Valid
+unfoldable pub lengthFits : List ℕ → ℕ → ℤ → Bool
+lengthFits ls x z = sameClass ls (varNode x) (litNode 0) || ltZ (pos 0) z
+
+-- C-Valid: the code of a string of length 1, and of any other
+unfoldable pub codeBy : Bool → ℕ → ℤ → Bool
+codeBy true n (pos c) = leb c (lastCharacter n)
+codeBy true n (negsuc c) = false
+codeBy false n c = eqℤ c (negsuc 0)
+
+abbrev pub codeFits : ℕ → ℤ → ℤ → Bool
+codeFits n z c = codeBy (eqℤ z (pos 1)) n c
+
+-- the rules with one variable
+unfoldable pub varFits : Question → List ℕ → List ℤ → ℕ → Bool
+varFits u ls m x =
+    literalFits u (lowest ls x 0 (suc (length (u .literals)))) (modelOf u m len x) (modelOf u m code x)
+    && (lengthFits ls x (modelOf u m len x)
+    && (codeFits (u .n) (modelOf u m len x) (modelOf u m code x)
+    && saturatedCard u ls m x))
+
+-- S-Prop for lengths z, w and codes c, d of one class, C-Inj for those of two
+unfoldable pub pairBy : Bool → ℤ → ℤ → ℤ → ℤ → Bool
+pairBy true z w c d = eqℤ z w && eqℤ c d
+pairBy false z w c d = eqℤ c (negsuc 0) || not (eqℤ c d)
+
+-- the rules with two variables
+unfoldable pub pairFits : Question → List ℕ → List ℤ → ℕ → ℕ → Bool
+pairFits u ls m x y =
+    pairBy (sameClass ls (varNode x) (varNode y)) (modelOf u m len x) (modelOf u m len y) (modelOf u m code x) (modelOf u m code y)
+
+-- the rules for a variable, itself and with every variable
+abbrev pub byValues : Question → List ℕ → List ℤ → ℕ → Bool
+byValues u ls m x = varFits u ls m x && every (u .p) (pairFits u ls m x)

@@ -1,0 +1,110 @@
+-- The branch as a function of the work area and the count.
+use Prim.Native.Nat.{ℕ, zero, suc, _+_, _*_, _≤_, _<_}
+use native.Mathlib.Numerals.{add-one}
+use native.Mathlib.Omega.{arith}
+use native.Mathlib.Decide.{decLt}
+use mathlib.Core.Path.{_≡_, refl, sym, _∙_, ap, ap₂}
+use mathlib.Core.Option.{Option, none, some}
+use mathlib.Core.List.{List, [], _∷_, _++_}
+use lib.ListN.{length, getD, take, drop, getElem?, length-append, length-take, length-drop}
+use lib.Seq.{take-append-le, take-all, take-at, drop-at, take-take, length-take-le, getD-take, getD-drop}
+use lib.IntN.{ℤ, pos}
+use Rattle.calculus.specs.Facts.{Fact}
+use Rattle.lists.proofs.Filled.{drop-take}
+use Rattle.rows.specs.Rows.{rowLength, factOf, rowAt, branchOf}
+
+-- ---- one row
+
+pub length-row : (w : List ℤ) (k : ℕ) → rowLength * k + rowLength ≤ length w → length (rowAt w k) ≡ rowLength
+length-row w k h = simp (length-take, length-drop) (omega arith)
+
+-- a number of a row, in the work area
+pub row-number : (w : List ℤ) (k j : ℕ) (d : ℤ) → j < rowLength → getD (rowAt w k) j d ≡ getD w (rowLength * k + j) d
+row-number w k j d h = getD-take rowLength (drop (rowLength * k) w) j d h ∙ getD-drop (rowLength * k) w j d
+
+-- ---- the first k rows, as facts
+
+pub length-branch : (w : List ℤ) (k : ℕ) → length (branchOf w k) ≡ k
+unfolding branchOf
+length-branch w zero = refl
+length-branch w (suc k) = length-append (branchOf w k) (factOf (rowAt w k) ∷ []) ∙ rw (length-branch w k) (add-one k)
+
+pub branch-more : (w : List ℤ) (k : ℕ) → branchOf w (k + 1) ≡ branchOf w k ++ (factOf (rowAt w k) ∷ [])
+unfolding branchOf
+branch-more w k = rw add-one
+
+-- the facts are those of the numbers before row k
+pub branch-same : (w v : List ℤ) (k : ℕ) → take (rowLength * k) w ≡ take (rowLength * k) v → branchOf w k ≡ branchOf v k
+unfolding branchOf
+branch-same w v zero e = refl
+branch-same w v (suc k) e =
+    let n : rowLength * suc k ≡ rowLength * k + rowLength = omega arith in
+    let f : take (rowLength * k + rowLength) w ≡ take (rowLength * k + rowLength) v = rw n at e in
+    let before : take (rowLength * k) w ≡ take (rowLength * k) v =
+    sym (take-take (rowLength * k) (rowLength * k + rowLength) w (omega arith)) ∙ ap (λ (l : List ℤ). take (rowLength * k) l) f ∙ take-take (rowLength * k) (rowLength * k + rowLength) v (omega arith) in
+    let row : rowAt w k ≡ rowAt v k =
+    sym (drop-take (rowLength * k) rowLength w) ∙ ap (λ (l : List ℤ). drop (rowLength * k) l) f ∙ drop-take (rowLength * k) rowLength v in
+    ap₂ (λ (b : List Fact) (r : List ℤ). b ++ (factOf r ∷ [])) (branch-same w v k before) row
+
+-- fact number j
+element-append : {A : Type 0} (xs ys : List A) (j : ℕ) → j < length xs → getElem? (xs ++ ys) j ≡ getElem? xs j
+element-append [] ys j h = absurd (omega arith)
+element-append (x ∷ xs) ys zero h = refl
+element-append (x ∷ xs) ys (suc j) h = element-append xs ys j (omega arith)
+
+element-last : {A : Type 0} (xs : List A) (y : A) → getElem? (xs ++ (y ∷ [])) (length xs) ≡ some y
+element-last [] y = refl
+element-last (x ∷ xs) y = element-last xs y
+
+element-none : {A : Type 0} (xs : List A) (j : ℕ) → length xs ≤ j → getElem? xs j ≡ none
+element-none [] j h = refl
+element-none (x ∷ xs) zero h = absurd (omega arith)
+element-none (x ∷ xs) (suc j) h = element-none xs j (omega arith)
+
+pub branch-at : (w : List ℤ) (k j : ℕ) → j < k → getElem? (branchOf w k) j ≡ some (factOf (rowAt w j))
+unfolding branchOf
+branch-at w zero j h = absurd (omega arith)
+branch-at w (suc k) j h = go (λ l. branch-at w k j l) (decLt j k)
+  where
+    go : (j < k → getElem? (branchOf w k) j ≡ some (factOf (rowAt w j))) → Dec (j < k) → getElem? (branchOf w (suc k)) j ≡ some (factOf (rowAt w j))
+    go ih (yes l) = element-append (branchOf w k) (factOf (rowAt w k) ∷ []) j (rw (length-branch w k) l) ∙ ih l
+    go ih (no n) =
+        let e : k ≡ j = omega arith in
+        ap (λ (i : ℕ). getElem? (branchOf w k ++ (factOf (rowAt w k) ∷ [])) i) (sym (length-branch w k ∙ e))
+        ∙ element-last (branchOf w k) (factOf (rowAt w k))
+        ∙ ap (λ (i : ℕ). some (factOf (rowAt w i))) e
+
+pub branch-beyond : (w : List ℤ) (k j : ℕ) → k ≤ j → getElem? (branchOf w k) j ≡ none
+branch-beyond w k j h = element-none (branchOf w k) j (rw (length-branch w k) h)
+
+pub branch-take : (w : List ℤ) (k m : ℕ) → m ≤ k → take m (branchOf w k) ≡ branchOf w m
+unfolding branchOf
+branch-take w zero m h = let e : m ≡ 0 = omega arith in rw e
+branch-take w (suc k) m h = go (λ l. branch-take w k m l) (decLt m (suc k))
+  where
+    go : (m ≤ k → take m (branchOf w k) ≡ branchOf w m) → Dec (m < suc k) → take m (branchOf w (suc k)) ≡ branchOf w m
+    go ih (yes l) = take-append-le m (branchOf w k) (factOf (rowAt w k) ∷ []) (rw (length-branch w k) (omega arith)) ∙ ih (omega arith)
+    go ih (no n) =
+        let e : m ≡ suc k = omega arith in
+        take-all m (branchOf w (suc k)) (rw (length-branch w (suc k)) (omega arith)) ∙ ap (λ (i : ℕ). branchOf w i) (sym e)
+
+-- ---- a row is put in its own stretch
+
+pub branch-put : (w row : List ℤ) (k : ℕ) → rowLength * k + rowLength ≤ length w → length row ≡ rowLength
+    → branchOf (take (rowLength * k) w ++ (row ++ drop (rowLength * k + rowLength) w)) (k + 1) ≡ branchOf w k ++ (factOf row ∷ [])
+branch-put w row k h n =
+    let front : length (take (rowLength * k) w) ≡ rowLength * k = length-take-le (rowLength * k) w (omega arith) in
+    let rest = row ++ drop (rowLength * k + rowLength) w in
+    let new = take (rowLength * k) w ++ rest in
+    let same : branchOf new k ≡ branchOf w k = branch-same new w k (take-at (take (rowLength * k) w) rest (rowLength * k) front) in
+    let its : rowAt new k ≡ row =
+    ap (λ (l : List ℤ). take rowLength l) (drop-at (take (rowLength * k) w) rest (rowLength * k) front) ∙ take-at row (drop (rowLength * k + rowLength) w) rowLength n in
+    branch-more new k ∙ ap₂ (λ (b : List Fact) (r : List ℤ). b ++ (factOf r ∷ [])) same its
+
+-- the facts before it stay
+pub branch-kept : (w v : List ℤ) (k j : ℕ) (f : Fact) → branchOf v (k + 1) ≡ branchOf w k ++ (f ∷ []) → j ≤ k → branchOf v j ≡ branchOf w j
+branch-kept w v k j f e h =
+    sym (branch-take v (k + 1) j (omega arith))
+    ∙ ap (λ (b : List Fact). take j b) e
+    ∙ take-append-le j (branchOf w k) (f ∷ []) (rw (length-branch w k) h)
+    ∙ branch-take w k j h

@@ -1,0 +1,6 @@
+pub mod Branches
+pub mod Tags
+pub mod Forms
+pub mod Small
+pub mod Tested
+pub mod Values

@@ -1,0 +1,110 @@
+-- Numbers within the limit: what the tests say of them, and what the machine asks.
+use Prim.Native.Nat.{ℕ, zero, suc, _+_, _*_, _≤_, _<_}
+use native.Mathlib.Omega.{arith}
+use mathlib.Core.Path.{_≡_, refl, sym, _∙_, ap, ap₂, subst}
+use mathlib.Core.Bool.{Bool, true, false, _&&_}
+use mathlib.Core.Option.{some}
+use mathlib.Core.List.{List, [], _∷_, _++_}
+use borrow.Author.Tests.{leb-true}
+use lib.ListN.{length, getD, drop, getElem?}
+use lib.Dec.{T}
+use lib.IntN.{ℤ, pos, negsuc, negℤ, natAbs, _+ℤ_, _-ℤ_, _*ℤ_, +ℤ-idl, +ℤ-comm}
+use mir.Syntax.{w64}
+use mir.Val.{SFits, toZ, ofZ}
+use mir.Facts.{toZ-ofZ}
+use Rattle.integers.proofs.Laws.{minus-one-*ℤ, abs-neg, abs-+-le, sfits-abs}
+use Rattle.lists.proofs.Options.{none-some, some-injective}
+use Rattle.lists.proofs.Every.{every-snoc, every-take}
+use Rattle.calculus.specs.Limits.{numberLimit, valueLimit, factLimit, workNumbers}
+use Rattle.calculus.specs.Facts.{Fact, arithmetic}
+use Rattle.format.specs.Fields.{within}
+use Rattle.format.specs.Checking.{rowWithin, factWithin, factsWithin}
+use Rattle.format.proofs.Faults.{and-true}
+use Rattle.rows.specs.Rows.{factOf, rowAt, branchOf}
+use Rattle.rows.specs.Work.{Within, Fine}
+use Rattle.rows.proofs.Branches.{branch-at, branch-take}
+
+-- every number of a form within the limit
+pub row-small : (zs : List ℤ) → rowWithin zs ≡ true → Within numberLimit zs
+unfolding rowWithin
+row-small [] e j = omega arith
+row-small (z ∷ zs) e zero = leb-true (natAbs z) numberLimit (and-true (within numberLimit z) (rowWithin zs) e .0)
+row-small (z ∷ zs) e (suc j) = row-small zs (and-true (within numberLimit z) (rowWithin zs) e .1) j
+
+-- a fact of a branch within the limit
+facts-at : (b : List Fact) (k : ℕ) (f : Fact) → factsWithin b ≡ true → getElem? b k ≡ some f → factWithin f ≡ true
+unfolding factsWithin
+facts-at [] k f e h = absurd (none-some h)
+facts-at (g ∷ b) zero f e h = subst (λ x. factWithin x ≡ true) (some-injective h) (and-true (factWithin g) (factsWithin b) e .0)
+facts-at (g ∷ b) (suc k) f e h = facts-at b k f (and-true (factWithin g) (factsWithin b) e .1) h
+
+pub fine-at : (w : List ℤ) (count k : ℕ) → Fine w count → k < count → factWithin (factOf (rowAt w k)) ≡ true
+fine-at w count k fine h = facts-at (branchOf w count) k (factOf (rowAt w k)) (fine .small) (branch-at w count k h)
+
+-- ---- the invariant of the work area
+
+pub fine-start : (w : List ℤ) → workNumbers ≤ length w → Fine w 0
+unfolding branchOf factsWithin
+fine-start w h = record { few = omega arith; room = h; small = refl }
+
+-- cut back to the first m facts
+pub fine-cut : (w : List ℤ) (count m : ℕ) → Fine w count → m ≤ count → Fine w m
+unfolding factsWithin
+fine-cut w count m fine h =
+    let few = fine .few in
+    record {
+      few = omega arith;
+      room = fine .room;
+      small = ap factsWithin (sym (branch-take w count m h)) ∙ every-take factWithin factsWithin refl (λ f b. refl) (branchOf w count) m (fine .small);
+    }
+
+-- a fact within the limit is put behind k others
+pub fine-put : (w v : List ℤ) (k : ℕ) (f : Fact) → Fine w k → k < factLimit → length v ≡ length w → branchOf v (k + 1) ≡ branchOf w k ++ (f ∷ []) → factWithin f ≡ true → Fine v (k + 1)
+unfolding factsWithin
+fine-put w v k f fine h l e t =
+    let room = fine .room in
+    record {
+      few = omega arith;
+      room = omega arith;
+      small = ap factsWithin e ∙ every-snoc factWithin factsWithin refl (λ f b. refl) (branchOf w k) f ∙ ap₂ _&&_ (fine .small) t;
+    }
+
+-- ---- sizes
+
+-- what is far from the machine's limit fits
+pub small-fits : (z : ℤ) → natAbs z ≤ 8000000000000000000 → SFits w64 z
+small-fits z h = sfits-abs z (omega arith)
+
+-- ---- one number less, and the negative
+
+module _ (z : ℤ) (n : ℕ) (h : natAbs z ≤ n) (room : n ≤ 4000000000000000000) where
+  fits : SFits w64 z
+  fits = small-fits z (omega arith)
+
+  abs-less : natAbs (z -ℤ pos 1) ≤ n + 1
+  abs-less = abs-+-le z (negsuc 0) {m = n} {n = 1} h (omega arith)
+
+  pub less-fits : SFits w64 (toZ w64 (ofZ w64 z) -ℤ pos 1)
+  less-fits = rw (toZ-ofZ fits) (small-fits (z -ℤ pos 1) (omega (arith, abs-less)))
+
+  pub less-is : toZ w64 (ofZ w64 (toZ w64 (ofZ w64 z) -ℤ pos 1)) ≡ z +ℤ negsuc 0
+  less-is = toZ-ofZ less-fits ∙ ap (λ x. x -ℤ pos 1) (toZ-ofZ fits)
+
+  pub neg-fits : SFits w64 (pos 0 -ℤ toZ w64 (ofZ w64 z))
+  neg-fits = rw (toZ-ofZ fits, +ℤ-idl (negℤ z)) (small-fits (negℤ z) (rw (abs-neg z) (omega arith)))
+
+  pub neg-is : toZ w64 (ofZ w64 (pos 0 -ℤ toZ w64 (ofZ w64 z))) ≡ negsuc 0 *ℤ z
+  neg-is = toZ-ofZ neg-fits ∙ ap (λ x. pos 0 -ℤ x) (toZ-ofZ fits) ∙ +ℤ-idl (negℤ z) ∙ sym (minus-one-*ℤ z)
+
+  -- −1 − z
+  pub under-fits : SFits w64 (negsuc 0 -ℤ toZ w64 (ofZ w64 z))
+  under-fits = rw (toZ-ofZ fits) (small-fits (negsuc 0 -ℤ z) (omega (arith, abs-+-le (negsuc 0) (negℤ z) {m = 1} {n = n} (omega arith) (rw (abs-neg z) h))))
+
+  pub under-is : toZ w64 (ofZ w64 (negsuc 0 -ℤ toZ w64 (ofZ w64 z))) ≡ (negsuc 0 *ℤ z) +ℤ negsuc 0
+  under-is = toZ-ofZ under-fits ∙ ap (λ x. negsuc 0 -ℤ x) (toZ-ofZ fits) ∙ +ℤ-comm (negsuc 0) (negℤ z) ∙ ap (λ x. x +ℤ negsuc 0) (sym (minus-one-*ℤ z))
+
+-- number j of a row behind its tag
+pub behind-tag : (row : List ℤ) (j : ℕ) → rowWithin (drop 1 row) ≡ true → 1 ≤ j → natAbs (getD row j (pos 0)) ≤ numberLimit
+behind-tag [] j e h = omega arith
+behind-tag (x ∷ row) zero e h = absurd (omega arith)
+behind-tag (x ∷ row) (suc j) e h = row-small row e j

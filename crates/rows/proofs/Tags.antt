@@ -1,0 +1,103 @@
+-- What a row's tag says of its fact.
+use Prim.Native.Nat.{ℕ, zero, suc, _+_, _≤_, _<_}
+use native.Mathlib.Omega.{arith}
+use mathlib.Core.Path.{_≡_, refl, sym, _∙_, ap, ap₂, subst}
+use mathlib.Core.Bool.{cond}
+use mathlib.Core.List.{List, [], _∷_}
+use borrow.Author.Tests.{lt-ltb}
+use lib.ListN.{length, getD, drop}
+use lib.IntN.{ℤ, pos, negsuc}
+use mir.Syntax.{w64}
+use mir.Val.{SFits, toZ, ofZ}
+use mir.Facts.{toZ-ofZ, toZ-pos}
+use Rattle.calculus.specs.Facts.{Fact, same, apart, isLiteral, arithmetic, Relation, ge, eq, ne}
+use Rattle.format.specs.Question.{stringFact, relationOf}
+use Rattle.rows.specs.Rows.{index, tagged, factOf}
+use Rattle.rows.specs.Work.{kindOf}
+
+-- a signed number by its bits
+pub from-bits : (z : ℤ) (n : ℕ) → SFits w64 z → ofZ w64 z ≡ n → n < 9223372036854775808 → z ≡ pos n
+from-bits z n f e h = sym (toZ-ofZ f) ∙ ap (toZ w64) e ∙ toZ-pos w64 h
+
+-- ---- rows with a known tag
+
+pub relation-fact : (r : ℕ) (e : List ℤ) → r ≤ 2 → factOf (pos r ∷ e) ≡ arithmetic (relationOf r) e
+unfolding factOf tagged
+relation-fact zero e h = refl
+relation-fact (suc zero) e h = refl
+relation-fact (suc (suc zero)) e h = refl
+relation-fact (suc (suc (suc r))) e h = absurd (omega arith)
+
+index-of : (a : ℕ) → a < 16 → index (pos a) ≡ a
+index-of a h = ap (λ t. cond t a 0) (lt-ltb a 16 h)
+
+pub string-fact : (r a b : ℕ) (l : List ℤ) → r ≤ 2 → a < 16 → b < 16 → factOf (pos (r + 3) ∷ pos a ∷ pos b ∷ l) ≡ stringFact r a b
+unfolding factOf tagged
+string-fact zero a b l h g k = ap₂ same (index-of a g) (index-of b k)
+string-fact (suc zero) a b l h g k = ap₂ apart (index-of a g) (index-of b k)
+string-fact (suc (suc zero)) a b l h g k = ap₂ isLiteral (index-of a g) (index-of b k)
+string-fact (suc (suc (suc r))) a b l h g k = absurd (omega arith)
+
+-- ---- the kind from the tag
+
+module _ (row : List ℤ) where
+  tag-kind : (z : ℤ) → getD row 0 (pos 0) ≡ z → kindOf (factOf row) ≡ kindOf (tagged z (index (getD row 1 (pos 0))) (index (getD row 2 (pos 0))) (drop 1 row))
+  unfolding factOf
+  tag-kind z e = ap (λ t. kindOf (tagged t (index (getD row 1 (pos 0))) (index (getD row 2 (pos 0))) (drop 1 row))) e
+
+  pub kind-ge : getD row 0 (pos 0) ≡ pos 0 → kindOf (factOf row) ≡ 0
+  unfolding tagged kindOf
+  kind-ge e = tag-kind (pos 0) e
+
+  pub kind-eq : getD row 0 (pos 0) ≡ pos 1 → kindOf (factOf row) ≡ 1
+  unfolding tagged kindOf
+  kind-eq e = tag-kind (pos 1) e
+
+  pub kind-same : getD row 0 (pos 0) ≡ pos 3 → kindOf (factOf row) ≡ 3
+  unfolding tagged kindOf
+  kind-same e = tag-kind (pos 3) e
+
+  pub kind-apart : getD row 0 (pos 0) ≡ pos 4 → kindOf (factOf row) ≡ 4
+  unfolding tagged kindOf
+  kind-apart e = tag-kind (pos 4) e
+
+  pub kind-literal : getD row 0 (pos 0) ≡ pos 5 → kindOf (factOf row) ≡ 5
+  unfolding tagged kindOf
+  kind-literal e = tag-kind (pos 5) e
+
+  other : (z : ℤ) (a b : ℕ) (e : List ℤ) → (ofZ w64 z ≡ 0 → ⊥) → (ofZ w64 z ≡ 1 → ⊥) → (ofZ w64 z ≡ 3 → ⊥) → (ofZ w64 z ≡ 4 → ⊥) → (ofZ w64 z ≡ 5 → ⊥)
+      → kindOf (tagged z a b e) ≡ 2
+  unfolding tagged kindOf
+  other (pos zero) a b e h0 h1 h3 h4 h5 = absurd (h0 refl)
+  other (pos (suc zero)) a b e h0 h1 h3 h4 h5 = absurd (h1 refl)
+  other (pos (suc (suc zero))) a b e h0 h1 h3 h4 h5 = refl
+  other (pos (suc (suc (suc zero)))) a b e h0 h1 h3 h4 h5 = absurd (h3 refl)
+  other (pos (suc (suc (suc (suc zero))))) a b e h0 h1 h3 h4 h5 = absurd (h4 refl)
+  other (pos (suc (suc (suc (suc (suc zero)))))) a b e h0 h1 h3 h4 h5 = absurd (h5 refl)
+  other (pos (suc (suc (suc (suc (suc (suc k))))))) a b e h0 h1 h3 h4 h5 = refl
+  other (negsuc k) a b e h0 h1 h3 h4 h5 = refl
+
+  -- any other tag is ≠
+  pub kind-ne : (z : ℤ) → getD row 0 (pos 0) ≡ z → (ofZ w64 z ≡ 0 → ⊥) → (ofZ w64 z ≡ 1 → ⊥) → (ofZ w64 z ≡ 3 → ⊥) → (ofZ w64 z ≡ 4 → ⊥) → (ofZ w64 z ≡ 5 → ⊥)
+      → kindOf (factOf row) ≡ 2
+  kind-ne z e h0 h1 h3 h4 h5 = tag-kind z e ∙ other z (index (getD row 1 (pos 0))) (index (getD row 2 (pos 0))) (drop 1 row) h0 h1 h3 h4 h5
+
+-- ---- the fact from the kind
+
+kind-relation : (z : ℤ) (a b : ℕ) (e : List ℤ) → kindOf (tagged z a b e) ≤ 2 → tagged z a b e ≡ arithmetic (relationOf (kindOf (tagged z a b e))) e
+unfolding tagged kindOf
+kind-relation (pos zero) a b e h = refl
+kind-relation (pos (suc zero)) a b e h = refl
+kind-relation (pos (suc (suc zero))) a b e h = refl
+kind-relation (pos (suc (suc (suc zero)))) a b e h = absurd (omega arith)
+kind-relation (pos (suc (suc (suc (suc zero))))) a b e h = absurd (omega arith)
+kind-relation (pos (suc (suc (suc (suc (suc zero)))))) a b e h = absurd (omega arith)
+kind-relation (pos (suc (suc (suc (suc (suc (suc n))))))) a b e h = refl
+kind-relation (negsuc n) a b e h = refl
+
+-- a row of kind 0, 1 or 2 is ≥, = or ≠ of the form behind its tag
+pub row-relation : (row : List ℤ) (k : ℕ) → k ≡ kindOf (factOf row) → k ≤ 2 → factOf row ≡ arithmetic (relationOf k) (drop 1 row)
+unfolding factOf
+row-relation row k e h =
+    kind-relation (getD row 0 (pos 0)) (index (getD row 1 (pos 0))) (index (getD row 2 (pos 0))) (drop 1 row) (subst (λ n. n ≤ 2) e h)
+    ∙ ap (λ n. arithmetic (relationOf n) (drop 1 row)) (sym e)

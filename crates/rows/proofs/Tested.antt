@@ -1,0 +1,203 @@
+-- Tests on facts and rows: what each kind of fact passes, and the loops over a row's numbers.
+use Prim.Native.Nat.{ℕ, zero, suc, _+_, _≤_, _<_}
+use native.Mathlib.Numerals.{add-one}
+use native.Mathlib.Omega.{arith}
+use native.Mathlib.Decide.{ℕ-discrete}
+use mathlib.Core.Path.{_≡_, refl, sym, _∙_, ap, ap₂, subst}
+use mathlib.Core.Bool.{Bool, true, false, not, _&&_}
+use mathlib.Core.Option.{Option, none, some}
+use mathlib.Core.List.{List, [], _∷_}
+use borrow.Author.Tests.{le-leb, eq-eqb, ne-eqb}
+use lib.ListN.{length, getD, drop, drop-of-length-le}
+use lib.Seq.{drop-cons}
+use lib.Dec.{T, eqb}
+use lib.IntN.{ℤ, pos, negsuc, _*ℤ_}
+use lib.Signed.{leZ}
+use mir.Syntax.{w64}
+use mir.Val.{SFits, toZ, ofZ}
+use mir.Facts.{toZ-ofZ}
+use Rattle.lists.proofs.Options.{some-none}
+use Rattle.lists.proofs.Tests.{true→}
+use Rattle.calculus.specs.Rows.{scale, nonneg, isZero, eqℤ, eqRow, allZero}
+use Rattle.calculus.specs.Facts.{Fact, same, apart, isLiteral, arithmetic, Relation, ge, eq, ne, holds}
+use Rattle.calculus.specs.Rules.{guard, falsum, joined, statesZero}
+use Rattle.calculus.specs.Children.{one}
+use Rattle.calculus.proofs.Tests.{→guard}
+use Rattle.format.specs.Checking.{fits, factWithin, keepsFact}
+use Rattle.rows.specs.Rows.{index, tagged, factOf}
+use Rattle.rows.specs.Work.{kindOf}
+use Rattle.rows.proofs.Tags.{row-relation}
+
+-- ---- numbers by their bits
+
+pub same-bits : (x y : ℤ) → SFits w64 x → SFits w64 y → ofZ w64 x ≡ ofZ w64 y → x ≡ y
+same-bits x y f g e = sym (toZ-ofZ f) ∙ ap (toZ w64) e ∙ toZ-ofZ g
+
+pub nonneg-test : (z : ℤ) → leZ (pos 0) z ≡ nonneg z
+nonneg-test (pos n) = le-leb 0 n (omega arith)
+nonneg-test (negsuc n) = refl
+
+pub zero-test : (z : ℤ) → SFits w64 z → eqb (ofZ w64 z) 0 ≡ isZero z
+zero-test (pos zero) f = refl
+zero-test (pos (suc n)) f = ne-eqb (suc n) 0 (omega arith)
+zero-test (negsuc n) f = ne-eqb (ofZ w64 (negsuc n)) 0 (omega (arith, f .sfits))
+
+pub zero-yes : (z : ℤ) → SFits w64 z → ofZ w64 z ≡ 0 → isZero z ≡ true
+zero-yes z f e = sym (zero-test z f) ∙ eq-eqb (ofZ w64 z) 0 e
+
+pub zero-no : (z : ℤ) → SFits w64 z → (ofZ w64 z ≡ 0 → ⊥) → isZero z ≡ false
+zero-no z f h = sym (zero-test z f) ∙ ne-eqb (ofZ w64 z) 0 h
+
+pub eqℤ-yes : (x y : ℤ) → x ≡ y → eqℤ x y ≡ true
+eqℤ-yes x y e = subst (λ z. eqℤ x z ≡ true) e (itself x)
+  where
+    itself : (z : ℤ) → eqℤ z z ≡ true
+    itself (pos n) = eq-eqb n n refl
+    itself (negsuc n) = eq-eqb n n refl
+
+pub eqℤ-no : (x y : ℤ) → (x ≡ y → ⊥) → eqℤ x y ≡ false
+eqℤ-no (pos m) (pos n) h = ne-eqb m n (λ e. h (ap pos e))
+eqℤ-no (pos m) (negsuc n) h = refl
+eqℤ-no (negsuc m) (pos n) h = refl
+eqℤ-no (negsuc m) (negsuc n) h = ne-eqb m n (λ e. h (ap negsuc e))
+
+-- ---- string facts pass or fail every test of arithmetic
+
+pub string-within : (f : Fact) → 2 < kindOf f → factWithin f ≡ true
+unfolding kindOf
+string-within (same x y) h = refl
+string-within (apart x y) h = refl
+string-within (isLiteral x l) h = refl
+string-within (arithmetic ge e) h = absurd (omega arith)
+string-within (arithmetic eq e) h = absurd (omega arith)
+string-within (arithmetic ne e) h = absurd (omega arith)
+
+pub string-falsum : (f : Fact) → 2 < kindOf f → falsum f ≡ false
+unfolding kindOf
+string-falsum (same x y) h = refl
+string-falsum (apart x y) h = refl
+string-falsum (isLiteral x l) h = refl
+string-falsum (arithmetic ge e) h = absurd (omega arith)
+string-falsum (arithmetic eq e) h = absurd (omega arith)
+string-falsum (arithmetic ne e) h = absurd (omega arith)
+
+pub string-keeps : (m : List ℤ) (f : Fact) → 2 < kindOf f → keepsFact m f ≡ true
+unfolding kindOf
+string-keeps m (same x y) h = refl
+string-keeps m (apart x y) h = refl
+string-keeps m (isLiteral x l) h = refl
+string-keeps m (arithmetic ge e) h = absurd (omega arith)
+string-keeps m (arithmetic eq e) h = absurd (omega arith)
+string-keeps m (arithmetic ne e) h = absurd (omega arith)
+
+-- ---- A-Conf and Join
+
+pub falsum-row : (r : Relation) (row : List ℤ) → length row ≡ 50 → falsum (arithmetic r (drop 1 row)) ≡ (allZero (drop 2 row) && not (holds r (getD row 1 (pos 0))))
+falsum-row r [] h = absurd (omega arith)
+falsum-row r (x ∷ []) h = absurd (omega arith)
+falsum-row r (x ∷ c ∷ cs) h = refl
+
+pub joined-first : (f g : Fact) → (kindOf f ≡ 0 → ⊥) → joined f g ≡ none
+unfolding kindOf
+joined-first (same x y) g h = refl
+joined-first (apart x y) g h = refl
+joined-first (isLiteral x l) g h = refl
+joined-first (arithmetic ge e) g h = absurd (h refl)
+joined-first (arithmetic eq e) g h = refl
+joined-first (arithmetic ne e) g h = refl
+
+pub joined-second : (e : List ℤ) (g : Fact) → (kindOf g ≡ 0 → ⊥) → joined (arithmetic ge e) g ≡ none
+unfolding kindOf
+joined-second e (same x y) h = refl
+joined-second e (apart x y) h = refl
+joined-second e (isLiteral x l) h = refl
+joined-second e (arithmetic ge g) h = absurd (h refl)
+joined-second e (arithmetic eq g) h = refl
+joined-second e (arithmetic ne g) h = refl
+
+-- ---- two rows, from place j on
+
+eqRow-step : (a b : List ℤ) (j : ℕ) → j < length a → j < length b
+    → eqRow (drop j a) (drop j b) ≡ (eqℤ (getD a j (pos 0)) (getD b j (pos 0)) && eqRow (drop (j + 1) a) (drop (j + 1) b))
+eqRow-step a b j h k = rw (drop-cons a j (pos 0) h, drop-cons b j (pos 0) k, add-one)
+
+pub eqRow-fails : (a b : List ℤ) (j : ℕ) → j < length a → j < length b → eqℤ (getD a j (pos 0)) (getD b j (pos 0)) ≡ false → eqRow (drop j a) (drop j b) ≡ false
+eqRow-fails a b j h k e = eqRow-step a b j h k ∙ rw e
+
+pub eqRow-on : (a b : List ℤ) (j : ℕ) → j < length a → j < length b → eqℤ (getD a j (pos 0)) (getD b j (pos 0)) ≡ true
+    → eqRow (drop (j + 1) a) (drop (j + 1) b) ≡ eqRow (drop j a) (drop j b)
+eqRow-on a b j h k e = sym (eqRow-step a b j h k ∙ rw e)
+
+pub eqRow-done : (a b : List ℤ) (j : ℕ) → length a ≤ j → length b ≤ j → eqRow (drop j a) (drop j b) ≡ true
+eqRow-done a b j h k = rw (drop-of-length-le a h, drop-of-length-le b k)
+
+pub scale-behind : (k : ℤ) (a : List ℤ) → drop 1 (scale k a) ≡ scale k (drop 1 a)
+scale-behind k [] = refl
+scale-behind k (x ∷ a) = refl
+
+-- ---- Card: a fact states that a form is 0
+
+states-row : (e : List ℤ) (z : ℤ) (a b : ℕ) (g : List ℤ) → statesZero e (tagged z a b g) ≡ (eqℤ (pos 1) z && eqRow e g)
+unfolding tagged
+states-row e (pos zero) a b g = refl
+states-row e (pos (suc zero)) a b g = refl
+states-row e (pos (suc (suc zero))) a b g = refl
+states-row e (pos (suc (suc (suc zero)))) a b g = refl
+states-row e (pos (suc (suc (suc (suc zero))))) a b g = refl
+states-row e (pos (suc (suc (suc (suc (suc zero)))))) a b g = refl
+states-row e (pos (suc (suc (suc (suc (suc (suc k))))))) a b g = sym (ap (λ t. t && eqRow e g) (ne-eqb 1 (suc (suc (suc (suc (suc (suc k)))))) (omega arith)))
+states-row e (negsuc k) a b g = refl
+
+-- its row is the tag 1 and the form
+pub states-by-row : (e row : List ℤ) → length row ≡ 50 → statesZero e (factOf row) ≡ eqRow (pos 1 ∷ e) row
+unfolding factOf
+states-by-row e [] h = absurd (omega arith)
+states-by-row e (z ∷ g) h = states-row e z (index (getD (z ∷ g) 1 (pos 0))) (index (getD (z ∷ g) 2 (pos 0))) g
+
+equation-tag : (z : ℤ) (a b : ℕ) (g e : List ℤ) → tagged z a b g ≡ arithmetic eq e → (z ≡ pos 1) × (g ≡ e)
+unfolding tagged
+equation-tag (pos zero) a b g e h = absurd (let n : _≡_ {A = ℕ} 0 1 = cc in omega arith)
+equation-tag (pos (suc zero)) a b g e h = (refl, cc)
+equation-tag (pos (suc (suc zero))) a b g e h = absurd (let n : _≡_ {A = ℕ} 0 1 = cc in omega arith)
+equation-tag (pos (suc (suc (suc zero)))) a b g e h = absurd (let n : _≡_ {A = ℕ} 0 1 = cc in omega arith)
+equation-tag (pos (suc (suc (suc (suc zero))))) a b g e h = absurd (let n : _≡_ {A = ℕ} 0 1 = cc in omega arith)
+equation-tag (pos (suc (suc (suc (suc (suc zero)))))) a b g e h = absurd (let n : _≡_ {A = ℕ} 0 1 = cc in omega arith)
+equation-tag (pos (suc (suc (suc (suc (suc (suc k))))))) a b g e h = absurd (let n : _≡_ {A = ℕ} 0 1 = cc in omega arith)
+equation-tag (negsuc k) a b g e h = absurd (let n : _≡_ {A = ℕ} 0 1 = cc in omega arith)
+
+-- the row of an equation
+pub equation-row : (row e : List ℤ) → length row ≡ 50 → factOf row ≡ arithmetic eq e → row ≡ pos 1 ∷ e
+unfolding factOf
+equation-row [] e l h = absurd (omega arith)
+equation-row (z ∷ g) e l h = let (p, q) = equation-tag z (index (getD (z ∷ g) 1 (pos 0))) (index (getD (z ∷ g) 2 (pos 0))) g e h in ap₂ _∷_ p q
+
+-- ---- what fits
+
+pub guard-fits : {A : Type 0} (t : Bool) (a : A) → fits (guard t a) ≡ t
+guard-fits true a = refl
+guard-fits false a = refl
+
+pub none-fits : {A : Type 0} (o : Option A) → fits o ≡ false → o ≡ none
+none-fits none e = refl
+none-fits (some a) e = absurd (subst T e tt)
+
+pub guard-given : {A : Type 0} (t : Bool) (a : A) → fits (guard t a) ≡ true → guard t a ≡ some a
+guard-given t a e = →guard t (true→ (sym (guard-fits t a) ∙ e)) refl
+
+pub no-fit : {A : Type 0} (o : Option A) → fits o ≡ true → o ≡ none → ⊥
+no-fit none e h = subst T (sym e) tt
+no-fit (some a) e h = some-none h
+
+-- Join's fact is the first as an equation
+pub joined-fits : (row other : List ℤ) → fits (joined (factOf row) (factOf other)) ≡ true → joined (factOf row) (factOf other) ≡ some (one (arithmetic eq (drop 1 row)))
+joined-fits row other e = go (ℕ-discrete (kindOf (factOf row)) 0) (ℕ-discrete (kindOf (factOf other)) 0)
+  where
+    go : Dec (kindOf (factOf row) ≡ 0) → Dec (kindOf (factOf other) ≡ 0) → joined (factOf row) (factOf other) ≡ some (one (arithmetic eq (drop 1 row)))
+    go (no n) d = absurd (no-fit (joined (factOf row) (factOf other)) e (joined-first (factOf row) (factOf other) n))
+    go (yes p) (no n) =
+        let f = row-relation row 0 (sym p) (omega arith) in
+        absurd (no-fit (joined (factOf row) (factOf other)) e (ap (λ (x : Fact). joined x (factOf other)) f ∙ joined-second (drop 1 row) (factOf other) n))
+    go (yes p) (yes q) =
+        let f : joined (factOf row) (factOf other) ≡ guard (eqRow (scale (negsuc 0) (drop 1 row)) (drop 1 other)) (one (arithmetic eq (drop 1 row))) =
+        ap₂ joined (row-relation row 0 (sym p) (omega arith)) (row-relation other 0 (sym q) (omega arith)) in
+        f ∙ guard-given (eqRow (scale (negsuc 0) (drop 1 row)) (drop 1 other)) (one (arithmetic eq (drop 1 row))) (sym (ap fits f) ∙ e)

@@ -1,0 +1,73 @@
+-- `rows::constant` meets its contract.
+use Prim.Native.Nat.{_-_, _≤_}
+use borrow.Author.Needs.{needs}
+use denote.Ref.{now}
+use lib.IntN.{pos}
+use lib.ListN.{drop, getD}
+use mathlib.Core.Path.{_∙_, _≡_, refl, sym}
+use mir.Syntax.{w64}
+use mir.Val.{SFits}
+use native.Mathlib.Omega.{arith}
+use Rattle.calculus.specs.Rows.{allZero, isZero}
+use Rattle.calculus.specs.Strings.{given}
+use Rattle.lists.proofs.Every.{every-done, every-fails, every-on}
+use Rattle.rows.proofs.Tested.{zero-no, zero-yes}
+use Rattle.rows.proofs.constant.Statement.{statement}
+use Rattle.rows.proofs.constant.Tie as tie
+use Rattle.rows.proofs.constant.Reads as reads
+use Rattle.rows.proofs.constant.Lts as lts
+
+abbrev Inv-loop : tie.InvT-loop
+Inv-loop row j₀ j = (2 ≤ j) × (j ≤ 50) × (allZero (drop j row) ≡ allZero (drop 2 row))
+
+abbrev μ-loop : tie.MeasureT-loop
+μ-loop row j₀ j = 50 - j
+
+loop-holds : tie.Need-loop-holds Inv-loop μ-loop
+loop-holds c = (omega arith, omega arith, refl)
+
+mul-x : tie.Need-mul-x Inv-loop μ-loop
+mul-x c = search needs
+
+shared-slice-copy-out-x : tie.Need-shared-slice-copy-out-x Inv-loop μ-loop
+shared-slice-copy-out-x c = search needs
+
+returns : tie.Need-returns Inv-loop μ-loop
+returns c =
+    let l = c .before .before .before .loop in
+    let z = getD (now (c .before .before .before .before .args .row)) (l .j) (pos 0) in
+    let f : SFits w64 z = record { sfits = c .before .x .given } in
+    sym (every-fails isZero allZero refl (λ x xs. refl) (now (c .before .before .before .before .args .row)) (l .j) (pos 0) (omega arith) (zero-no z f (c .if1 .taken))) ∙ l .inv .2
+
+add-j : tie.Need-add-j Inv-loop μ-loop
+add-j c = search needs
+
+loop-less : tie.Need-loop-less Inv-loop μ-loop
+loop-less c = search needs
+
+loop-again : tie.Need-loop-again Inv-loop μ-loop
+loop-again c =
+    let l = c .before .before .before .loop in
+    let z = getD (now (c .before .before .before .before .args .row)) (l .j) (pos 0) in
+    let f : SFits w64 z = record { sfits = c .before .x .given } in
+    (omega arith, omega arith, every-on isZero allZero refl (λ x xs. refl) (now (c .before .before .before .before .args .row)) (l .j) (pos 0) (omega arith) (zero-yes z f (c .if1 .left)) ∙ l .inv .2)
+
+returns-2 : tie.Need-returns-2 Inv-loop μ-loop
+returns-2 c =
+    let l = c .before .loop in
+    sym (every-done isZero allZero refl (λ x xs. refl) (now (c .before .before .args .row)) (l .j) (omega arith)) ∙ l .inv .2
+
+pub constant-spec : {M : Type 1} → statement M
+constant-spec =
+    tie.close
+    (tie.spec
+    Inv-loop
+    μ-loop
+    loop-holds
+    mul-x
+    shared-slice-copy-out-x
+    returns
+    add-j
+    loop-less
+    loop-again
+    returns-2)

@@ -1,0 +1,43 @@
+-- `rows::holds_of` meets its contract.
+use Prim.Native.Nat.{suc, zero, ℕ}
+use lib.IntN.{pos, ℤ}
+use lib.Signed.{leZ}
+use mathlib.Core.Bool.{not}
+use mathlib.Core.Path.{_∙_, _≡_, ap, refl, sym}
+use mir.Facts.{toZ-ofZ}
+use Rattle.calculus.specs.Facts.{Relation, holds, ne}
+use Rattle.calculus.specs.Meaning.{value}
+use Rattle.format.specs.Checking.{fits}
+use Rattle.format.specs.Question.{relationOf}
+use Rattle.rows.proofs.Tested.{nonneg-test, zero-test}
+use Rattle.rows.proofs.holds_of.Statement.{statement}
+use Rattle.rows.proofs.holds_of.Tie as tie
+use Rattle.rows.proofs.holds_of.Reads as reads
+use Rattle.rows.proofs.holds_of.Lts as lts
+
+-- <1
+-- relation 2 and above is ≠
+other : (r : ℕ) → (r ≡ 0 → ⊥) → (r ≡ 1 → ⊥) → relationOf r ≡ ne
+other zero h k = absurd (h refl)
+other (suc zero) h k = absurd (k refl)
+other (suc (suc r)) h k = refl
+
+-- >1
+
+returns : tie.Need-returns
+returns c =
+    let s = c .before in
+    ap (λ (z : ℤ). leZ (pos 0) z) (toZ-ofZ (s .fits .value)) ∙ nonneg-test (s .args .value) ∙ ap (λ (r : ℕ). holds (relationOf r) (s .args .value)) (sym (c .if1 .taken))
+
+returns-2 : tie.Need-returns-2
+returns-2 c =
+    let s = c .before .before in
+    zero-test (s .args .value) (s .fits .value) ∙ ap (λ (r : ℕ). holds (relationOf r) (s .args .value)) (sym (c .if2 .taken))
+
+returns-3 : tie.Need-returns-3
+returns-3 c =
+    let s = c .before .before in
+    ap not (zero-test (s .args .value) (s .fits .value)) ∙ ap (λ (r : Relation). holds r (s .args .value)) (sym (other (s .args .relation) (c .before .if1 .left) (c .if2 .left)))
+
+pub holds-of-spec : {M : Type 1} → statement M
+holds-of-spec = tie.close (tie.spec returns returns-2 returns-3)

@@ -1,0 +1,77 @@
+-- `rows::is_false` meets its contract.
+use borrow.Author.Needs.{needs}
+use denote.Ref.{now}
+use lib.IntN.{pos}
+use lib.ListN.{drop, getD}
+use mathlib.Core.Bool.{Bool, _&&_, and-false, not}
+use mathlib.Core.Path.{_∙_, _≡_, ap, sym}
+use mir.Facts.{toZ-ofZ}
+use mir.Syntax.{w64}
+use mir.Val.{SFits}
+use Rattle.calculus.specs.Facts.{holds}
+use Rattle.calculus.specs.Rows.{allZero}
+use Rattle.calculus.specs.Rules.{falsum}
+use Rattle.calculus.specs.Strings.{given}
+use Rattle.format.specs.Question.{relationOf}
+use Rattle.rows.proofs.Tags.{row-relation}
+use Rattle.rows.proofs.Tested.{falsum-row, string-falsum}
+use Rattle.rows.specs.Rows.{factOf}
+use mathlib.Core.Bool.{and-true}
+use Rattle.rows.proofs.is_false.Statement.{statement}
+use Rattle.rows.proofs.is_false.Tie as tie
+use Rattle.rows.proofs.is_false.Reads as reads
+use Rattle.rows.proofs.is_false.Lts as lts
+use Rattle.rows.proofs.constant.Reads as constant-reads
+use Rattle.rows.proofs.holds_of.Reads as holds-of-reads
+use Rattle.rows.proofs.kind_of.Reads as kind-of-reads
+
+-- <2
+-- the fact, where it is arithmetic
+falsum-is : (c : tie.Else1) → falsum (factOf (now (c .before .before .args .row))) ≡ (allZero (drop 2 (now (c .before .before .args .row))) && not (holds (relationOf (c .before .kind-of .result)) (getD (now (c .before .before .args .row)) 1 (pos 0))))
+falsum-is c =
+    let row = now (c .before .before .args .row) in
+    ap falsum (row-relation row (c .before .kind-of .result) (c .before .kind-of .ensures) (c .if1 .left)) ∙ falsum-row (relationOf (c .before .kind-of .result)) row (c .before .before .pre)
+
+-- the constant's test
+held : (c : tie.After-holds-of) → c .holds-of .result ≡ holds (relationOf (c .before .before .before .kind-of .result)) (getD (now (c .before .before .before .before .args .row)) 1 (pos 0))
+held c =
+    let f : SFits w64 (getD (now (c .before .before .before .before .args .row)) 1 (pos 0)) = record { sfits = c .before .c .given } in
+    rw (toZ-ofZ f) at (c .holds-of .ensures)
+
+-- >2
+
+kind-of-requires : tie.Need-kind-of-requires
+kind-of-requires c κs = search needs
+
+returns : tie.Need-returns
+returns c = sym (string-falsum (factOf (now (c .before .before .args .row))) (rw (c .before .kind-of .ensures) at (c .if1 .taken)))
+
+shared-slice-copy-out-c : tie.Need-shared-slice-copy-out-c
+shared-slice-copy-out-c c = search needs
+
+holds-of-requires : tie.Need-holds-of-requires
+holds-of-requires c κs = search needs
+
+returns-2 : tie.Need-returns-2
+returns-2 c =
+    sym (falsum-is (c .before .before .before) ∙ ap (λ (t : Bool). allZero (drop 2 (now (c .before .before .before .before .before .args .row))) && not t) (sym (held (c .before)) ∙ c .if2 .taken) ∙ and-false (allZero (drop 2 (now (c .before .before .before .before .before .args .row)))))
+
+constant-requires : tie.Need-constant-requires
+constant-requires c κs = search needs
+
+returns-3 : tie.Need-returns-3
+returns-3 c =
+    c .constant .ensures
+    ∙ sym (falsum-is (c .before .before .before .before) ∙ ap (λ (t : Bool). allZero (drop 2 (now (c .before .before .before .before .before .before .args .row))) && not t) (sym (held (c .before .before)) ∙ c .before .if2 .left) ∙ and-true (allZero (drop 2 (now (c .before .before .before .before .before .before .args .row)))))
+
+pub is-false-spec : {M : Type 1} → statement M
+is-false-spec =
+    tie.close
+    (tie.spec
+    kind-of-requires
+    returns
+    shared-slice-copy-out-c
+    holds-of-requires
+    returns-2
+    constant-requires
+    returns-3)

@@ -1,0 +1,44 @@
+-- What the rows of the work area are known to be, and the forms that rules build.
+use Prim.Native.Nat.{ℕ, suc, _≤_}
+use mathlib.Core.Path.{_≡_}
+use mathlib.Core.Bool.{Bool, true, _||_}
+use mathlib.Core.List.{List, _∷_}
+use lib.ListN.{length, getD, set}
+use lib.IntN.{ℤ, pos, negsuc, natAbs}
+use Rattle.calculus.specs.Limits.{columnLimit, factLimit, workNumbers}
+use Rattle.calculus.specs.Rows.{number, column, minus}
+use Rattle.calculus.specs.Facts.{Fact, Branch, same, apart, isLiteral, arithmetic, ge, eq, ne}
+use Rattle.calculus.specs.Rules.{anyFact, statesZero}
+use Rattle.format.specs.Checking.{factsWithin}
+use Rattle.rows.specs.Rows.{branchOf}
+
+-- the first count rows of the work area: at most 128 facts, with every number within the limit
+pub record Fine (w : List ℤ) (count : ℕ) : Type 0 where
+  pub few : count ≤ factLimit
+  pub room : workNumbers ≤ length w
+  pub small : factsWithin (branchOf w count) ≡ true
+
+-- every number is at most n in size
+abbrev pub Within : ℕ → List ℤ → Type 0
+Within n zs = (j : ℕ) → natAbs (getD zs j (pos 0)) ≤ n
+
+-- the number of a fact's kind
+unfoldable pub kindOf : Fact → ℕ
+kindOf (arithmetic ge e) = 0
+kindOf (arithmetic eq e) = 1
+kindOf (arithmetic ne e) = 2
+kindOf (same x y) = 3
+kindOf (apart x y) = 4
+kindOf (isLiteral x l) = 5
+
+-- the form c + k × column j
+unfoldable pub single : ℤ → ℕ → ℤ → List ℤ
+single c j k = set (number c) (suc j) k
+
+-- the form column i − column j
+unfoldable pub difference : ℕ → ℕ → List ℤ
+difference i j = set (set (number (pos 0)) (suc i) (pos 1)) (suc j) (negsuc 0)
+
+-- a fact states that the difference of the columns i and j is 0, "coefficients 1 and −1 in either order"
+unfoldable pub statesEqual : Branch → ℕ → ℕ → Bool
+statesEqual b i j = anyFact (statesZero (minus (column i) (column j))) b || anyFact (statesZero (minus (column j) (column i))) b

@@ -1,0 +1,400 @@
+// A fact as a row of 50 numbers in its own stretch of the work area: read, written, built, tested and evaluated.
+ghost use mathlib.Core.Path.{_≡_};
+ghost use mathlib.Core.Logic.{_≢_};
+ghost use mathlib.Core.Bool.{true, _||_};
+ghost use mathlib.Core.List.{List, [], _∷_, _++_};
+ghost use Prim.Native.Nat.{ℕ, _+_, _*_, _≤_, _<_};
+ghost use lib.ListN.{length, getD, drop};
+ghost use lib.IntN.{pos, negsuc, natAbs};
+ghost use Rattle.calculus.specs.Limits.{variableLimit, columnLimit, numberLimit, valueLimit, factLimit, workNumbers};
+ghost use Rattle.calculus.specs.Rows.{column, scale, minus, less, below, allZero, eqRow};
+ghost use Rattle.calculus.specs.Facts.{holds, arithmetic, ge, eq};
+ghost use Rattle.calculus.specs.Model.{valueIn};
+ghost use Rattle.calculus.specs.Rules.{falsum, joined, statesZero, anyFact};
+ghost use Rattle.format.specs.Fields.{within};
+ghost use Rattle.format.specs.Question.{stringFact, relationOf};
+ghost use Rattle.format.specs.Checking.{fits, rowWithin, factWithin, keepsFact, keeps};
+ghost use Rattle.rows.specs.Rows.{rowLength, factOf, rowAt, branchOf};
+ghost use Rattle.rows.specs.Work.{kindOf, Fine, Within, single, difference, statesEqual};
+
+// ---- rows in the work area
+
+// Row k, as a middle part of the work area.
+pub fn row_at(work: &[i64], k: usize) -> &[i64]
+    requires { ⌜ (k < factLimit) × (workNumbers ≤ length (now work)) ⌝ }
+    ensures { λ r. ⌜ now r ≡ rowAt (now (work .entry)) k ⌝ }
+{
+    let from = 50 * k;
+    let to = from + 50;
+    &work[from..to]
+}
+
+// The row's own stretch is filled.
+fn fill(row: &mut [i64], from: [i64; 50])
+    requires { ⌜ length (now row) ≡ rowLength ⌝ }
+    ensures { λ _. ⌜ now (row .exit) ≡ from ⌝ }
+{
+    let mut j = 0;
+    while j < 50 {
+        let x = from[j];
+        row[j] = x;
+        j += 1;
+    }
+}
+
+// Row k becomes the given one, behind the facts before it.
+pub fn put_row(work: &mut [i64], k: usize, row: [i64; 50])
+    requires { ⌜ (k < factLimit) × (workNumbers ≤ length (now work)) ⌝ }
+    ensures { λ _. ⌜ branchOf (now (work .exit)) (k + 1) ≡ branchOf (now (work .entry)) k ++ (factOf row ∷ []) ⌝ }
+{
+    let from = 50 * k;
+    let to = from + 50;
+    fill(&mut work[from..to], row);
+}
+
+// What a row says by its tag: 0 is ≥, 1 is =, 2 is ≠, 3 is variable ≈ variable, 4 is ≉, 5 is variable ≈ literal.
+pub fn kind_of(row: &[i64]) -> usize
+    requires { ⌜ length (now row) ≡ rowLength ⌝ }
+    ensures { λ r. ⌜ r ≡ kindOf (factOf (now (row .entry))) ⌝ }
+{
+    let tag = row[0];
+    if tag == 0 {
+        return 0;
+    }
+    if tag == 1 {
+        return 1;
+    }
+    if tag == 3 {
+        return 3;
+    }
+    if tag == 4 {
+        return 4;
+    }
+    if tag == 5 {
+        return 5;
+    }
+    2
+}
+
+// A row's numbers by value.
+pub fn copy_of(row: &[i64]) -> [i64; 50]
+    requires { ⌜ length (now row) ≡ rowLength ⌝ }
+    ensures { λ r. ⌜ r ≡ now (row .entry) ⌝ }
+{
+    let mut out = [0i64; 50];
+    let mut j = 0;
+    while j < 50 {
+        let x = row[j];
+        out[j] = x;
+        j += 1;
+    }
+    out
+}
+
+// ---- new rows
+
+// A string fact: relation 0 is variable ≈ variable, 1 is ≉, 2 is variable ≈ literal.
+pub fn string_row(relation: usize, a: usize, b: usize) -> [i64; 50]
+    requires { ⌜ (relation ≤ 2) × (a < variableLimit) × (b < variableLimit) ⌝ }
+    ensures { λ r. ⌜ factOf r ≡ stringFact relation a b ⌝ }
+{
+    let mut out = [0i64; 50];
+    out[0] = (relation + 3) as i64;
+    out[1] = a as i64;
+    out[2] = b as i64;
+    out
+}
+
+// A constant and one coefficient related to 0: relation 0 is ≥, 1 is =, 2 is ≠.
+pub fn single_row(relation: usize, constant: i64, column: usize, coefficient: i64) -> [i64; 50]
+    requires { ⌜ (relation ≤ 2) × (column < columnLimit) ⌝ }
+    ensures { λ r. ⌜ factOf r ≡ arithmetic (relationOf relation) (single constant column coefficient) ⌝ }
+{
+    let mut out = [0i64; 50];
+    out[0] = relation as i64;
+    out[1] = constant;
+    out[column + 2] = coefficient;
+    out
+}
+
+// The difference of two columns related to 0.
+pub fn difference_row(relation: usize, i: usize, j: usize) -> [i64; 50]
+    requires { ⌜ (relation ≤ 2) × (i < columnLimit) × (j < columnLimit) ⌝ }
+    ensures { λ r. ⌜ factOf r ≡ arithmetic (relationOf relation) (difference i j) ⌝ }
+{
+    let mut out = [0i64; 50];
+    out[0] = relation as i64;
+    out[i + 2] = 1;
+    out[j + 2] = -1;
+    out
+}
+
+// e − 1 ≥ 0, of the row of e.
+pub fn less_row(row: &[i64]) -> [i64; 50]
+    requires { ⌜ length (now row) ≡ rowLength ⌝ }
+    requires { ⌜ rowWithin (drop 1 (now row)) ≡ true ⌝ }
+    ensures { λ r. ⌜ factOf r ≡ arithmetic ge (less (drop 1 (now (row .entry)))) ⌝ }
+{
+    let mut out = copy_of(row);
+    let c = row[1];
+    out[0] = 0;
+    out[1] = c - 1;
+    out
+}
+
+// −e behind the tag 0, of the row of e.
+fn negative(row: &[i64]) -> [i64; 50]
+    requires { ⌜ length (now row) ≡ rowLength ⌝ }
+    requires { ⌜ rowWithin (drop 1 (now row)) ≡ true ⌝ }
+    ensures { λ r. ⌜ r ≡ pos 0 ∷ scale (negsuc 0) (drop 1 (now (row .entry))) ⌝ }
+{
+    let mut out = [0i64; 50];
+    let mut j = 1;
+    while j < 50 {
+        let x = row[j];
+        out[j] = 0 - x;
+        j += 1;
+    }
+    out
+}
+
+// −e − 1 ≥ 0, of the row of e.
+pub fn below_row(row: &[i64]) -> [i64; 50]
+    requires { ⌜ length (now row) ≡ rowLength ⌝ }
+    requires { ⌜ rowWithin (drop 1 (now row)) ≡ true ⌝ }
+    ensures { λ r. ⌜ factOf r ≡ arithmetic ge (below (drop 1 (now (row .entry)))) ⌝ }
+{
+    let mut out = negative(row);
+    let c = row[1];
+    out[1] = -1 - c;
+    out
+}
+
+// e = 0, of the row of e.
+pub fn equation_row(row: &[i64]) -> [i64; 50]
+    requires { ⌜ length (now row) ≡ rowLength ⌝ }
+    ensures { λ r. ⌜ factOf r ≡ arithmetic eq (drop 1 (now (row .entry))) ⌝ }
+{
+    let mut out = copy_of(row);
+    out[0] = 1;
+    out
+}
+
+// ---- the limit
+
+// Is a number within ±1,000,000,000?
+pub fn in_limit(x: i64) -> bool
+    ensures { λ r. ⌜ r ≡ within numberLimit x ⌝ }
+{
+    if x < -1000000000 {
+        return false;
+    }
+    if x > 1000000000 {
+        return false;
+    }
+    true
+}
+
+// Is every number behind the tag within the limit?
+fn form_within(row: &[i64]) -> bool
+    requires { ⌜ length (now row) ≡ rowLength ⌝ }
+    ensures { λ r. ⌜ r ≡ rowWithin (drop 1 (now (row .entry))) ⌝ }
+{
+    let mut j = 1;
+    while j < 50 {
+        let x = row[j];
+        if !in_limit(x) {
+            return false;
+        }
+        j += 1;
+    }
+    true
+}
+
+// Is every number of the fact within the limit?
+pub fn fact_within(row: &[i64]) -> bool
+    requires { ⌜ length (now row) ≡ rowLength ⌝ }
+    ensures { λ r. ⌜ r ≡ factWithin (factOf (now (row .entry))) ⌝ }
+{
+    if kind_of(row) > 2 {
+        return true;
+    }
+    form_within(row)
+}
+
+// ---- tests
+
+// Has the form no coefficient?
+fn constant(row: &[i64]) -> bool
+    requires { ⌜ length (now row) ≡ rowLength ⌝ }
+    ensures { λ r. ⌜ r ≡ allZero (drop 2 (now (row .entry))) ⌝ }
+{
+    let mut j = 2;
+    while j < 50 {
+        let x = row[j];
+        if x != 0 {
+            return false;
+        }
+        j += 1;
+    }
+    true
+}
+
+// Does a value stand in the relation to 0: 0 is ≥, 1 is =, 2 is ≠?
+fn holds_of(relation: usize, value: i64) -> bool
+    ensures { λ r. ⌜ r ≡ holds (relationOf relation) value ⌝ }
+{
+    if relation == 0 {
+        return value >= 0;
+    }
+    if relation == 1 {
+        return value == 0;
+    }
+    value != 0
+}
+
+// A-Conf: an arithmetic fact without coefficients and false.
+pub fn is_false(row: &[i64]) -> bool
+    requires { ⌜ length (now row) ≡ rowLength ⌝ }
+    ensures { λ r. ⌜ r ≡ falsum (factOf (now (row .entry))) ⌝ }
+{
+    let kind = kind_of(row);
+    if kind > 2 {
+        return false;
+    }
+    let c = row[1];
+    if holds_of(kind, c) {
+        return false;
+    }
+    constant(row)
+}
+
+// Is the second form the negative of the first?
+fn negates(row: &[i64], other: &[i64]) -> bool
+    requires { ⌜ (length (now row) ≡ rowLength) × (length (now other) ≡ rowLength) ⌝ }
+    requires { ⌜ rowWithin (drop 1 (now row)) ≡ true ⌝ }
+    ensures { λ r. ⌜ r ≡ eqRow (scale (negsuc 0) (drop 1 (now (row .entry)))) (drop 1 (now (other .entry))) ⌝ }
+{
+    let mut j = 1;
+    while j < 50 {
+        let x = row[j];
+        let y = other[j];
+        if 0 - x != y {
+            return false;
+        }
+        j += 1;
+    }
+    true
+}
+
+// Join: two ≥ facts, one the negative of the other.
+pub fn joins(row: &[i64], other: &[i64]) -> bool
+    requires { ⌜ (length (now row) ≡ rowLength) × (length (now other) ≡ rowLength) ⌝ }
+    requires { ⌜ factWithin (factOf (now row)) ≡ true ⌝ }
+    ensures { λ r. ⌜ r ≡ fits (joined (factOf (now (row .entry))) (factOf (now (other .entry)))) ⌝ }
+{
+    if kind_of(row) != 0 {
+        return false;
+    }
+    if kind_of(other) != 0 {
+        return false;
+    }
+    negates(row, other)
+}
+
+// Are two rows the same, number by number?
+fn same_row(row: &[i64], other: &[i64]) -> bool
+    requires { ⌜ (length (now row) ≡ rowLength) × (length (now other) ≡ rowLength) ⌝ }
+    ensures { λ r. ⌜ r ≡ eqRow (now (row .entry)) (now (other .entry)) ⌝ }
+{
+    let mut j = 0;
+    while j < 50 {
+        let x = row[j];
+        let y = other[j];
+        if x != y {
+            return false;
+        }
+        j += 1;
+    }
+    true
+}
+
+// Does a fact state that column i − column j = 0?
+pub fn states_difference(work: &[i64], count: usize, i: usize, j: usize) -> bool
+    requires { ⌜ (count ≤ factLimit) × (workNumbers ≤ length (now work)) ⌝ }
+    requires { ⌜ (i < columnLimit) × (j < columnLimit) × (i ≢ j) ⌝ }
+    ensures { λ r. ⌜ r ≡ anyFact (statesZero (minus (column i) (column j))) (branchOf (now (work .entry)) count) ⌝ }
+{
+    let wanted = difference_row(1, i, j);
+    let mut k = 0;
+    while k < count {
+        if same_row(&wanted, row_at(work, k)) {
+            return true;
+        }
+        k += 1;
+    }
+    false
+}
+
+// Does a fact state that the difference of two columns is 0, in either order?
+pub fn states_equal(work: &[i64], count: usize, i: usize, j: usize) -> bool
+    requires { ⌜ (count ≤ factLimit) × (workNumbers ≤ length (now work)) ⌝ }
+    requires { ⌜ (i < columnLimit) × (j < columnLimit) × (i ≢ j) ⌝ }
+    ensures { λ r. ⌜ r ≡ statesEqual (branchOf (now (work .entry)) count) i j ⌝ }
+{
+    if states_difference(work, count, i, j) {
+        return true;
+    }
+    states_difference(work, count, j, i)
+}
+
+// ---- values
+
+// The form's value where the columns have the model's values.
+pub fn row_value(row: &[i64], model: &[i64]) -> i64
+    requires { ⌜ (length (now row) ≡ rowLength) × (length (now model) ≡ columnLimit) ⌝ }
+    requires { ⌜ rowWithin (drop 1 (now row)) ≡ true ⌝ }
+    requires { ⌜ Within valueLimit (now model) ⌝ }
+    ensures { λ r. ⌜ r ≡ valueIn (now (model .entry)) (drop 1 (now (row .entry))) ⌝ }
+{
+    let mut sum = row[1];
+    let mut i = 0;
+    while i < 48 {
+        let x = model[i];
+        let c = row[i + 2];
+        sum = sum + c * x;
+        i += 1;
+    }
+    sum
+}
+
+// Does the fact hold by the model's values?
+pub fn keeps_row(row: &[i64], model: &[i64]) -> bool
+    requires { ⌜ (length (now row) ≡ rowLength) × (length (now model) ≡ columnLimit) ⌝ }
+    requires { ⌜ factWithin (factOf (now row)) ≡ true ⌝ }
+    requires { ⌜ Within valueLimit (now model) ⌝ }
+    ensures { λ r. ⌜ r ≡ keepsFact (now (model .entry)) (factOf (now (row .entry))) ⌝ }
+{
+    let kind = kind_of(row);
+    if kind > 2 {
+        return true;
+    }
+    let value = row_value(row, model);
+    holds_of(kind, value)
+}
+
+// Does the model meet every arithmetic fact?
+pub fn keeps_facts(work: &[i64], count: usize, model: &[i64]) -> bool
+    requires { ⌜ Fine (now work) count ⌝ }
+    requires { ⌜ (length (now model) ≡ columnLimit) × Within valueLimit (now model) ⌝ }
+    ensures { λ r. ⌜ r ≡ keeps (now (model .entry)) (branchOf (now (work .entry)) count) ⌝ }
+{
+    let mut k = 0;
+    while k < count {
+        if !keeps_row(row_at(work, k), model) {
+            return false;
+        }
+        k += 1;
+    }
+    true
+}

@@ -1,0 +1,72 @@
+-- The numbers 5 and 6 of a step's body, and what comes behind them.
+use Prim.Native.Nat.{ℕ}
+use native.Mathlib.Omega.{arith}
+use mathlib.Core.Path.{_≡_, refl, sym, _∙_, ap, ap₂}
+use mathlib.Core.Bool.{Bool, true, false, _&&_}
+use mathlib.Core.List.{List}
+use Rattle.calculus.specs.Facts.{Question}
+use Rattle.format.specs.Records.{need}
+use Rattle.format.specs.Question.{columnCount}
+use Rattle.format.specs.StepForms.{rule, lengthFits, operandsInRange}
+use Rattle.format.specs.Reading.{stepFault}
+
+-- ---- chains of two tests
+
+chain-all : (x y ok : Bool) (f : ℕ) → f ≡ need 5 x (need 6 (y && true) 0) → (f ≡ 0 → ⊥) → (later : ℕ) → f ≡ need 5 x (need 6 (y && ok) later)
+chain-all true true ok f e n later = absurd (n e)
+chain-all true false ok f e n later = e
+chain-all false y ok f e n later = e
+
+chain-later : (x y : Bool) (f : ℕ) → f ≡ need 5 x (need 6 y 0) → (f ≡ 0 → ⊥) → (later : ℕ) → f ≡ need 5 x (need 6 y later)
+chain-later true true f e n later = absurd (n e)
+chain-later true false f e n later = e
+chain-later false y f e n later = e
+
+chain-none : (x y ok : Bool) → 0 ≡ need 5 x (need 6 (y && ok) 0) → (x ≡ true) × (y ≡ true) × (ok ≡ true)
+chain-none true true true e = (refl, refl, refl)
+chain-none true true false e = absurd (omega arith)
+chain-none true false ok e = absurd (omega arith)
+chain-none false y ok e = absurd (omega arith)
+
+-- ---- the body of m bytes at a position
+
+-- its length fits, and its operands are in their ranges
+pub record Formed (b : List ℕ) (u : Question) (at m : ℕ) : Type 0 where
+  pub fits : lengthFits b at m ≡ true
+  pub in-range : operandsInRange b (u .p) (columnCount u) (rule b at) at m ≡ true
+
+module _ (b : List ℕ) (u : Question) (ok : Bool) (at m : ℕ) where
+  abbrev inRange : Bool
+  inRange = operandsInRange b (u .p) (columnCount u) (rule b at) at m
+
+  pub by-operands : (y : Bool) → lengthFits b at m ≡ true → inRange ≡ y → need 6 (y && ok) 0 ≡ stepFault b u ok 0 at m
+  by-operands y e f = ap₂ (λ s t. need 5 s (need 6 (t && ok) 0)) (sym e) (sym f)
+
+  pub by-child : (k : Bool) → 0 ≡ stepFault b u true 0 at m → ok ≡ k → need 6 k 0 ≡ stepFault b u ok 0 at m
+  by-child k e f =
+      let (l, r, _) = chain-none (lengthFits b at m) inRange true e in
+      ap (λ t. need 6 t 0) (sym f) ∙ by-operands true l r
+
+  pub ill-formed : lengthFits b at m ≡ false → 5 ≡ stepFault b u ok 0 at m
+  ill-formed e = ap (λ s. need 5 s (need 6 (inRange && ok) 0)) (sym e)
+
+  -- 5 or 6 but for the child
+  pub out-of-form : (f : ℕ) → f ≡ stepFault b u true 0 at m → (f ≡ 0 → ⊥) → f ≡ stepFault b u ok 0 at m
+  out-of-form f e n = chain-all (lengthFits b at m) inRange ok f e n 0
+
+  -- neither applies
+  pub formed : 0 ≡ stepFault b u ok 0 at m → Formed b u at m
+  formed e = let (f, r, _) = chain-none (lengthFits b at m) inRange ok e in record { fits = f; in-range = r }
+
+  pub child-passed : 0 ≡ stepFault b u ok 0 at m → ok ≡ true
+  child-passed e = let (_, _, k) = chain-none (lengthFits b at m) inRange ok e in k
+
+  -- ---- behind 5 and 6
+
+  pub applies : (f later : ℕ) → f ≡ stepFault b u ok 0 at m → (f ≡ 0 → ⊥) → f ≡ stepFault b u ok later at m
+  applies f later e n = chain-later (lengthFits b at m) (inRange && ok) f e n later
+
+  pub neither-applies : (later : ℕ) → 0 ≡ stepFault b u ok 0 at m → later ≡ stepFault b u ok later at m
+  neither-applies later e =
+      let (f, r, k) = chain-none (lengthFits b at m) inRange ok e in
+      ap₂ (λ s t. need 5 s (need 6 t later)) (sym f) (sym (ap₂ _&&_ r k))

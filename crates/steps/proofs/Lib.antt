@@ -1,0 +1,4 @@
+pub mod Table
+pub mod Loops
+pub mod Children
+pub mod Faults

@@ -1,0 +1,96 @@
+/* A host program: checks the ticket in a file and, when it brings strings, judges them by the same ticket's question. */
+
+#include <inttypes.h>
+#include <stdio.h>
+
+#include "nuldwich.h"
+
+static const char *const meanings[] = {
+    "accepted",
+    "the answer buffer is too small",
+    "the ticket is too long",
+    "the bytes stop too early",
+    "a kind is unknown or out of its place",
+    "the body length fits no form",
+    "a field is outside its range",
+    "a literal repeats",
+    "a step does not fit",
+    "a new number passes the limit",
+    "too many facts or pending splits",
+    "the end comes before every branch is closed, or before a model",
+    "the model breaks an arithmetic fact",
+    "the leaf is not settled",
+    "a length passes 64",
+    "the answer is not of its form",
+    "a value of the answer is outside its range",
+};
+
+static uint32_t u32_at(const uint8_t *bytes) {
+    return (uint32_t)bytes[0] | (uint32_t)bytes[1] << 8 | (uint32_t)bytes[2] << 16 | (uint32_t)bytes[3] << 24;
+}
+
+static void print_refusal(nuldwich_reply reply) {
+    printf("refused at record %" PRIu64 ": %s (%" PRIu64 ")\n", reply.record, meanings[reply.number], reply.number);
+}
+
+/* Prints the strings (kind 9) and integers (kind 10) up to the end record (kind 8), and returns the answer's length. */
+static size_t print_answer(const uint8_t *answer) {
+    size_t start = 0;
+    for (unsigned number = 0;; number++) {
+        uint32_t length = u32_at(answer + start);
+        unsigned kind = answer[start + 4];
+        const uint8_t *body = answer + start + 6;
+        start += 6 + length;
+        if (kind == 8)
+            return start;
+        if (kind == 9)
+            printf("string %u:", number);
+        else
+            printf("integers:");
+        for (uint32_t at = 0; at < length; at += 4)
+            printf(" %" PRId32, (int32_t)u32_at(body + at));
+        printf("\n");
+    }
+}
+
+static void print_judgement(nuldwich_reply reply) {
+    if (reply.number == NULDWICH_DONE)
+        printf("judged: all constraints are met\n");
+    else if (reply.number == NULDWICH_UNMET)
+        printf("judged: constraint %" PRIu64 " is not met\n", reply.record);
+    else
+        print_refusal(reply);
+}
+
+/* Checks a ticket, prints the verdict and, for strings, what judging says of them. */
+static void check_and_judge(const uint8_t *ticket, size_t ticket_len) {
+    uint8_t answer[NULDWICH_ANSWER_BYTES];
+    nuldwich_reply reply = check(ticket, ticket_len, answer, sizeof answer);
+    if (reply.number != NULDWICH_DONE) {
+        print_refusal(reply);
+    } else if (reply.record == NULDWICH_NO_SOLUTION) {
+        printf("accepted: there is no solution\n");
+    } else {
+        printf("accepted: there are strings\n");
+        size_t answer_len = print_answer(answer);
+        print_judgement(judge(ticket, ticket_len, answer, answer_len));
+    }
+}
+
+int main(int argc, char **argv) {
+    /* One byte more than a ticket may have, so that a longer file is seen to be too long. */
+    static uint8_t ticket[NULDWICH_TICKET_BYTES + 1];
+    if (argc != 2) {
+        fprintf(stderr, "usage: %s TICKET\n", argv[0]);
+        return 2;
+    }
+    FILE *file = fopen(argv[1], "rb");
+    if (file == NULL) {
+        perror(argv[1]);
+        return 2;
+    }
+    size_t ticket_len = fread(ticket, 1, sizeof ticket, file);
+    fclose(file);
+    check_and_judge(ticket, ticket_len);
+    return 0;
+}

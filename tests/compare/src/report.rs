@@ -1,0 +1,80 @@
+//! Counting of outcomes and printing of differences.
+
+use std::collections::BTreeMap;
+use std::process::ExitCode;
+
+/// How many differences are printed in full.
+const PRINTED: usize = 5;
+
+/// Outcomes counted by label, and inputs passed and failed.
+#[derive(Default)]
+pub struct Report {
+    outcomes: BTreeMap<String, usize>,
+    pub passed: usize,
+    pub failed: usize,
+}
+
+impl Report {
+    /// Counts one input under the outcome that the reference gives.
+    pub fn count(&mut self, outcome: String, difference: Option<String>) {
+        *self.outcomes.entry(outcome).or_insert(0) += 1;
+        match difference {
+            None => self.passed += 1,
+            Some(text) => self.fail(&text),
+        }
+    }
+
+    /// Counts a failure; the first few are printed.
+    pub fn fail(&mut self, text: &str) {
+        self.failed += 1;
+        if self.failed <= PRINTED {
+            println!("{text}");
+        }
+    }
+
+    /// How many inputs had an outcome whose label starts so.
+    pub fn counted(&self, start: &str) -> usize {
+        self.outcomes.iter().filter(|(label, _)| label.starts_with(start)).map(|(_, count)| count).sum()
+    }
+
+    /// The run itself is at fault when an outcome that it is meant to reach was not met.
+    pub fn demand_met(&mut self, outcomes: &[String]) {
+        for outcome in outcomes {
+            if !self.outcomes.contains_key(outcome) {
+                self.fail(&format!("no input has the outcome: {outcome}"));
+            }
+        }
+    }
+
+    /// All inputs counted so far.
+    pub fn total(&self) -> usize {
+        self.outcomes.values().sum()
+    }
+
+    /// Prints how often each outcome was met.
+    pub fn print_outcomes(&self, title: &str) {
+        println!("{title}: {} inputs", self.total());
+        for (label, count) in &self.outcomes {
+            let share = 100.0 * *count as f64 / self.total() as f64;
+            println!("  {label:<18} {count:>7}  {share:5.1} %");
+        }
+    }
+}
+
+/// The label of a refusal.
+pub fn refused(number: u64) -> String {
+    format!("refused {number:>2}")
+}
+
+/// The last line of a run and its exit status.
+pub fn finish(reports: &[Report]) -> ExitCode {
+    let passed: usize = reports.iter().map(|report| report.passed).sum();
+    let failed: usize = reports.iter().map(|report| report.failed).sum();
+    println!("{passed} passed, {failed} failed");
+    ExitCode::from(u8::from(failed > 0))
+}
+
+/// Bytes in hexadecimal.
+pub fn hex(bytes: &[u8]) -> String {
+    bytes.iter().map(|byte| format!("{byte:02x}")).collect()
+}

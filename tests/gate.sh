@@ -1,0 +1,43 @@
+#!/usr/bin/env bash
+# The whole gate: `rt ci` over every listed crate, then the executed tests. The last line counts both.
+set -u
+cd "$(dirname "$0")/.."
+export CARGO_TARGET_DIR="$PWD/target/tests" NULDWICH_LIB_DIR="$PWD/target/staticlib"
+log=$(mktemp)
+trap 'rm -f "$log"' EXIT
+passed=0 failed=0
+
+# Runs a command whose last line is 'N passed, M failed' and adds it up; anything else is one failure.
+counted() {
+    "$@" 2>&1 | tee "$log"
+    local status=${PIPESTATUS[0]} good=0 bad=1
+    if [[ $(tail -n 1 "$log") =~ ^([0-9]+)\ passed,\ ([0-9]+)\ failed$ ]]; then
+        good=${BASH_REMATCH[1]} bad=${BASH_REMATCH[2]}
+        [ "$status" -eq 0 ] || [ "$bad" -gt 0 ] || bad=1
+    fi
+    passed=$((passed + good)) failed=$((failed + bad))
+}
+
+# Runs a command that passes by its exit status: one test.
+single() {
+    if "$@"; then
+        passed=$((passed + 1))
+    else
+        echo "failed: $*"
+        failed=$((failed + 1))
+    fi
+}
+
+build() {
+    cargo build --quiet --release --offline --locked --manifest-path tests/Cargo.toml "$@"
+}
+
+counted rt ci
+if [ "$failed" -eq 0 ]; then
+    single cargo test --quiet --release --offline --locked --manifest-path tests/Cargo.toml -p nuldwich_reference
+    single build -p compare --bin compare_self
+    counted "$CARGO_TARGET_DIR/release/compare_self"
+fi
+
+echo "$passed passed, $failed failed"
+[ "$failed" -eq 0 ]

@@ -1,0 +1,118 @@
+//! Checking: a whole ticket to its verdict or refusal.
+
+use crate::answer::{write_answer, Answer};
+use crate::derivation::Derivation;
+use crate::leaf::{read_model, strings_of};
+use crate::question::Question;
+use crate::records::{record_at, u16_at, Record};
+use crate::steps::read_step;
+use crate::{demand, Refusal};
+
+/// The least number of signed 64-bit numbers in the work area.
+pub const WORK_AREA: usize = 6_400;
+
+/// The least number of bytes in the answer buffer.
+pub const ANSWER_BUFFER: usize = 4_268;
+
+/// "a ticket has at most 32,768 bytes"
+pub const LONGEST_TICKET: usize = 32_768;
+
+/// What checking answers.
+#[derive(Clone, Debug, PartialEq)]
+pub enum Outcome {
+    Refused { number: Refusal, record: usize },
+    NoSolution,
+    Strings { answer: Vec<u8> },
+}
+
+/// What has been read of a ticket.
+struct Ticket {
+    question: Question,
+    claim: u16,
+    derivation: Option<Derivation>,
+    answer: Option<Vec<u8>>,
+}
+
+/// "Checking names the first faulty record from 0 (0 for 1 and 2)."
+pub fn check(ticket: &[u8], work_len: usize, answer_len: usize) -> Outcome {
+    if work_len < WORK_AREA || answer_len < ANSWER_BUFFER {
+        return Outcome::Refused { number: 1, record: 0 };
+    }
+    if ticket.len() > LONGEST_TICKET {
+        return Outcome::Refused { number: 2, record: 0 };
+    }
+    check_records(ticket)
+}
+
+/// "Records are read one after another from the lent bytes."
+fn check_records(bytes: &[u8]) -> Outcome {
+    let mut ticket = Ticket { question: Question::default(), claim: 0, derivation: None, answer: None };
+    let mut start = 0;
+    for number in 0.. {
+        let Some(record) = record_at(bytes, start) else {
+            return Outcome::Refused { number: 3, record: number };
+        };
+        if let Err(refusal) = ticket.take(&record, bytes.len()) {
+            return Outcome::Refused { number: refusal, record: number };
+        }
+        if record.kind == 8 {
+            break;
+        }
+        start = record.end;
+    }
+    match ticket.answer {
+        Some(answer) => Outcome::Strings { answer },
+        None => Outcome::NoSolution,
+    }
+}
+
+impl Ticket {
+    /// Takes one whole record; 4 to 14 in this order.
+    fn take(&mut self, record: &Record, ticket_length: usize) -> Result<(), Refusal> {
+        match record.kind {
+            5 => self.take_claim(record.body),
+            6 => self.take_step(record.body),
+            7 => self.take_model(record.body),
+            8 => self.take_end(record.body, record.end < ticket_length),
+            _ if self.claim != 0 => Err(4),
+            kind => self.question.take(kind, record.body),
+        }
+    }
+
+    /// "5 claim, once: u16, 1 for no solution, 2 for strings."
+    fn take_claim(&mut self, body: &[u8]) -> Result<(), Refusal> {
+        demand(self.question.has_head() && self.claim == 0, 4)?;
+        demand(body.len() == 2, 5)?;
+        self.claim = u16_at(body, 0);
+        demand(self.claim == 1 || self.claim == 2, 6)?;
+        self.derivation = Some(Derivation::new(&self.question));
+        Ok(())
+    }
+
+    /// "6 step: u16 rule, u16 child, operands"; "a step follows the last closed branch" is 4.
+    fn take_step(&mut self, body: &[u8]) -> Result<(), Refusal> {
+        let derivation = self.derivation.as_mut().ok_or(4u64)?;
+        demand(self.answer.is_none() && !derivation.closed, 4)?;
+        let step = read_step(&self.question, self.claim, body)?;
+        derivation.take(&self.question, self.claim, &step)
+    }
+
+    /// "7 model, claim 2 only, once".
+    fn take_model(&mut self, body: &[u8]) -> Result<(), Refusal> {
+        let derivation = self.derivation.as_ref().ok_or(4u64)?;
+        demand(self.claim == 2 && self.answer.is_none(), 4)?;
+        let model = read_model(&self.question, body)?;
+        let integers = model[..self.question.q].to_vec();
+        let strings = strings_of(&self.question, &derivation.branch, model)?;
+        self.answer = Some(write_answer(&Answer { strings, integers }));
+        Ok(())
+    }
+
+    /// "8 end, empty"; "11 when the end comes before every branch closed, or before a model".
+    fn take_end(&self, body: &[u8], bytes_follow: bool) -> Result<(), Refusal> {
+        let derivation = self.derivation.as_ref().ok_or(4u64)?;
+        demand(!bytes_follow, 4)?;
+        demand(body.is_empty(), 5)?;
+        demand(derivation.closed || self.answer.is_some(), 11)
+    }
+}

@@ -1,0 +1,89 @@
+//! The walk over the steps: the branch, the pending splits, and the limits 8 to 10.
+
+use crate::classes::Classes;
+use crate::facts::Fact;
+use crate::question::{Question, MOST_FACTS};
+use crate::rules::{Conclusion, Place};
+use crate::steps::Step;
+use crate::{demand, Refusal};
+
+/// "at most 64 splits have children pending, that is, not yet begun"
+pub const MOST_PENDING: usize = 64;
+
+/// A split with children not yet begun, and the number of facts at its mark.
+#[derive(Clone)]
+pub struct Split {
+    mark: usize,
+    waiting: Vec<Vec<Fact>>,
+}
+
+/// The branch where the next step stands.
+#[derive(Clone)]
+pub struct Derivation {
+    pub branch: Vec<Fact>,
+    pub pending: Vec<Split>,
+    pub closed: bool,
+}
+
+impl Derivation {
+    /// "Its constraints are facts 0, 1 and on."
+    pub fn new(question: &Question) -> Derivation {
+        Derivation { branch: question.constraints.clone(), pending: Vec::new(), closed: false }
+    }
+
+    /// Takes one step: 8, 9 and 10, in this order.
+    pub fn take(&mut self, question: &Question, claim: u16, step: &Step) -> Result<(), Refusal> {
+        let classes = Classes::of(question, &self.branch);
+        let place = Place { question, branch: &self.branch, classes: &classes };
+        match (place.conclude(&step.rule), claim) {
+            (None, _) => Err(8),
+            (Some(Conclusion::Closes), 1) => {
+                self.close();
+                Ok(())
+            }
+            (Some(Conclusion::Closes), _) => Err(8),
+            (Some(Conclusion::Children(children)), 1) => self.split(children),
+            (Some(Conclusion::Children(children)), _) => self.follow(&children[step.child - 1]),
+        }
+    }
+
+    /// "a closed branch is cut back to the mark of its last pending split"
+    fn close(&mut self) {
+        let Some(mut split) = self.pending.pop() else {
+            self.closed = true;
+            return;
+        };
+        self.branch.truncate(split.mark);
+        self.branch.extend(split.waiting.remove(0));
+        if !split.waiting.is_empty() {
+            self.pending.push(split);
+        }
+    }
+
+    /// "Under claim 1 all children of a split are tried for 9 and 10 at the split's own record."
+    fn split(&mut self, mut children: Vec<Vec<Fact>>) -> Result<(), Refusal> {
+        demand(children.iter().flatten().all(Fact::within_limit), 9)?;
+        let room = children.iter().all(|child| self.has_room(child));
+        let pends = children.len() > 1;
+        demand(room && !(pends && self.pending.len() == MOST_PENDING), 10)?;
+        let first = children.remove(0);
+        if pends {
+            self.pending.push(Split { mark: self.branch.len(), waiting: children });
+        }
+        self.branch.extend(first);
+        Ok(())
+    }
+
+    /// "under claim 2 only the one taken"
+    fn follow(&mut self, child: &[Fact]) -> Result<(), Refusal> {
+        demand(child.iter().all(Fact::within_limit), 9)?;
+        demand(self.has_room(child), 10)?;
+        self.branch.extend_from_slice(child);
+        Ok(())
+    }
+
+    /// "At most 128 facts stand on a branch."
+    fn has_room(&self, child: &[Fact]) -> bool {
+        self.branch.len() + child.len() <= MOST_FACTS
+    }
+}

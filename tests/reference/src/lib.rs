@@ -1,0 +1,32 @@
+//! A simple reference checker and judge of solver tickets, written from document 01 and from nothing else.
+//!
+//! It is meant to be read beside document 01: lists, `i128` and no cleverness. Quoted words are those of document 01.
+
+pub mod answer;
+pub mod checking;
+pub mod classes;
+pub mod derivation;
+pub mod facts;
+pub mod judging;
+pub mod leaf;
+pub mod program;
+pub mod question;
+pub mod records;
+pub mod rules;
+pub mod steps;
+
+pub use checking::{check, Outcome};
+pub use judging::{judge, Judgement};
+pub use program::program;
+
+/// The number of a refusal, 1 to 16.
+pub type Refusal = u64;
+
+/// Passes when `good`, else refuses with `number`.
+pub fn demand(good: bool, number: Refusal) -> Result<(), Refusal> {
+    if good {
+        Ok(())
+    } else {
+        Err(number)
+    }
+}
