@@ -85,6 +85,13 @@ formed-model b u ok [] ts h = absurd h
 formed-model b u ok (at ∷ ats) [] h = h .0 .holds
 formed-model b u ok (at ∷ ats) (t ∷ ts) h = formed-model b u ok ats ts (h .1)
 
+-- and within its range
+pub formed-within : (b : List ℕ) (u : Question) (ok : Step → ℕ → Bool) (ats : List ℕ) (ts : List (Step × ℕ)) (m : List ℤ) → Formed b u ok ats ts (some m) → allWithin m ≡ true
+unfolding Formed
+formed-within b u ok [] ts m h = absurd h
+formed-within b u ok (at ∷ ats) [] m h = ap allWithin (h .0 .holds) ∙ h .0 .values
+formed-within b u ok (at ∷ ats) (t ∷ ts) m h = formed-within b u ok ats ts m (h .1)
+
 -- ---- the method's part
 
 -- "Under claim 1 the child field is 0", "under claim 2 it is the child taken"

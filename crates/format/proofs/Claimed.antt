@@ -59,7 +59,7 @@ claim-headed b last at later e =
     leb-true 1 last (and-true (leb 1 last) (eqb (kind b at) 5) (none-applies 3 placed later (none-applies 2 (whole b at) (need 4 placed later) e .1) .0) .0)
 
 -- the claim stands behind a head
-claimed-headed : {b : List ℕ} {u : Question} (c : Claimed b (questionForm b) u) → 1 ≤ c .last
+pub claimed-headed : {b : List ℕ} {u : Question} (c : Claimed b (questionForm b) u) → 1 ≤ c .last
 claimed-headed {b} c = claim-headed b (c .last) (c .position) (need 5 (eqb (size b (c .position)) 2) (need 6 (leb 1 (claimAt b (c .position)) && leb (claimAt b (c .position)) 2) 0)) (c .claim-formed)
 
 pub claimed-in-range : {b : List ℕ} {u : Question} → Claimed b (questionForm b) u → QuestionInRange u

@@ -31,6 +31,7 @@ not-empty b at k h e = omega (arith, ap length e, length-u32s b at k)
 -- what the numbers 4 to 7 leave of a question
 pub record QuestionInRange (u : Question) : Type 0 where
   pub head : HeadInRange u
+  pub characters : u .n ≤ alphabetLimit
   pub constraints : FactsInRange u (u .constraints)
   pub literals-differ : Distinct ([] ∷ u .literals)
   pub literals-over : All (Over (u .n)) (u .literals)
@@ -39,7 +40,8 @@ head-in-range : (b : List ℕ) (at m : ℕ) → headFault b at m ≡ 0 → Quest
 head-in-range b at m e =
     let t6 = none-applies _ _ _ (none-applies 4 (eqb m 8) (need 6 (headRange b at) 0) e .1) .0 in
     let (n, rest) = and-true (leb 1 (u32 b at)) (leb (u32 b at) alphabetLimit && (leb (u16 b (at + 4)) variableLimit && leb (u16 b (at + 6)) variableLimit)) t6 in
-    let (p, q) = and-true (leb (u16 b (at + 4)) variableLimit) (leb (u16 b (at + 6)) variableLimit) (and-true (leb (u32 b at) alphabetLimit) _ rest .1) in
+    let (c, few) = and-true (leb (u32 b at) alphabetLimit) (leb (u16 b (at + 4)) variableLimit && leb (u16 b (at + 6)) variableLimit) rest in
+    let (p, q) = and-true (leb (u16 b (at + 4)) variableLimit) (leb (u16 b (at + 6)) variableLimit) few in
     record {
       head = record {
         alphabet = leb-true _ _ n;
@@ -47,6 +49,7 @@ head-in-range b at m e =
         integers = leb-true _ _ q;
         literals = omega arith;
       };
+      characters = leb-true _ _ c;
       constraints = tt;
       literals-differ = (tt, tt);
       literals-over = tt;
@@ -74,6 +77,7 @@ literal-in-range b u at m d few e =
         integers = d .head .integers;
         literals = omega (arith, length-append (u .literals) (textOf b at m ∷ []));
       };
+      characters = d .characters;
       constraints = all-map (u .constraints) (still-in-range u (textOf b at m)) (d .constraints);
       literals-differ = distinct-snoc s ([] ∷ u .literals) (d .literals-differ) (new one (a7 .0));
       literals-over = all-append (Over (u .n)) (u .literals) (textOf b at m ∷ []) (d .literals-over) (over→ (u .n) (textOf b at m) (true→ (a6 .0)), tt);
@@ -98,6 +102,7 @@ fact-in-range u f d h = record {
     integers = d .head .integers;
     literals = d .head .literals;
   };
+  characters = d .characters;
   constraints = all-append (FactInRange (withFact u f)) (u .constraints) (f ∷ []) (all-map (u .constraints) (same-range u f) (d .constraints)) (same-range u f f h, tt);
   literals-differ = d .literals-differ;
   literals-over = d .literals-over;

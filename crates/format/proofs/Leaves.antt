@@ -1,13 +1,15 @@
 -- None of 12 to 14 applies to a leaf and its model exactly when demand 3 accepts them, and then the strings and integers meet every fact of the leaf.
-use Prim.Native.Nat.{ℕ, _+_}
-use mathlib.Core.Path.{_≡_, refl, _∙_, ap₂}
+use Prim.Native.Nat.{ℕ, _+_, _<_, _≤_}
+use mathlib.Core.Path.{_≡_, refl, sym, _∙_, ap₂, subst}
 use mathlib.Core.Bool.{Bool, true, _&&_}
 use mathlib.Core.List.{List, [], _∷_}
 use lib.ListN.{length}
 use lib.Dec.{T, leb}
 use lib.IntN.{ℤ, pos, negsuc, natAbs}
 use lib.Signed.{_≤ℤ_}
+use Rattle.integers.proofs.Laws.{≤ℤ-pos}
 use Rattle.lists.specs.Lists.{All}
+use Rattle.lists.proofs.Lists.{getD-all}
 use Rattle.lists.proofs.Tests.{→true, true→}
 use Rattle.calculus.specs.Limits.{lengthLimit}
 use Rattle.calculus.specs.Facts.{Question, Fact, same, apart, isLiteral, arithmetic, Branch, holds, len}
@@ -81,3 +83,9 @@ module _ (u : Question) (q : QuestionInRange u) (b : Branch) (r : FactsInRange u
   -- the strings and integers
   pub accepted-answers : length m ≡ u .q + (u .p + u .p) → AcceptedLeaf u b m → Answers u b m (answerOf u b m)
   accepted-answers size a = strings-answer u (q .head) (q .literals-differ) (q .literals-over) b r m size (a .met) (a .saturated)
+
+  -- no string is longer than 64
+  pub short-strings : AcceptedLeaf u b m → Answers u b m (answerOf u b m) → All (λ s. length s ≤ lengthLimit) (answerOf u b m .strs)
+  short-strings a g = getD-all (λ s. length s ≤ lengthLimit) (answerOf u b m .strs) [] (λ x h.
+      let below : x < u .p = subst (λ k. x < k) (g .for-question .strings) h in
+      ≤ℤ-pos (subst (λ z. z ≤ℤ pos lengthLimit) (sym (g .values len x below)) (a .short x below)))

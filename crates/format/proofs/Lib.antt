@@ -21,4 +21,5 @@ pub mod Demands
 pub mod RecordFaults
 pub mod Sums
 pub mod Encoded
+pub mod ReadBack
 pub mod Cases

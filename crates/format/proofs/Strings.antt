@@ -1,32 +1,37 @@
 -- TH-5 and TH-6: where checking gives strings, they meet every constraint and differ wherever the leaf's classes differ; and in proper form, within the limits and every step proper, they are given exactly when demand 3 accepts the leaf.
 use Prim.Native.Nat.{ℕ, _+_, _≤_}
 use native.Mathlib.Omega.{arith}
-use mathlib.Core.Path.{_≡_, sym, _∙_, ap, ap₂, subst}
+use mathlib.Core.Path.{_≡_, refl, sym, _∙_, ap, ap₂, subst}
 use mathlib.Core.Bool.{true, false}
 use mathlib.Core.Option.{some}
 use mathlib.Core.List.{List, [], _∷_, _++_}
-use lib.ListN.{length, getD}
+use lib.ListN.{length, getD, take}
 use lib.IntN.{ℤ}
-use Rattle.calculus.specs.Limits.{factLimit}
+use Rattle.lists.proofs.Every.{every-take}
+use Rattle.calculus.specs.Limits.{answerBytes, valueLimit, factLimit}
 use Rattle.calculus.specs.Facts.{Question, Fact, Branch}
 use Rattle.calculus.specs.Steps.{Step}
 use Rattle.calculus.specs.Walk.{working}
 use Rattle.calculus.specs.Meaning.{Assignment, Met}
 use Rattle.calculus.proofs.Sound.{met-left}
 use Rattle.calculus.proofs.Walks.{Followed, followed→path, path→followed, leaf-in-range}
+use Rattle.format.specs.Fields.{within}
 use Rattle.format.specs.Records.{next, records}
 use Rattle.format.specs.Question.{columnCount}
-use Rattle.format.specs.Answer.{encode}
+use Rattle.format.specs.Answer.{encode, allWithin}
 use Rattle.format.specs.Reading.{State, taking, modelled, modelAt}
 use Rattle.format.specs.Checking.{Strings, verdict, checker, leafFault, accepted, answerOf}
 use Rattle.format.specs.ProperForm.{former, ProperStrings, takenSteps}
+use Rattle.format.specs.Judging.{judging}
 use Rattle.format.specs.Demands.{TH-5, TH-6}
 use Rattle.format.proofs.Fields.{length-i32s}
-use Rattle.format.proofs.Behind.{Taken, formed-model, proving-no-model, taking-models}
+use Rattle.format.proofs.Behind.{Taken, formed-model, formed-within, proving-no-model, taking-models}
 use Rattle.format.proofs.Claimed.{behindClaim, claimed-asked, claimed-in-range}
 use Rattle.format.proofs.Tickets.{childFits, Holding, steps-in-range, ReadAs, proper→, verdict→, →verdict}
 use Rattle.format.proofs.Checker.{proved→walked, taken→reached, followed→taken}
-use Rattle.format.proofs.Leaves.{unfaulted→accepted, accepted→unfaulted, accepted-answers}
+use Rattle.format.proofs.Leaves.{unfaulted→accepted, accepted→unfaulted, accepted-answers, short-strings}
+use Rattle.format.proofs.Encoded.{encode-short}
+use Rattle.format.proofs.ReadBack.{judging-back}
 
 -- ---- the model and the leaf are determined by the bytes
 
@@ -36,6 +41,12 @@ model-is {b} {u} h = formed-model b u (childFits u false) (behindClaim (h .claim
 -- a value for each column
 model-size : {b : List ℕ} {u : Question} {m : List ℤ} → Holding b u false (some m) → length m ≡ columnCount u
 model-size {b} {u} h = ap length (model-is h) ∙ length-i32s b (getD (behindClaim (h .claimed)) (length (takenSteps b)) 0 + 6) (columnCount u)
+
+-- the integers lie within ±100,000,000
+integers-within : {b : List ℕ} {u : Question} {m : List ℤ} → Holding b u false (some m) → allWithin (take (u .q) m) ≡ true
+unfolding allWithin
+integers-within {b} {u} {m} h =
+    every-take (within valueLimit) allWithin refl (λ z zs. refl) m (u .q) (formed-within b u (childFits u false) (behindClaim (h .claimed)) (takenSteps b) m (h .formed))
 
 one-model : {b : List ℕ} {u : Question} {m v : List ℤ} → Holding b u false (some m) → Holding b u false (some v) → m ≡ v
 one-model {b} {u} h g =
@@ -97,14 +108,19 @@ strings-hold work answer t out e =
     let q = claimed-in-range (k .held .claimed) in
     let path = followed→path u (q .head) (takenSteps t) (u .constraints) (k .leaf) (q .constraints) (steps-in-range (k .held)) (k .followed) in
     let r = leaf-in-range u (q .head) (takenSteps t) (u .constraints) (k .leaf) (q .constraints) (steps-in-range (k .held)) path in
-    let a = accepted-answers u q (k .leaf) r (k .model) (model-size (k .held)) (unfaulted→accepted u q (k .leaf) r (k .model) (k .no-fault)) in (
+    let l = unfaulted→accepted u q (k .leaf) r (k .model) (k .no-fault) in
+    let a = accepted-answers u q (k .leaf) r (k .model) (model-size (k .held)) l in
+    let given : Assignment = answerOf u (k .leaf) (k .model) in
+    let short = short-strings u q (k .leaf) r (k .model) l a in (
       u,
       record {
         asked = claimed-asked (k .held .claimed);
-        assignment = answerOf u (k .leaf) (k .model);
+        assignment = given;
         for-question = a .for-question;
         bytes = k .bytes;
-        meets-all = met-before u (answerOf u (k .leaf) (k .model)) (u .constraints) (k .leaf) (takenSteps t) (k .followed) (a .met);
+        read-back = ap (judging t) (k .bytes) ∙ judging-back t u given (k .held .claimed) (k .few) (a .for-question) short (integers-within (k .held));
+        room = subst (λ o. length o ≤ answerBytes) (sym (k .bytes)) (encode-short given (omega (arith, a .for-question .strings, q .head .strings)) short (omega (arith, a .for-question .integers, q .head .integers)));
+        meets-all = met-before u given (u .constraints) (k .leaf) (takenSteps t) (k .followed) (a .met);
         leaf = k .leaf;
         path = path;
         differ = a .differ;

@@ -1,6 +1,6 @@
 -- The demands as statements about bytes. TH-1 is what checking promises of its result and the lent buffers; TH-2 to TH-6 are theorems about
 -- the definitions, for every byte list.
-use Prim.Native.Nat.{ℕ, _<_}
+use Prim.Native.Nat.{ℕ, _<_, _≤_}
 use mathlib.Core.Path.{_≡_}
 use mathlib.Core.Bool.{true}
 use mathlib.Core.Logic.{_≢_}
@@ -9,6 +9,7 @@ use mathlib.Core.List.{List, [], _++_}
 use lib.ListN.{length, drop, replicate, getElem?}
 use lib.Dec.{eqb}
 use lib.IntN.{ℤ, pos}
+use Rattle.calculus.specs.Limits.{answerBytes}
 use Rattle.calculus.specs.Facts.{Question, Fact, Branch}
 use Rattle.calculus.specs.Chains.{OneClass}
 use Rattle.calculus.specs.Derivations.{Closes, WithinLimits, Path, PathWithinLimits}
@@ -79,6 +80,10 @@ pub record Answered (t : List ℕ) (u : Question) (out : List ℕ) : Type 0 wher
   pub assignment : Assignment
   pub for-question : For u assignment
   pub bytes : out ≡ encode assignment
+  -- judging reads these very values from the bytes
+  pub read-back : judging t out ≡ Judged u assignment
+  -- "at most 4,268 bytes"
+  pub room : length out ≤ answerBytes
   pub meets-all : Met u assignment (u .constraints)
   pub leaf : Branch
   pub path : Path u (u .constraints) (takenSteps t) leaf

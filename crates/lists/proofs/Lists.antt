@@ -154,3 +154,7 @@ pub all-getD : {A : Type 0} (P : A → Type 0) (xs : List A) (i : ℕ) (d : A) �
 all-getD P [] i d p h = p
 all-getD P (x ∷ xs) zero d p h = h .0
 all-getD P (x ∷ xs) (suc i) d p h = all-getD P xs i d p (h .1)
+
+pub getD-all : {A : Type 0} (P : A → Type 0) (xs : List A) (d : A) → ((i : ℕ) → i < length xs → P (getD xs i d)) → All P xs
+getD-all P [] d h = tt
+getD-all P (x ∷ xs) d h = (h 0 (omega arith), getD-all P xs d (λ i g. h (suc i) (omega arith)))
