@@ -35,8 +35,9 @@ build() {
 counted rt ci
 if [ "$failed" -eq 0 ]; then
     single cargo test --quiet --release --offline --locked --manifest-path tests/Cargo.toml -p nuldwich_reference
-    single build -p compare --bin compare_self
-    counted "$CARGO_TARGET_DIR/release/compare_self"
+    single rt staticlib nuldwich
+    single build -p compare --bin compare_judge --features judge
+    counted "$CARGO_TARGET_DIR/release/compare_judge"
 fi
 
 echo "$passed passed, $failed failed"

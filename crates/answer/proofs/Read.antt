@@ -1,30 +1,28 @@
 -- The answer's records, one after another: what each test says of the form and the ranges.
-use Prim.Native.Nat.{ℕ, zero, suc, _+_, _*_, _-_, _/_, _%_, _≤_, _<_}
-use native.Mathlib.Numerals.{add-one}
+use Prim.Native.Nat.{ℕ, zero, suc, _+_, _*_, _-_, _%_, _≤_, _<_}
 use native.Mathlib.Omega.{arith}
-use mathlib.Core.Path.{_≡_, refl, sym, _∙_, ap, ap₂, subst}
+use mathlib.Core.Path.{_≡_, refl, sym, _∙_, ap}
 use mathlib.Core.Bool.{Bool, true, false, _&&_}
 use mathlib.Core.Option.{Option, none, some}
-use mathlib.Core.List.{List, [], _∷_, _++_, map}
+use mathlib.Core.List.{List}
 use lib.ListN.{length, getD, set}
 use lib.Seq.{getD-set-same, getD-set-other}
 use native.Mathlib.Decide.{decLt}
 use lib.Dec.{leb, eqb}
-use lib.IntN.{ℤ, pos, negsuc}
 use borrow.Author.Tests.{leb-true, eqb-true, le-leb, lt-leb}
 use Rattle.calculus.specs.Limits.{lengthLimit, valueLimit}
 use Rattle.calculus.specs.Alphabet.{allCharacters}
-use Rattle.calculus.specs.Facts.{Question, codeOf}
-use Rattle.format.specs.Fields.{pick, u32, u32s, i32, i32s, within}
-use Rattle.format.specs.Records.{size, kind, next, headed, whole}
+use Rattle.calculus.specs.Facts.{Question}
+use Rattle.format.specs.Fields.{i32, i32s, within}
+use Rattle.format.specs.Records.{size, kind, next, whole}
 use Rattle.format.specs.Places.{skip}
-use Rattle.format.specs.Answer.{answerForm, stringAt, integersAt, stringsAt, allWithin, outside}
+use Rattle.format.specs.Answer.{answerForm, stringAt, integersAt, allWithin, outside}
 use Rattle.format.proofs.Faults.{and-true}
 use Rattle.format.proofs.Places.{skip-room}
 use Rattle.records.specs.declared.Found.the-variants.{Whole, Cut, Nothing}
 use Rattle.records.specs.Found.{foundAt}
 use Rattle.records.proofs.Finding.{found-nothing, found-cut, found-whole}
-use Rattle.answer.specs.Form.{recordIs, stringForm, asking}
+use Rattle.answer.specs.Form.{recordIs, stringForm}
 
 -- ---- what was found at a position
 

@@ -14,7 +14,7 @@ use Rattle.calculus.specs.Limits.{variableLimit, lengthLimit, answerBytes}
 use Rattle.lists.proofs.Lists.{all-append}
 use Rattle.format.specs.Fields.{bytesOf, unsigned}
 use Rattle.format.specs.Answer.{recordBytes, characterBytes, integerBytes, stringRecords, encode}
-use Rattle.format.proofs.Encoded.{length-bytes, length-characters, characters-append, length-integers, integers-append, length-record, records-snoc, length-encode, encode-short}
+use Rattle.format.proofs.Encoded.{length-bytes, length-characters, characters-append, length-integers, integers-append, length-record, records-snoc, encode-short}
 use Rattle.answer.specs.Table.{row, tableStrings, tableAnswer, Table, Integers}
 
 -- a turn of the loop that writes the items of a list, 4 bytes each

@@ -130,7 +130,7 @@ pub floor-same : (z : ℤ) (d : ℕ) → floorDiv z d ≡ floorZ z d
 floor-same (pos a) d = refl
 floor-same (negsuc a) d = refl
 
-length-divRow : (a : List ℤ) (d : ℕ) → length (divRow a d) ≡ length a
+pub length-divRow : (a : List ℤ) (d : ℕ) → length (divRow a d) ≡ length a
 length-divRow [] d = refl
 length-divRow (x ∷ a) d = ap suc (length-divRow a d)
 

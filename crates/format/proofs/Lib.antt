@@ -19,6 +19,7 @@ pub mod Proper
 pub mod Judged
 pub mod Demands
 pub mod RecordFaults
+pub mod Pairs
 pub mod Sums
 pub mod Encoded
 pub mod ReadBack

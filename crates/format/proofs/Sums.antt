@@ -1,15 +1,15 @@
 -- The value of a form that is read: its constant, and each coefficient times the value of its column.
 use Prim.Native.Nat.{ℕ, zero, suc, _+_, _-_, _≤_, _<_}
 use native.Mathlib.Omega.{arith}
-use mathlib.Core.Path.{_≡_, refl, sym, _∙_, ap, ap₂}
+use mathlib.Core.Path.{_≡_, refl, sym, _∙_, ap}
 use mathlib.Core.Bool.{true, _&&_}
 use mathlib.Core.List.{List, [], _∷_}
-use lib.ListN.{length, getD, set, length-set, length-replicate}
+use lib.ListN.{length, getD, set, length-set}
 use lib.Seq.{getD-set-other}
 use lib.Dec.{ltb, leb}
-use lib.IntN.{ℤ, pos, natAbs, _+ℤ_, _*ℤ_, +ℤ-idl, +ℤ-idr, +ℤ-assoc, +ℤ-comm, *ℤ-zero, zero-*ℤ}
+use lib.IntN.{ℤ, pos, natAbs, _+ℤ_, _*ℤ_, +ℤ-idl, +ℤ-idr, +ℤ-assoc, *ℤ-zero, zero-*ℤ}
 use borrow.Author.Tests.{ltb-true, leb-true}
-use Rattle.integers.proofs.Ring.{v, _⊕_, _⊗_, ring}
+use Rattle.integers.proofs.Ring.{v, _⊕_, ring}
 use Rattle.calculus.specs.Limits.{columnLimit, numberLimit}
 use Rattle.calculus.specs.Rows.{zeros, dot}
 use Rattle.calculus.proofs.Rows.{dot-number}
@@ -18,9 +18,9 @@ use Rattle.format.specs.Question.{coefficientInRange, pairInRange, risin
 use Rattle.format.proofs.Faults.{and-true}
 
 -- over the values of the columns
-unfoldable pub sumOf : List ℤ → List (ℕ × ℤ) → ℤ
-sumOf vs [] = pos 0
-sumOf vs (t ∷ ts) = (t .1 *ℤ getD vs (t .0) (pos 0)) +ℤ sumOf vs ts
+unfoldable pub pairSum : List ℤ → List (ℕ × ℤ) → ℤ
+pairSum vs [] = pos 0
+pairSum vs (t ∷ ts) = (t .1 *ℤ getD vs (t .0) (pos 0)) +ℤ pairSum vs ts
 
 -- ---- a coefficient where there was none
 
@@ -43,7 +43,7 @@ pub record Ranged (c low : ℕ) (t : ℕ × ℤ) (ts : List (ℕ × ℤ)) : Type
   pub coefficient : natAbs (t .1) ≤ numberLimit
   pub rest : rising c (t .0 + 1) ts ≡ true
 
-ranged : (c low : ℕ) (t : ℕ × ℤ) (ts : List (ℕ × ℤ)) → rising c low (t ∷ ts) ≡ true → Ranged c low t ts
+pub ranged : (c low : ℕ) (t : ℕ × ℤ) (ts : List (ℕ × ℤ)) → rising c low (t ∷ ts) ≡ true → Ranged c low t ts
 unfolding rising
 ranged c low t ts e =
     let (p, rest) = and-true (pairInRange c low t) (rising c (t .0 + 1) ts) e in
@@ -57,8 +57,8 @@ ranged c low t ts e =
     }
 
 dot-fill : (ts : List (ℕ × ℤ)) (row vs : List ℤ) (c low : ℕ) → rising c low ts ≡ true → c ≤ length row → ((i : ℕ) → low ≤ i → getD row i (pos 0) ≡ pos 0)
-    → dot (fillRow row ts) vs ≡ dot row vs +ℤ sumOf vs ts
-unfolding fillRow sumOf
+    → dot (fillRow row ts) vs ≡ dot row vs +ℤ pairSum vs ts
+unfolding fillRow pairSum
 dot-fill [] row vs c low e h f = sym (+ℤ-idr (dot row vs))
 dot-fill (t ∷ ts) row vs c low e h f =
     let r = ranged c low t ts e in
@@ -66,8 +66,8 @@ dot-fill (t ∷ ts) row vs c low e h f =
     let x : ℤ = t .1 *ℤ getD vs (t .0) (pos 0) in
     dot-fill ts (set row (t .0) (t .1)) vs c (t .0 + 1) (r .rest) (omega (arith, length-set row (t .0) (t .1)))
     (λ i g. getD-set-other row (t .0) i (t .1) (pos 0) (λ d. omega arith) ∙ f i (omega (arith, r .low-enough)))
-    ∙ ap (λ (y : ℤ). y +ℤ sumOf vs ts) (dot-set row vs (t .0) (t .1) (omega (arith, r .column)) (f (t .0) (r .low-enough)))
-    ∙ ring (v (t .1 *ℤ getD vs (t .0) (pos 0)) ⊕ v (dot row vs) ⊕ v (sumOf vs ts)) (v (dot row vs) ⊕ (v (t .1 *ℤ getD vs (t .0) (pos 0)) ⊕ v (sumOf vs ts))) (omega arith)
+    ∙ ap (λ (y : ℤ). y +ℤ pairSum vs ts) (dot-set row vs (t .0) (t .1) (omega (arith, r .column)) (f (t .0) (r .low-enough)))
+    ∙ ring (v (t .1 *ℤ getD vs (t .0) (pos 0)) ⊕ v (dot row vs) ⊕ v (pairSum vs ts)) (v (dot row vs) ⊕ (v (t .1 *ℤ getD vs (t .0) (pos 0)) ⊕ v (pairSum vs ts))) (omega arith)
 
 zeros-at : (k i : ℕ) → getD (zeros k) i (pos 0) ≡ pos 0
 zeros-at zero i = refl
@@ -76,13 +76,13 @@ zeros-at (suc k) (suc i) = zeros-at k i
 
 -- a form in its ranges, where the columns have the values vs
 pub form-value : (b : List ℕ) (c at count : ℕ) (vs : List ℤ) → c ≤ columnLimit → formRange b c at count ≡ true
-    → dot (formOf b at count) (pos 1 ∷ vs) ≡ i32 b at +ℤ sumOf vs (pairsAt b (at + 4) count)
+    → dot (formOf b at count) (pos 1 ∷ vs) ≡ i32 b at +ℤ pairSum vs (pairsAt b (at + 4) count)
 form-value b c at count vs h e =
     let ts = pairsAt b (at + 4) count in
     let rises = and-true (within numberLimit (i32 b at)) (rising c 0 (pairsAt b (at + 4) count)) e .1 in
     ap (λ (y : ℤ). (i32 b at *ℤ pos 1) +ℤ y) (dot-fill ts (zeros columnLimit) vs c 0 rises h (λ i g. zeros-at columnLimit i))
-    ∙ sym (+ℤ-assoc (i32 b at *ℤ pos 1) (dot (zeros columnLimit) vs) (sumOf vs ts))
-    ∙ ap (λ (y : ℤ). y +ℤ sumOf vs ts) (dot-number vs (i32 b at))
+    ∙ sym (+ℤ-assoc (i32 b at *ℤ pos 1) (dot (zeros columnLimit) vs) (pairSum vs ts))
+    ∙ ap (λ (y : ℤ). y +ℤ pairSum vs ts) (dot-number vs (i32 b at))
 
 -- ---- the pairs in bytes, one by one
 
@@ -90,13 +90,13 @@ down : (k : ℕ) → suc k - 1 ≡ k
 down k = omega arith
 
 module _ (b : List ℕ) (at : ℕ) where
-  pub sum-done : (vs : List ℤ) (k : ℕ) → k ≤ 0 → sumOf vs (pairsAt b at k) ≡ pos 0
-  unfolding sumOf pairsAt
+  pub sum-done : (vs : List ℤ) (k : ℕ) → k ≤ 0 → pairSum vs (pairsAt b at k) ≡ pos 0
+  unfolding pairSum pairsAt
   sum-done vs zero h = refl
   sum-done vs (suc k) h = absurd (omega arith)
 
-  pub sum-more : (vs : List ℤ) (k : ℕ) → 0 < k → sumOf vs (pairsAt b at k) ≡ (i32 b (at + 2) *ℤ getD vs (u16 b at) (pos 0)) +ℤ sumOf vs (pairsAt b (at + 6) (k - 1))
-  unfolding sumOf pairsAt
+  pub sum-more : (vs : List ℤ) (k : ℕ) → 0 < k → pairSum vs (pairsAt b at k) ≡ (i32 b (at + 2) *ℤ getD vs (u16 b at) (pos 0)) +ℤ pairSum vs (pairsAt b (at + 6) (k - 1))
+  unfolding pairSum pairsAt
   sum-more vs zero h = absurd (omega arith)
   sum-more vs (suc k) h = rw (down k)
 

@@ -4,11 +4,11 @@ use native.Mathlib.Numerals.{add-one}
 use native.Mathlib.Omega.{arith}
 use native.Mathlib.Decide.{decLt}
 use mathlib.Core.Path.{_≡_, refl, sym, _∙_, ap, ap₂}
-use mathlib.Core.Option.{Option, none, some}
+use mathlib.Core.Option.{none, some}
 use mathlib.Core.List.{List, [], _∷_, _++_}
 use lib.ListN.{length, getD, take, drop, getElem?, length-append, length-take, length-drop}
 use lib.Seq.{take-append-le, take-all, take-at, drop-at, take-take, length-take-le, getD-take, getD-drop}
-use lib.IntN.{ℤ, pos}
+use lib.IntN.{ℤ}
 use Rattle.calculus.specs.Facts.{Fact}
 use Rattle.lists.proofs.Filled.{drop-take}
 use Rattle.rows.specs.Rows.{rowLength, factOf, rowAt, branchOf}

@@ -1,13 +1,12 @@
 -- Numbers within the limit: what the tests say of them, and what the machine asks.
-use Prim.Native.Nat.{ℕ, zero, suc, _+_, _*_, _≤_, _<_}
+use Prim.Native.Nat.{ℕ, zero, suc, _+_, _≤_, _<_}
 use native.Mathlib.Omega.{arith}
 use mathlib.Core.Path.{_≡_, refl, sym, _∙_, ap, ap₂, subst}
-use mathlib.Core.Bool.{Bool, true, false, _&&_}
+use mathlib.Core.Bool.{true, _&&_}
 use mathlib.Core.Option.{some}
 use mathlib.Core.List.{List, [], _∷_, _++_}
 use borrow.Author.Tests.{leb-true}
 use lib.ListN.{length, getD, drop, getElem?}
-use lib.Dec.{T}
 use lib.IntN.{ℤ, pos, negsuc, negℤ, natAbs, _+ℤ_, _-ℤ_, _*ℤ_, +ℤ-idl, +ℤ-comm}
 use mir.Syntax.{w64}
 use mir.Val.{SFits, toZ, ofZ}
@@ -15,8 +14,8 @@ use mir.Facts.{toZ-ofZ}
 use Rattle.integers.proofs.Laws.{minus-one-*ℤ, abs-neg, abs-+-le, sfits-abs}
 use Rattle.lists.proofs.Options.{none-some, some-injective}
 use Rattle.lists.proofs.Every.{every-snoc, every-take}
-use Rattle.calculus.specs.Limits.{numberLimit, valueLimit, factLimit, workNumbers}
-use Rattle.calculus.specs.Facts.{Fact, arithmetic}
+use Rattle.calculus.specs.Limits.{numberLimit, factLimit, workNumbers}
+use Rattle.calculus.specs.Facts.{Fact}
 use Rattle.format.specs.Fields.{within}
 use Rattle.format.specs.Checking.{rowWithin, factWithin, factsWithin}
 use Rattle.format.proofs.Faults.{and-true}

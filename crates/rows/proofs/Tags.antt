@@ -3,14 +3,14 @@ use Prim.Native.Nat.{ℕ, zero, suc, _+_, _≤_, _<_}
 use native.Mathlib.Omega.{arith}
 use mathlib.Core.Path.{_≡_, refl, sym, _∙_, ap, ap₂, subst}
 use mathlib.Core.Bool.{cond}
-use mathlib.Core.List.{List, [], _∷_}
+use mathlib.Core.List.{List, _∷_}
 use borrow.Author.Tests.{lt-ltb}
-use lib.ListN.{length, getD, drop}
+use lib.ListN.{getD, drop}
 use lib.IntN.{ℤ, pos, negsuc}
 use mir.Syntax.{w64}
 use mir.Val.{SFits, toZ, ofZ}
 use mir.Facts.{toZ-ofZ, toZ-pos}
-use Rattle.calculus.specs.Facts.{Fact, same, apart, isLiteral, arithmetic, Relation, ge, eq, ne}
+use Rattle.calculus.specs.Facts.{same, apart, isLiteral, arithmetic}
 use Rattle.format.specs.Question.{stringFact, relationOf}
 use Rattle.rows.specs.Rows.{index, tagged, factOf}
 use Rattle.rows.specs.Work.{kindOf}

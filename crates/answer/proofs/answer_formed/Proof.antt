@@ -9,11 +9,6 @@ use Rattle.answer.proofs.Read.{form-no, form-yes, string-there}
 use Rattle.format.specs.Answer.{answerForm}
 use Rattle.answer.proofs.answer_formed.Statement.{statement}
 use Rattle.answer.proofs.answer_formed.Tie as tie
-use Rattle.answer.proofs.answer_formed.Reads as reads
-use Rattle.answer.proofs.answer_formed.Lts as lts
-use Rattle.answer.proofs.string_formed.Reads as string-formed-reads
-use Rattle.answer.proofs.tail_formed.Reads as tail-formed-reads
-use Rattle.records.proofs.u32_at.Reads as u32-at-reads
 
 abbrev Inv-loop : tie.InvT-loop
 Inv-loop v p q at₀ left₀ at left = answerForm v left q at ≡ answerForm v p q 0

@@ -11,8 +11,6 @@ use lib.Signed.{nonNeg}
 use native.Mathlib.Nat.{lt-trans}
 use Rattle.answer.proofs.bits_of.Statement.{statement}
 use Rattle.answer.proofs.bits_of.Tie as tie
-use Rattle.answer.proofs.bits_of.Reads as reads
-use Rattle.answer.proofs.bits_of.Lts as lts
 
 add-v : tie.Need-add-v
 add-v c = sum-fits (c .args .z) (c .fits .z) (c .pre)

@@ -18,11 +18,6 @@ use Rattle.format.specs.Fields.{i32}
 use Rattle.format.specs.Records.{size}
 use Rattle.answer.proofs.column_value.Statement.{statement}
 use Rattle.answer.proofs.column_value.Tie as tie
-use Rattle.answer.proofs.column_value.Reads as reads
-use Rattle.answer.proofs.column_value.Lts as lts
-use Rattle.answer.proofs.string_code.Reads as string-code-reads
-use Rattle.records.proofs.i32_at.Reads as i32-at-reads
-use Rattle.records.proofs.u32_at.Reads as u32-at-reads
 
 mul-i32-at : tie.Need-mul-i32-at
 mul-i32-at c = search needs

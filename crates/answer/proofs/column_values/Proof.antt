@@ -15,9 +15,6 @@ use Rattle.answer.specs.Form.{columnsAt}
 use Rattle.calculus.proofs.Shapes.{count}
 use Rattle.answer.proofs.column_values.Statement.{statement}
 use Rattle.answer.proofs.column_values.Tie as tie
-use Rattle.answer.proofs.column_values.Reads as reads
-use Rattle.answer.proofs.column_values.Lts as lts
-use Rattle.answer.proofs.column_value.Reads as column-value-reads
 
 abbrev Inv-loop : tie.InvT-loop
 Inv-loop v p q places values₀ count j₀ values j = (j ≤ count) × (length values ≡ 48) × (take j values ≡ take j (columnsAt v p q))

@@ -12,7 +12,6 @@ use native.Mathlib.Omega.{arith}
 use Rattle.answer.proofs.Read.{integers-there, outside-last, outside-no, outside-none, outside-yes, text-there}
 use Rattle.answer.specs.Form.{asking}
 use Rattle.calculus.specs.Alphabet.{allCharacters}
-use Rattle.calculus.specs.Chains.{here}
 use Rattle.format.proofs.Places.{skip-snoc}
 use Rattle.format.specs.Answer.{outside, stringAt}
 use Rattle.format.specs.Fields.{u32s}
@@ -20,11 +19,6 @@ use Rattle.format.specs.Places.{skip}
 use Rattle.format.specs.Records.{next}
 use Rattle.answer.proofs.first_outside.Statement.{statement}
 use Rattle.answer.proofs.first_outside.Tie as tie
-use Rattle.answer.proofs.first_outside.Reads as reads
-use Rattle.answer.proofs.first_outside.Lts as lts
-use Rattle.question.proofs.all_characters.Reads as all-characters-reads
-use Rattle.answer.proofs.integers_within.Reads as integers-within-reads
-use Rattle.records.proofs.u32_at.Reads as u32-at-reads
 
 abbrev Inv-loop : tie.InvT-loop
 Inv-loop v n p q at₀ r₀ at r = (r ≤ p) × (at ≡ skip v r 0) × (outside v (asking n p q) (p - r) r at ≡ outside v (asking n p q) p 0 0)

@@ -13,10 +13,6 @@ use Rattle.format.specs.Answer.{allWithin}
 use Rattle.format.specs.Fields.{i32s, signed, within}
 use Rattle.answer.proofs.integers_within.Statement.{statement}
 use Rattle.answer.proofs.integers_within.Tie as tie
-use Rattle.answer.proofs.integers_within.Reads as reads
-use Rattle.answer.proofs.integers_within.Lts as lts
-use Rattle.records.proofs.bits_within.Reads as bits-within-reads
-use Rattle.records.proofs.u32_at.Reads as u32-at-reads
 
 abbrev Inv-loop : tie.InvT-loop
 Inv-loop v at count i₀ left₀ i left = (i + 4 * left ≤ length v) × (allWithin (i32s v i left) ≡ allWithin (i32s v at count))

@@ -10,9 +10,6 @@ use Rattle.answer.proofs.Written.{characters-more}
 use Rattle.format.specs.Answer.{characterBytes}
 use Rattle.answer.proofs.put_characters.Statement.{statement}
 use Rattle.answer.proofs.put_characters.Tie as tie
-use Rattle.answer.proofs.put_characters.Reads as reads
-use Rattle.answer.proofs.put_characters.Lts as lts
-use Rattle.answer.proofs.put_u32.Reads as put-u32-reads
 
 abbrev Inv-loop : tie.InvT-loop
 Inv-loop buffer₀ at characters i₀ buffer i = (i ≤ length characters) × (length buffer ≡ length buffer₀) × (buffer ≡ sets buffer₀ at (characterBytes (take i characters)))

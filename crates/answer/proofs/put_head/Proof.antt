@@ -5,10 +5,6 @@ use Rattle.format.specs.Fields.{bytesOf}
 use Rattle.lists.proofs.Stores.{sets-sets}
 use Rattle.answer.proofs.put_head.Statement.{statement}
 use Rattle.answer.proofs.put_head.Tie as tie
-use Rattle.answer.proofs.put_head.Reads as reads
-use Rattle.answer.proofs.put_head.Lts as lts
-use Rattle.answer.proofs.put_u16.Reads as put-u16-reads
-use Rattle.answer.proofs.put_u32.Reads as put-u32-reads
 
 put-u32-requires : tie.Need-put-u32-requires
 put-u32-requires c κs = search needs

@@ -14,10 +14,6 @@ use Rattle.format.specs.Answer.{integerBytes}
 use Rattle.format.specs.Fields.{bytesOf, unsigned}
 use Rattle.answer.proofs.put_integers.Statement.{statement}
 use Rattle.answer.proofs.put_integers.Tie as tie
-use Rattle.answer.proofs.put_integers.Reads as reads
-use Rattle.answer.proofs.put_integers.Lts as lts
-use Rattle.answer.proofs.bits_of.Reads as bits-of-reads
-use Rattle.answer.proofs.put_u32.Reads as put-u32-reads
 
 abbrev Inv-loop : tie.InvT-loop
 Inv-loop buffer₀ at model q i₀ buffer i = (i ≤ q) × (length buffer ≡ length buffer₀) × (buffer ≡ sets buffer₀ at (integerBytes (take i model)))

@@ -10,9 +10,6 @@ use Rattle.answer.specs.Table.{row}
 use Rattle.format.specs.Answer.{characterBytes, recordBytes}
 use Rattle.answer.proofs.put_row.Statement.{statement}
 use Rattle.answer.proofs.put_row.Tie as tie
-use Rattle.answer.proofs.put_row.Reads as reads
-use Rattle.answer.proofs.put_row.Lts as lts
-use Rattle.answer.proofs.put_string.Reads as put-string-reads
 
 mul-from : tie.Need-mul-from
 mul-from c = search needs

@@ -11,10 +11,6 @@ use Rattle.format.proofs.Encoded.{length-characters, length-record}
 use Rattle.format.specs.Answer.{characterBytes}
 use Rattle.answer.proofs.put_string.Statement.{statement}
 use Rattle.answer.proofs.put_string.Tie as tie
-use Rattle.answer.proofs.put_string.Reads as reads
-use Rattle.answer.proofs.put_string.Lts as lts
-use Rattle.answer.proofs.put_characters.Reads as put-characters-reads
-use Rattle.answer.proofs.put_head.Reads as put-head-reads
 
 mul-size : tie.Need-mul-size
 mul-size c = search needs

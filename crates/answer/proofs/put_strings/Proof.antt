@@ -12,9 +12,6 @@ use Rattle.answer.specs.Table.{row, tableStrings}
 use Rattle.format.specs.Answer.{characterBytes, recordBytes, stringRecords}
 use Rattle.answer.proofs.put_strings.Statement.{statement}
 use Rattle.answer.proofs.put_strings.Tie as tie
-use Rattle.answer.proofs.put_strings.Reads as reads
-use Rattle.answer.proofs.put_strings.Lts as lts
-use Rattle.answer.proofs.put_row.Reads as put-row-reads
 
 abbrev Inv-loop : tie.InvT-loop
 Inv-loop buffer₀ characters sizes p at₀ x₀ buffer at x =

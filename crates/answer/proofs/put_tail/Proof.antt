@@ -6,10 +6,6 @@ use lib.Seq.{length-take-le}
 use Rattle.answer.proofs.Written.{tail-put}
 use Rattle.answer.proofs.put_tail.Statement.{statement}
 use Rattle.answer.proofs.put_tail.Tie as tie
-use Rattle.answer.proofs.put_tail.Reads as reads
-use Rattle.answer.proofs.put_tail.Lts as lts
-use Rattle.answer.proofs.put_head.Reads as put-head-reads
-use Rattle.answer.proofs.put_integers.Reads as put-integers-reads
 
 mul-size : tie.Need-mul-size
 mul-size c = search needs

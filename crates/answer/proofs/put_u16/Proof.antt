@@ -7,8 +7,6 @@ use native.Mathlib.Omega.{arith}
 use Rattle.format.specs.Fields.{bytesOf}
 use Rattle.answer.proofs.put_u16.Statement.{statement}
 use Rattle.answer.proofs.put_u16.Tie as tie
-use Rattle.answer.proofs.put_u16.Reads as reads
-use Rattle.answer.proofs.put_u16.Lts as lts
 
 cast-buffer : tie.Need-cast-buffer
 cast-buffer c = search needs

@@ -7,8 +7,6 @@ use native.Mathlib.Omega.{arith}
 use Rattle.format.specs.Fields.{bytesOf}
 use Rattle.answer.proofs.put_u32.Statement.{statement}
 use Rattle.answer.proofs.put_u32.Tie as tie
-use Rattle.answer.proofs.put_u32.Reads as reads
-use Rattle.answer.proofs.put_u32.Lts as lts
 
 cast-buffer : tie.Need-cast-buffer
 cast-buffer c = search needs

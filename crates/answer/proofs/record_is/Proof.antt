@@ -7,9 +7,6 @@ use Rattle.answer.proofs.Read.{cut-there, nothing-there, whole-there}
 use Rattle.format.specs.Records.{kind}
 use Rattle.answer.proofs.record_is.Statement.{statement}
 use Rattle.answer.proofs.record_is.Tie as tie
-use Rattle.answer.proofs.record_is.Reads as reads
-use Rattle.answer.proofs.record_is.Lts as lts
-use Rattle.records.proofs.read_at.Reads as read-at-reads
 
 read-at-requires : tie.Need-read-at-requires
 read-at-requires c κs = search needs

@@ -8,15 +8,11 @@ use native.Mathlib.Numerals.{add-one}
 use native.Mathlib.Omega.{arith}
 use Rattle.answer.proofs.Read.{placed-more}
 use Rattle.calculus.proofs.Shapes.{count}
-use Rattle.calculus.specs.Chains.{here}
 use Rattle.format.proofs.Places.{skip-room, skip-snoc}
 use Rattle.format.specs.Places.{skip}
 use Rattle.format.specs.Records.{next}
 use Rattle.answer.proofs.record_places.Statement.{statement}
 use Rattle.answer.proofs.record_places.Tie as tie
-use Rattle.answer.proofs.record_places.Reads as reads
-use Rattle.answer.proofs.record_places.Lts as lts
-use Rattle.records.proofs.u32_at.Reads as u32-at-reads
 
 abbrev Inv-loop : tie.InvT-loop
 Inv-loop b from count places₀ at₀ x₀ places at x =

@@ -8,13 +8,9 @@ use mir.Syntax.{w64}
 use mir.ValLaws.{toZ-pos}
 use native.Mathlib.Omega.{arith}
 use Rattle.answer.proofs.Columns.{code-one, code-other}
-use Rattle.calculus.specs.Children.{one}
 use Rattle.format.specs.Records.{size}
 use Rattle.answer.proofs.string_code.Statement.{statement}
 use Rattle.answer.proofs.string_code.Tie as tie
-use Rattle.answer.proofs.string_code.Reads as reads
-use Rattle.answer.proofs.string_code.Lts as lts
-use Rattle.records.proofs.u32_at.Reads as u32-at-reads
 
 u32-at-requires : tie.Need-u32-at-requires
 u32-at-requires c κs = search needs

@@ -8,9 +8,6 @@ use Rattle.answer.proofs.Read.{cut-there, nothing-there, whole-there}
 use Rattle.format.specs.Records.{kind, size}
 use Rattle.answer.proofs.string_formed.Statement.{statement}
 use Rattle.answer.proofs.string_formed.Tie as tie
-use Rattle.answer.proofs.string_formed.Reads as reads
-use Rattle.answer.proofs.string_formed.Lts as lts
-use Rattle.records.proofs.read_at.Reads as read-at-reads
 
 read-at-requires : tie.Need-read-at-requires
 read-at-requires c κs = search needs

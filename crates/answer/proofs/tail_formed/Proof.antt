@@ -9,9 +9,6 @@ use native.Mathlib.Omega.{arith}
 use Rattle.answer.proofs.Read.{record-there, tail-split}
 use Rattle.answer.proofs.tail_formed.Statement.{statement}
 use Rattle.answer.proofs.tail_formed.Tie as tie
-use Rattle.answer.proofs.tail_formed.Reads as reads
-use Rattle.answer.proofs.tail_formed.Lts as lts
-use Rattle.answer.proofs.record_is.Reads as record-is-reads
 
 mul-size : tie.Need-mul-size
 mul-size c = search needs

@@ -5,10 +5,6 @@ use native.Mathlib.Omega.{arith}
 use Rattle.answer.proofs.Written.{answer-put, strings-most}
 use Rattle.answer.proofs.write_answer.Statement.{statement}
 use Rattle.answer.proofs.write_answer.Tie as tie
-use Rattle.answer.proofs.write_answer.Reads as reads
-use Rattle.answer.proofs.write_answer.Lts as lts
-use Rattle.answer.proofs.put_strings.Reads as put-strings-reads
-use Rattle.answer.proofs.put_tail.Reads as put-tail-reads
 
 put-strings-requires : tie.Need-put-strings-requires
 put-strings-requires c κs = search needs

@@ -13,9 +13,6 @@ use Rattle.rows.proofs.Small.{behind-tag, under-fits, under-is}
 use Rattle.rows.specs.Rows.{factOf}
 use Rattle.rows.proofs.below_row.Statement.{statement}
 use Rattle.rows.proofs.below_row.Tie as tie
-use Rattle.rows.proofs.below_row.Reads as reads
-use Rattle.rows.proofs.below_row.Lts as lts
-use Rattle.rows.proofs.negative.Reads as negative-reads
 
 negative-requires : tie.Need-negative-requires
 negative-requires c κs = search needs

@@ -9,13 +9,10 @@ use mir.Syntax.{w64}
 use mir.Val.{SFits}
 use native.Mathlib.Omega.{arith}
 use Rattle.calculus.specs.Rows.{allZero, isZero}
-use Rattle.calculus.specs.Strings.{given}
 use Rattle.lists.proofs.Every.{every-done, every-fails, every-on}
 use Rattle.rows.proofs.Tested.{zero-no, zero-yes}
 use Rattle.rows.proofs.constant.Statement.{statement}
 use Rattle.rows.proofs.constant.Tie as tie
-use Rattle.rows.proofs.constant.Reads as reads
-use Rattle.rows.proofs.constant.Lts as lts
 
 abbrev Inv-loop : tie.InvT-loop
 Inv-loop row j₀ j = (2 ≤ j) × (j ≤ 50) × (allZero (drop j row) ≡ allZero (drop 2 row))

@@ -9,12 +9,9 @@ use mir.Facts.{toZ-ofZ}
 use mir.Syntax.{w64}
 use mir.Val.{SFits}
 use native.Mathlib.Omega.{arith}
-use Rattle.calculus.specs.Strings.{given}
 use Rattle.lists.proofs.Filled.{filled-all, filled-more}
 use Rattle.rows.proofs.copy_of.Statement.{statement}
 use Rattle.rows.proofs.copy_of.Tie as tie
-use Rattle.rows.proofs.copy_of.Reads as reads
-use Rattle.rows.proofs.copy_of.Lts as lts
 
 abbrev Inv-loop : tie.InvT-loop
 Inv-loop row out₀ j₀ out j = (j ≤ 50) × (length out ≡ 50) × (take j out ≡ take j row)

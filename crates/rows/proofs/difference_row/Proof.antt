@@ -6,8 +6,6 @@ use native.Mathlib.Omega.{arith}
 use Rattle.rows.proofs.Forms.{difference-fact}
 use Rattle.rows.proofs.difference_row.Statement.{statement}
 use Rattle.rows.proofs.difference_row.Tie as tie
-use Rattle.rows.proofs.difference_row.Reads as reads
-use Rattle.rows.proofs.difference_row.Lts as lts
 
 cast-out : tie.Need-cast-out
 cast-out c = search needs

@@ -8,10 +8,6 @@ use Rattle.rows.proofs.Tested.{string-within}
 use Rattle.rows.specs.Rows.{factOf}
 use Rattle.rows.proofs.fact_within.Statement.{statement}
 use Rattle.rows.proofs.fact_within.Tie as tie
-use Rattle.rows.proofs.fact_within.Reads as reads
-use Rattle.rows.proofs.fact_within.Lts as lts
-use Rattle.rows.proofs.form_within.Reads as form-within-reads
-use Rattle.rows.proofs.kind_of.Reads as kind-of-reads
 
 kind-of-requires : tie.Need-kind-of-requires
 kind-of-requires c κs = search needs

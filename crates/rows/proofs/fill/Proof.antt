@@ -8,12 +8,9 @@ use mir.Facts.{toZ-ofZ}
 use mir.Syntax.{w64}
 use mir.Val.{SFits}
 use native.Mathlib.Omega.{arith}
-use Rattle.calculus.specs.Strings.{given}
 use Rattle.lists.proofs.Filled.{filled-all, filled-more}
 use Rattle.rows.proofs.fill.Statement.{statement}
 use Rattle.rows.proofs.fill.Tie as tie
-use Rattle.rows.proofs.fill.Reads as reads
-use Rattle.rows.proofs.fill.Lts as lts
 
 abbrev Inv-loop : tie.InvT-loop
 Inv-loop row₀ from j₀ row j = (j ≤ 50) × (length row ≡ 50) × (take j row ≡ take j from)

@@ -11,15 +11,11 @@ use mir.Syntax.{w64}
 use mir.Val.{SFits}
 use native.Mathlib.Omega.{arith}
 use Rattle.calculus.specs.Limits.{numberLimit}
-use Rattle.calculus.specs.Strings.{given}
 use Rattle.format.specs.Checking.{rowWithin}
 use Rattle.format.specs.Fields.{within}
 use Rattle.lists.proofs.Every.{every-done, every-fails, every-on}
 use Rattle.rows.proofs.form_within.Statement.{statement}
 use Rattle.rows.proofs.form_within.Tie as tie
-use Rattle.rows.proofs.form_within.Reads as reads
-use Rattle.rows.proofs.form_within.Lts as lts
-use Rattle.rows.proofs.in_limit.Reads as in-limit-reads
 
 abbrev Inv-loop : tie.InvT-loop
 Inv-loop row j₀ j = (1 ≤ j) × (j ≤ 50) × (rowWithin (drop j row) ≡ rowWithin (drop 1 row))
@@ -27,14 +23,11 @@ Inv-loop row j₀ j = (1 ≤ j) × (j ≤ 50) × (rowWithin (drop j row) ≡ row
 abbrev μ-loop : tie.MeasureT-loop
 μ-loop row j₀ j = 50 - j
 
--- <2
 -- the test of the number read
 test : (c : tie.After-in-limit Inv-loop μ-loop) → c .in-limit .result ≡ within numberLimit (getD (now (c .before .before .before .before .args .row)) (c .before .before .before .loop .j) (pos 0))
 test c =
     let f : SFits w64 (getD (now (c .before .before .before .before .args .row)) (c .before .before .before .loop .j) (pos 0)) = record { sfits = c .before .x .given } in
     rw (toZ-ofZ f) at (c .in-limit .ensures)
-
--- >2
 
 loop-holds : tie.Need-loop-holds Inv-loop μ-loop
 loop-holds c = (omega arith, omega arith, refl)

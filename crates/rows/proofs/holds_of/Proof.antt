@@ -6,23 +6,16 @@ use mathlib.Core.Bool.{not}
 use mathlib.Core.Path.{_∙_, _≡_, ap, refl, sym}
 use mir.Facts.{toZ-ofZ}
 use Rattle.calculus.specs.Facts.{Relation, holds, ne}
-use Rattle.calculus.specs.Meaning.{value}
-use Rattle.format.specs.Checking.{fits}
 use Rattle.format.specs.Question.{relationOf}
 use Rattle.rows.proofs.Tested.{nonneg-test, zero-test}
 use Rattle.rows.proofs.holds_of.Statement.{statement}
 use Rattle.rows.proofs.holds_of.Tie as tie
-use Rattle.rows.proofs.holds_of.Reads as reads
-use Rattle.rows.proofs.holds_of.Lts as lts
 
--- <1
 -- relation 2 and above is ≠
 other : (r : ℕ) → (r ≡ 0 → ⊥) → (r ≡ 1 → ⊥) → relationOf r ≡ ne
 other zero h k = absurd (h refl)
 other (suc zero) h k = absurd (k refl)
 other (suc (suc r)) h k = refl
-
--- >1
 
 returns : tie.Need-returns
 returns c =

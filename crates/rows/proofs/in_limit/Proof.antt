@@ -4,14 +4,11 @@ use lib.IntN.{natAbs, negsuc, pos}
 use mathlib.Core.Path.{sym}
 use mir.Facts.{sfits-lit}
 use native.Mathlib.Omega.{arith}
-use Rattle.format.specs.Checking.{fits}
 use Rattle.integers.proofs.Laws.{abs-between, abs-is}
 use Rattle.integers.proofs.Machine.{lt-false, lt-true}
 use Rattle.integers.proofs.Ring.{le-up, lt-up}
 use Rattle.rows.proofs.in_limit.Statement.{statement}
 use Rattle.rows.proofs.in_limit.Tie as tie
-use Rattle.rows.proofs.in_limit.Reads as reads
-use Rattle.rows.proofs.in_limit.Lts as lts
 
 returns : tie.Need-returns
 returns c =

@@ -11,7 +11,6 @@ use mir.Val.{SFits}
 use Rattle.calculus.specs.Facts.{holds}
 use Rattle.calculus.specs.Rows.{allZero}
 use Rattle.calculus.specs.Rules.{falsum}
-use Rattle.calculus.specs.Strings.{given}
 use Rattle.format.specs.Question.{relationOf}
 use Rattle.rows.proofs.Tags.{row-relation}
 use Rattle.rows.proofs.Tested.{falsum-row, string-falsum}
@@ -19,13 +18,7 @@ use Rattle.rows.specs.Rows.{factOf}
 use mathlib.Core.Bool.{and-true}
 use Rattle.rows.proofs.is_false.Statement.{statement}
 use Rattle.rows.proofs.is_false.Tie as tie
-use Rattle.rows.proofs.is_false.Reads as reads
-use Rattle.rows.proofs.is_false.Lts as lts
-use Rattle.rows.proofs.constant.Reads as constant-reads
-use Rattle.rows.proofs.holds_of.Reads as holds-of-reads
-use Rattle.rows.proofs.kind_of.Reads as kind-of-reads
 
--- <2
 -- the fact, where it is arithmetic
 falsum-is : (c : tie.Else1) → falsum (factOf (now (c .before .before .args .row))) ≡ (allZero (drop 2 (now (c .before .before .args .row))) && not (holds (relationOf (c .before .kind-of .result)) (getD (now (c .before .before .args .row)) 1 (pos 0))))
 falsum-is c =
@@ -37,8 +30,6 @@ held : (c : tie.After-holds-of) → c .holds-of .result ≡ holds (relationOf (c
 held c =
     let f : SFits w64 (getD (now (c .before .before .before .before .args .row)) 1 (pos 0)) = record { sfits = c .before .c .given } in
     rw (toZ-ofZ f) at (c .holds-of .ensures)
-
--- >2
 
 kind-of-requires : tie.Need-kind-of-requires
 kind-of-requires c κs = search needs

@@ -13,17 +13,10 @@ use Rattle.rows.specs.Rows.{factOf}
 use Rattle.rows.specs.Work.{kindOf}
 use Rattle.rows.proofs.joins.Statement.{statement}
 use Rattle.rows.proofs.joins.Tie as tie
-use Rattle.rows.proofs.joins.Reads as reads
-use Rattle.rows.proofs.joins.Lts as lts
-use Rattle.rows.proofs.kind_of.Reads as kind-of-reads
-use Rattle.rows.proofs.negates.Reads as negates-reads
 
--- <2
 -- the first fact, where its kind is 0
 first : (c : tie.Else1) → factOf (now (c .before .before .args .row)) ≡ arithmetic ge (drop 1 (now (c .before .before .args .row)))
 first c = row-relation (now (c .before .before .args .row)) 0 (sym (c .if1 .left) ∙ c .before .kind-of .ensures) (omega arith)
-
--- >2
 
 kind-of-requires : tie.Need-kind-of-requires
 kind-of-requires c κs = search needs

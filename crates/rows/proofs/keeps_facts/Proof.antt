@@ -7,19 +7,14 @@ use lib.ListN.{length}
 use mathlib.Core.Bool.{_&&_, true}
 use mathlib.Core.Path.{_∙_, _≡_, ap, ap₂, refl, sym}
 use native.Mathlib.Omega.{arith}
-use Rattle.calculus.proofs.Words.{count}
 use Rattle.calculus.specs.Facts.{Fact}
-use Rattle.format.specs.Checking.{factWithin, keeps, keepsFact, room}
+use Rattle.format.specs.Checking.{factWithin, keeps, keepsFact}
 use Rattle.lists.proofs.Every.{every-broken, every-snoc}
 use Rattle.rows.proofs.Branches.{branch-at, branch-more, length-row}
 use Rattle.rows.proofs.Small.{fine-at}
 use Rattle.rows.specs.Rows.{branchOf, factOf, rowAt}
 use Rattle.rows.proofs.keeps_facts.Statement.{statement}
 use Rattle.rows.proofs.keeps_facts.Tie as tie
-use Rattle.rows.proofs.keeps_facts.Reads as reads
-use Rattle.rows.proofs.keeps_facts.Lts as lts
-use Rattle.rows.proofs.keeps_row.Reads as keeps-row-reads
-use Rattle.rows.proofs.row_at.Reads as row-at-reads
 
 abbrev Inv-loop : tie.InvT-loop
 Inv-loop work count model k₀ k = (k ≤ count) × (keeps model (branchOf work k) ≡ true)
@@ -27,15 +22,12 @@ Inv-loop work count model k₀ k = (k ≤ count) × (keeps model (branchOf work 
 abbrev μ-loop : tie.MeasureT-loop
 μ-loop work count model k₀ k = count - k
 
--- <2
 -- the fact of the row lent
 fact-is : (c : tie.After-row-at Inv-loop μ-loop) → factOf (now (c .row-at .result)) ≡ factOf (rowAt (now (c .before .before .before .args .work)) (c .before .before .loop .k))
 fact-is c = ap factOf (c .row-at .ensures)
 
 test : (c : tie.After-keeps-row Inv-loop μ-loop) → c .keeps-row .result ≡ keepsFact (now (c .before .before .before .before .args .model)) (factOf (rowAt (now (c .before .before .before .before .args .work)) (c .before .before .before .loop .k)))
 test c = c .keeps-row .ensures ∙ ap (λ (f : Fact). keepsFact (now (c .before .before .before .before .args .model)) f) (fact-is (c .before))
-
--- >2
 
 loop-holds : tie.Need-loop-holds Inv-loop μ-loop
 unfolding branchOf keeps

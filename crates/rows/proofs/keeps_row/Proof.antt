@@ -14,18 +14,10 @@ use Rattle.rows.proofs.Tested.{string-keeps}
 use Rattle.rows.specs.Rows.{factOf}
 use Rattle.rows.proofs.keeps_row.Statement.{statement}
 use Rattle.rows.proofs.keeps_row.Tie as tie
-use Rattle.rows.proofs.keeps_row.Reads as reads
-use Rattle.rows.proofs.keeps_row.Lts as lts
-use Rattle.rows.proofs.holds_of.Reads as holds-of-reads
-use Rattle.rows.proofs.kind_of.Reads as kind-of-reads
-use Rattle.rows.proofs.row_value.Reads as row-value-reads
 
--- <2
 -- the fact, where it is arithmetic
 is : (c : tie.Else1) → factOf (now (c .before .before .args .row)) ≡ arithmetic (relationOf (c .before .kind-of .result)) (drop 1 (now (c .before .before .args .row)))
 is c = row-relation (now (c .before .before .args .row)) (c .before .kind-of .result) (c .before .kind-of .ensures) (c .if1 .left)
-
--- >2
 
 kind-of-requires : tie.Need-kind-of-requires
 kind-of-requires c κs = search needs

@@ -8,19 +8,13 @@ use mathlib.Core.Path.{_≡_, refl, sym}
 use mir.Syntax.{w64}
 use mir.Val.{ofZ}
 use native.Mathlib.Omega.{arith}
-use Rattle.calculus.specs.Strings.{given}
 use Rattle.rows.proofs.Tags.{from-bits, kind-apart, kind-eq, kind-ge, kind-literal, kind-ne, kind-same}
 use Rattle.rows.proofs.kind_of.Statement.{statement}
 use Rattle.rows.proofs.kind_of.Tie as tie
-use Rattle.rows.proofs.kind_of.Reads as reads
-use Rattle.rows.proofs.kind_of.Lts as lts
 
--- <2
 -- the tag that was read
 tag-is : (c : tie.After-tag) (n : ℕ) → ofZ w64 (getD (now (c .before .args .row)) 0 (pos 0)) ≡ n → n < 9223372036854775808 → getD (now (c .before .args .row)) 0 (pos 0) ≡ pos n
 tag-is c n e h = from-bits (getD (now (c .before .args .row)) 0 (pos 0)) n (record { sfits = c .tag .given }) e h
-
--- >2
 
 shared-slice-copy-out-tag : tie.Need-shared-slice-copy-out-tag
 shared-slice-copy-out-tag c = search needs

@@ -13,9 +13,6 @@ use Rattle.rows.proofs.Small.{behind-tag, less-fits, less-is}
 use Rattle.rows.specs.Rows.{factOf}
 use Rattle.rows.proofs.less_row.Statement.{statement}
 use Rattle.rows.proofs.less_row.Tie as tie
-use Rattle.rows.proofs.less_row.Reads as reads
-use Rattle.rows.proofs.less_row.Lts as lts
-use Rattle.rows.proofs.copy_of.Reads as copy-of-reads
 
 copy-of-requires : tie.Need-copy-of-requires
 copy-of-requires c κs = search needs

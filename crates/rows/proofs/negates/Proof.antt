@@ -12,13 +12,10 @@ use mir.Val.{SFits, ofZ, toZ}
 use native.Mathlib.Omega.{arith}
 use Rattle.calculus.proofs.Entries.{entry-scale, length-scale}
 use Rattle.calculus.specs.Rows.{eqRow, scale}
-use Rattle.calculus.specs.Strings.{given}
 use Rattle.rows.proofs.Small.{behind-tag, neg-fits, neg-is}
 use Rattle.rows.proofs.Tested.{eqRow-done, eqRow-fails, eqRow-on, eqℤ-no, eqℤ-yes, same-bits, scale-behind}
 use Rattle.rows.proofs.negates.Statement.{statement}
 use Rattle.rows.proofs.negates.Tie as tie
-use Rattle.rows.proofs.negates.Reads as reads
-use Rattle.rows.proofs.negates.Lts as lts
 
 abbrev Inv-loop : tie.InvT-loop
 Inv-loop row other j₀ j = (1 ≤ j) × (j ≤ 50) × (eqRow (drop j (scale (negsuc 0) row)) (drop j other) ≡ eqRow (drop 1 (scale (negsuc 0) row)) (drop 1 other))
@@ -26,7 +23,6 @@ Inv-loop row other j₀ j = (1 ≤ j) × (j ≤ 50) × (eqRow (drop j (scale (ne
 abbrev μ-loop : tie.MeasureT-loop
 μ-loop row other j₀ j = 50 - j
 
--- <2
 -- at the test: the two numbers
 module _ (c : tie.After-y Inv-loop μ-loop) where
   abbrev x : ℤ
@@ -50,8 +46,6 @@ module _ (c : tie.After-y Inv-loop μ-loop) where
 
   long : length (scale (negsuc 0) (now (c .before .before .before .before .args .row))) ≡ 50
   long = length-scale (negsuc 0) (now (c .before .before .before .before .args .row)) ∙ c .before .before .before .before .pre .0 .0
-
--- >2
 
 loop-holds : tie.Need-loop-holds Inv-loop μ-loop
 loop-holds c = (omega arith, omega arith, refl)

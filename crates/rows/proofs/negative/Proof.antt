@@ -13,8 +13,6 @@ use Rattle.rows.proofs.Forms.{length-negative, negative-number}
 use Rattle.rows.proofs.Small.{behind-tag, neg-fits, neg-is}
 use Rattle.rows.proofs.negative.Statement.{statement}
 use Rattle.rows.proofs.negative.Tie as tie
-use Rattle.rows.proofs.negative.Reads as reads
-use Rattle.rows.proofs.negative.Lts as lts
 
 abbrev Inv-loop : tie.InvT-loop
 Inv-loop row out₀ j₀ out j = (1 ≤ j) × (j ≤ 50) × (length out ≡ 50) × (take j out ≡ take j (pos 0 ∷ scale (negsuc 0) (drop 1 row)))
@@ -22,12 +20,9 @@ Inv-loop row out₀ j₀ out j = (1 ≤ j) × (j ≤ 50) × (length out ≡ 50) 
 abbrev μ-loop : tie.MeasureT-loop
 μ-loop row out₀ j₀ out j = 50 - j
 
--- <2
 -- the number read
 small : (c : tie.After-x Inv-loop μ-loop) → natAbs (getD (now (c .before .before .before .args .row)) (c .before .before .loop .j) (pos 0)) ≤ 1000000000
 small c = behind-tag (now (c .before .before .before .args .row)) (c .before .before .loop .j) (c .before .before .before .pre .1) (omega arith)
-
--- >2
 
 loop-holds : tie.Need-loop-holds Inv-loop μ-loop
 loop-holds c = (omega arith, omega arith, refl, refl)

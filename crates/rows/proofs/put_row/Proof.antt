@@ -9,9 +9,6 @@ use native.Mathlib.Omega.{arith}
 use Rattle.rows.proofs.Branches.{branch-put}
 use Rattle.rows.proofs.put_row.Statement.{statement}
 use Rattle.rows.proofs.put_row.Tie as tie
-use Rattle.rows.proofs.put_row.Reads as reads
-use Rattle.rows.proofs.put_row.Lts as lts
-use Rattle.rows.proofs.fill.Reads as fill-reads
 
 mul-from : tie.Need-mul-from
 mul-from c = search needs

@@ -5,8 +5,6 @@ use mathlib.Core.Path.{_≡_}
 use native.Mathlib.Omega.{arith}
 use Rattle.rows.proofs.row_at.Statement.{statement}
 use Rattle.rows.proofs.row_at.Tie as tie
-use Rattle.rows.proofs.row_at.Reads as reads
-use Rattle.rows.proofs.row_at.Lts as lts
 
 mul-from : tie.Need-mul-from
 mul-from c = search needs

@@ -11,13 +11,10 @@ use mir.Syntax.{w64}
 use mir.Val.{SFits, toZ}
 use native.Mathlib.Omega.{arith}
 use Rattle.calculus.specs.Rows.{dot}
-use Rattle.format.specs.Cases.{sum}
 use Rattle.rows.proofs.Small.{behind-tag, small-fits}
 use Rattle.rows.proofs.Values.{dot-done, dot-more, product-fits, step-fits, step-is, step-small, value-row}
 use Rattle.rows.proofs.row_value.Statement.{statement}
 use Rattle.rows.proofs.row_value.Tie as tie
-use Rattle.rows.proofs.row_value.Reads as reads
-use Rattle.rows.proofs.row_value.Lts as lts
 
 abbrev Inv-loop : tie.InvT-loop
 Inv-loop row model sum₀ i₀ sum i =
@@ -28,7 +25,6 @@ Inv-loop row model sum₀ i₀ sum i =
 abbrev μ-loop : tie.MeasureT-loop
 μ-loop row model sum₀ i₀ sum i = 48 - i
 
--- <2
 -- at the step: the sum so far, the coefficient and the model's value
 module _ (c : tie.After-c Inv-loop μ-loop) where
   abbrev i : ℕ
@@ -66,8 +62,6 @@ module _ (c : tie.After-c Inv-loop μ-loop) where
 
   fx : SFits w64 x
   fx = let h = hx in small-fits x (omega arith)
-
--- >2
 
 shared-slice-copy-out-sum : tie.Need-shared-slice-copy-out-sum Inv-loop μ-loop
 shared-slice-copy-out-sum c = search needs

@@ -9,12 +9,9 @@ use mir.Syntax.{w64}
 use mir.Val.{SFits, ofZ}
 use native.Mathlib.Omega.{arith}
 use Rattle.calculus.specs.Rows.{eqRow}
-use Rattle.calculus.specs.Strings.{given}
 use Rattle.rows.proofs.Tested.{eqRow-done, eqRow-fails, eqRow-on, eqℤ-no, eqℤ-yes, same-bits}
 use Rattle.rows.proofs.same_row.Statement.{statement}
 use Rattle.rows.proofs.same_row.Tie as tie
-use Rattle.rows.proofs.same_row.Reads as reads
-use Rattle.rows.proofs.same_row.Lts as lts
 
 abbrev Inv-loop : tie.InvT-loop
 Inv-loop row other j₀ j = (j ≤ 50) × (eqRow (drop j row) (drop j other) ≡ eqRow row other)
@@ -22,7 +19,6 @@ Inv-loop row other j₀ j = (j ≤ 50) × (eqRow (drop j row) (drop j other) ≡
 abbrev μ-loop : tie.MeasureT-loop
 μ-loop row other j₀ j = 50 - j
 
--- <2
 -- at the test: both numbers fit
 module _ (c : tie.After-y Inv-loop μ-loop) where
   abbrev x : ℤ
@@ -36,8 +32,6 @@ module _ (c : tie.After-y Inv-loop μ-loop) where
 
   fy : SFits w64 y
   fy = record { sfits = c .y .given }
-
--- >2
 
 loop-holds : tie.Need-loop-holds Inv-loop μ-loop
 loop-holds c = (omega arith, refl)

@@ -3,13 +3,9 @@ use borrow.Author.Needs.{needs}
 use mir.Facts.{toZ-ofZ, toZ-pos}
 use mir.Syntax.{w64}
 use native.Mathlib.Omega.{arith}
-use Rattle.calculus.specs.Rows.{column}
-use Rattle.format.specs.Checking.{fits}
 use Rattle.rows.proofs.Forms.{single-fact}
 use Rattle.rows.proofs.single_row.Statement.{statement}
 use Rattle.rows.proofs.single_row.Tie as tie
-use Rattle.rows.proofs.single_row.Reads as reads
-use Rattle.rows.proofs.single_row.Lts as lts
 
 cast-out : tie.Need-cast-out
 cast-out c = search needs

@@ -8,7 +8,6 @@ use mathlib.Core.Bool.{_||_, false}
 use mathlib.Core.List.{List, _∷_}
 use mathlib.Core.Path.{_∙_, _≡_, ap, ap₂, refl, sym}
 use native.Mathlib.Omega.{arith}
-use Rattle.calculus.proofs.Words.{count}
 use Rattle.calculus.specs.Rows.{column, eqRow, minus}
 use Rattle.calculus.specs.Rules.{anyFact, statesZero}
 use Rattle.rows.proofs.Branches.{branch-at, branch-more, length-row}
@@ -18,11 +17,6 @@ use Rattle.rows.proofs.Values.{any-at, any-snoc}
 use Rattle.rows.specs.Rows.{branchOf, factOf, rowAt}
 use Rattle.rows.proofs.states_difference.Statement.{statement}
 use Rattle.rows.proofs.states_difference.Tie as tie
-use Rattle.rows.proofs.states_difference.Reads as reads
-use Rattle.rows.proofs.states_difference.Lts as lts
-use Rattle.rows.proofs.difference_row.Reads as difference-row-reads
-use Rattle.rows.proofs.row_at.Reads as row-at-reads
-use Rattle.rows.proofs.same_row.Reads as same-row-reads
 
 abbrev Inv-loop : tie.InvT-loop
 Inv-loop work count i j wanted k₀ k = (k ≤ count) × (anyFact (statesZero (minus (column i) (column j))) (branchOf work k) ≡ false)
@@ -30,7 +24,6 @@ Inv-loop work count i j wanted k₀ k = (k ≤ count) × (anyFact (statesZero (m
 abbrev μ-loop : tie.MeasureT-loop
 μ-loop work count i j wanted k₀ k = count - k
 
--- <2
 -- the row that is looked for
 wanted-is : (c : tie.After-difference-row Inv-loop μ-loop) → c .difference-row .result ≡ pos 1 ∷ minus (column (c .before .args .i)) (column (c .before .args .j))
 wanted-is c =
@@ -47,8 +40,6 @@ test c =
     c .same-row .ensures
     ∙ ap₂ eqRow (wanted-is (c .before .before .before .before .before)) (c .before .row-at .ensures)
     ∙ sym (states-by-row e row (length-row (now (s .args .work)) (c .before .before .before .before .loop .k) (omega arith)))
-
--- >2
 
 difference-row-requires : tie.Need-difference-row-requires Inv-loop μ-loop
 difference-row-requires c κs = search needs

@@ -3,16 +3,12 @@ use borrow.Author.Needs.{needs}
 use denote.Ref.{now}
 use mathlib.Core.Bool.{Bool, _||_}
 use mathlib.Core.Path.{_∙_, ap, sym}
-use Rattle.calculus.proofs.Words.{count}
 use Rattle.calculus.specs.Rows.{column, minus}
 use Rattle.calculus.specs.Rules.{anyFact, statesZero}
 use Rattle.rows.specs.Rows.{branchOf}
 use Rattle.rows.specs.Work.{statesEqual}
 use Rattle.rows.proofs.states_equal.Statement.{statement}
 use Rattle.rows.proofs.states_equal.Tie as tie
-use Rattle.rows.proofs.states_equal.Reads as reads
-use Rattle.rows.proofs.states_equal.Lts as lts
-use Rattle.rows.proofs.states_difference.Reads as states-difference-reads
 
 states-difference-requires : tie.Need-states-difference-requires
 states-difference-requires c κs = search needs

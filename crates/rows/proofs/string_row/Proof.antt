@@ -7,8 +7,6 @@ use native.Mathlib.Omega.{arith}
 use Rattle.rows.proofs.Tags.{string-fact}
 use Rattle.rows.proofs.string_row.Statement.{statement}
 use Rattle.rows.proofs.string_row.Tie as tie
-use Rattle.rows.proofs.string_row.Reads as reads
-use Rattle.rows.proofs.string_row.Lts as lts
 
 add-out : tie.Need-add-out
 add-out c = search needs

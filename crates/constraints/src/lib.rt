@@ -1,0 +1,45 @@
+// The rows of facts that are written in the ticket: constraints of the question, and the form of a Branch.
+ghost use mathlib.Core.Path.{_≡_};
+ghost use mathlib.Core.Bool.{true};
+ghost use Prim.Native.Nat.{_+_, _*_, _≤_, _<_};
+ghost use lib.ListN.{length};
+ghost use Rattle.calculus.specs.Limits.{columnLimit};
+ghost use Rattle.calculus.specs.Facts.{arithmetic};
+ghost use Rattle.format.specs.Fields.{pairsAt};
+ghost use Rattle.format.specs.Question.{rising, relationOf, formOf, constraintOf};
+ghost use Rattle.rows.specs.Rows.{factOf};
+ghost use Rattle.constraints.specs.Constraints.{constraintFault};
+
+// A form at a position, the constant and then pairs, related to 0: relation 0 is ≥, 1 is =, 2 is ≠.
+pub fn form_row(b: &[u8], relation: usize, at: usize, pairs: usize) -> [i64; 50]
+    requires { ⌜ (relation ≤ 2) × (at + 4 + 6 * pairs ≤ length (now b)) ⌝ }
+    requires { ⌜ rising columnLimit 0 (pairsAt (now b) (at + 4) pairs) ≡ true ⌝ }
+    ensures { λ r. ⌜ factOf r ≡ arithmetic (relationOf relation) (formOf (now (b .entry)) at pairs) ⌝ }
+{
+    let mut out = [0i64; 50];
+    out[0] = relation as i64;
+    out[1] = records::i32_at(b, at);
+    let mut i = 0;
+    while i < pairs {
+        let place = at + 4 + 6 * i;
+        let column = records::u16_at(b, place);
+        let coefficient = records::i32_at(b, place + 2);
+        out[column + 2] = coefficient;
+        i += 1;
+    }
+    out
+}
+
+// The constraint of a record of kind 3 or 4, by its body.
+pub fn constraint_row(b: &[u8], kind: usize, at: usize, size: usize) -> [i64; 50]
+    requires { ⌜ (at + size ≤ length (now b)) × (constraintFault (now b) kind at size ≡ 0) ⌝ }
+    ensures { λ r. ⌜ factOf r ≡ constraintOf (now (b .entry)) kind at size ⌝ }
+{
+    let relation = records::u16_at(b, at);
+    if kind == 3 {
+        let x = records::u16_at(b, at + 2);
+        let y = records::u16_at(b, at + 4);
+        return rows::string_row(relation, x, y);
+    }
+    form_row(b, relation, at + 2, size / 6 - 1)
+}

@@ -1,0 +1,55 @@
+-- `judging::judge_answer` meets its contract.
+use borrow.Author.Needs.{needs}
+use denote.Ref.{now}
+use mathlib.Core.Path.{_∙_, ap, sym}
+use native.Mathlib.Omega.{arith}
+use Rattle.judging.proofs.Outcomes.{behind, headed, headless, stopped}
+use Rattle.judging.specs.Judgements.{judgementOf}
+use Rattle.question.specs.Progress.{readingOf}
+use Rattle.judging.proofs.judge_answer.Statement.{statement}
+use Rattle.judging.proofs.judge_answer.Tie as tie
+
+read-question-requires : tie.Need-read-question-requires
+read-question-requires c κs = search needs
+
+enum-known-c : tie.Need-enum-known-c
+enum-known-c c = search needs
+
+enum-known-s : tie.Need-enum-known-s
+enum-known-s c = search needs
+
+judge-behind-requires : tie.Need-judge-behind-requires
+unfolding readingOf
+judge-behind-requires c κs =
+    let s = c .before .before .before .before .before .before .before .args in
+    behind (now (s .question)) (c .before .before .s .given .0 .0) (sym (c .before .before .before .before .read-question .ensures) ∙ ap (readingOf (now (s .question))) (c .before .before .s .given .1)) (omega arith)
+
+returns : tie.Need-returns
+unfolding readingOf
+returns c =
+    let s = c .before .before .before .before .before .before .args in
+    stopped (now (s .question)) (now (s .answer)) (sym (c .before .before .before .read-question .ensures) ∙ ap (readingOf (now (s .question))) (c .before .c .given .1))
+
+returns-2 : tie.Need-returns-2
+unfolding readingOf
+returns-2 c =
+    let s = c .before .before .before .before .before .before .before .args in
+    headless (now (s .question)) (now (s .answer)) (sym (c .before .before .before .before .read-question .ensures) ∙ ap (readingOf (now (s .question))) (c .before .before .s .given .1)) (c .if1 .taken)
+
+returns-3 : tie.Need-returns-3
+unfolding readingOf
+returns-3 c =
+    let s = c .before .before .before .before .before .before .before .before .args in
+    headed (now (s .question)) (now (s .answer)) (judgementOf (c .judge-behind .result)) (sym (c .before .before .before .before .before .read-question .ensures) ∙ ap (readingOf (now (s .question))) (c .before .before .before .s .given .1)) (omega arith) (c .judge-behind .ensures)
+
+pub judge-answer-spec : {M : Type 1} → statement M
+judge-answer-spec =
+    tie.close
+    (tie.spec
+    read-question-requires
+    enum-known-c
+    enum-known-s
+    judge-behind-requires
+    returns
+    returns-2
+    returns-3)

@@ -1,0 +1,119 @@
+-- Division of a sum: "Column sums must divide exactly; the constant is divided rounding down".
+use Prim.Native.Nat.{ℕ, zero, suc, _≤_, _<_}
+use native.Mathlib.Omega.{arith}
+use mathlib.Core.Path.{_≡_, refl, sym, _∙_, ap, ap₂}
+use mathlib.Core.Bool.{Bool, true, false, _&&_, and-false}
+use mathlib.Core.Option.{Option, none, some}
+use mathlib.Core.List.{List, [], _∷_}
+use borrow.Author.Tests.{le-leb}
+use lib.ListN.{length, getD, drop}
+use lib.Dec.{leb}
+use lib.IntN.{ℤ, pos, natAbs, _*ℤ_, *ℤ-comm}
+use lib.Signed.{_≤ℤ_, quotZ}
+use Rattle.integers.proofs.Ring.{v, _⊕_, _⊗_, le-by, lt-by}
+use Rattle.integers.proofs.Laws.{one-*ℤ, pos-≤ℤ, ≤ℤ-trans, abs-nonneg, ≤ℤ-abs, floor-multiple}
+use Rattle.integers.proofs.Machine.{quot-multiple}
+use Rattle.lists.proofs.Options.{some-injective, none-some, some-none}
+use Rattle.calculus.specs.Rows.{scale, eqRow, floorDiv, divRow}
+use Rattle.calculus.specs.Facts.{arithmetic, ge}
+use Rattle.calculus.specs.Rules.{guard, then, divided}
+use Rattle.calculus.specs.Instances.{entry}
+use Rattle.calculus.proofs.Entries.{entry-scale, length-scale, floor-same, length-divRow, →divided}
+use Rattle.rows.specs.Rows.{factOf}
+use Rattle.rows.proofs.Tags.{relation-fact}
+use Rattle.sums.specs.Sums.{geRow}
+
+-- a positive number
+pub positive-is : (d : ℤ) → pos 1 ≤ℤ d → (d ≡ pos (natAbs d)) × (1 ≤ natAbs d)
+positive-is d h = (abs-nonneg d (≤ℤ-trans (pos-≤ℤ (omega arith)) h), ≤ℤ-abs d h)
+
+-- ---- one number
+
+-- x / n × n is x: then n divides x, and the quotient is rounded down
+pub exact-yes : (x : ℤ) (n : ℕ) → 1 ≤ n → quotZ x (pos n) *ℤ pos n ≡ x → (pos n *ℤ floorDiv x n ≡ x) × (quotZ x (pos n) ≡ floorDiv x n)
+exact-yes x n h e =
+    let back : pos n *ℤ quotZ x (pos n) ≡ x = *ℤ-comm (pos n) (quotZ x (pos n)) ∙ e in
+    let same : floorDiv x n ≡ quotZ x (pos n) = ap (λ z. floorDiv z n) (sym back) ∙ floor-same (pos n *ℤ quotZ x (pos n)) n ∙ floor-multiple (quotZ x (pos n)) n h in
+    (ap (λ z. pos n *ℤ z) same ∙ back, sym same)
+
+pub exact-no : (x : ℤ) (n : ℕ) → 1 ≤ n → (quotZ x (pos n) *ℤ pos n ≡ x → ⊥) → pos n *ℤ floorDiv x n ≡ x → ⊥
+exact-no x n h f e =
+    let same : quotZ x (pos n) ≡ floorDiv x n = ap (λ z. quotZ z (pos n)) (sym e) ∙ quot-multiple n (floorDiv x n) h in
+    f (ap (λ z. z *ℤ pos n) same ∙ *ℤ-comm (floorDiv x n) (pos n) ∙ e)
+
+-- ---- a row
+
+pub divided-number : (a : List ℤ) (n j : ℕ) → j < length a → getD (divRow a n) j (pos 0) ≡ floorDiv (getD a j (pos 0)) n
+divided-number [] n j h = absurd (omega arith)
+divided-number (x ∷ a) n zero h = refl
+divided-number (x ∷ a) n (suc j) h = divided-number a n j (omega arith)
+
+-- the row that division gives, behind the tag 0
+abbrev pub quotients : List ℤ → ℕ → List ℤ
+quotients row n = pos 0 ∷ floorDiv (getD row 1 (pos 0)) n ∷ divRow (drop 2 row) n
+
+pub length-quotients : (row : List ℤ) (n : ℕ) → length row ≡ 50 → length (quotients row n) ≡ 50
+length-quotients [] n h = absurd (omega arith)
+length-quotients (x ∷ []) n h = absurd (omega arith)
+length-quotients (x ∷ c ∷ cs) n h = ap (λ k. suc (suc k)) (length-divRow cs n) ∙ h
+
+pub quotient-number : (row : List ℤ) (n j : ℕ) → 2 ≤ j → j < length row → getD (quotients row n) j (pos 0) ≡ floorDiv (getD row j (pos 0)) n
+quotient-number row n zero h k = absurd (omega arith)
+quotient-number row n (suc zero) h k = absurd (omega arith)
+quotient-number [] n (suc (suc j)) h k = absurd (omega arith)
+quotient-number (x ∷ []) n (suc (suc j)) h k = absurd (omega arith)
+quotient-number (x ∷ c ∷ cs) n (suc (suc j)) h k = divided-number cs n j (omega arith)
+
+-- the quotients times the divisor
+abbrev pub multiples : List ℤ → ℕ → List ℤ
+multiples row n = scale (pos n) (divRow row n)
+
+pub length-multiples : (row : List ℤ) (n : ℕ) → length (multiples row n) ≡ length row
+length-multiples row n = length-scale (pos n) (divRow row n) ∙ length-divRow row n
+
+pub multiple-number : (row : List ℤ) (n j : ℕ) → j < length row → getD (multiples row n) j (pos 0) ≡ pos n *ℤ floorDiv (getD row j (pos 0)) n
+multiple-number row n j h = entry-scale (pos n) (divRow row n) j ∙ ap (λ z. pos n *ℤ z) (divided-number row n j h)
+
+-- ---- the whole division
+
+pub divided-no : (row : List ℤ) (n : ℕ) → length row ≡ 50 → eqRow (drop 2 (multiples row n)) (drop 2 row) ≡ false → divided n (drop 1 row) ≡ none
+divided-no [] n h e = absurd (omega arith)
+divided-no (x ∷ []) n h e = absurd (omega arith)
+divided-no (x ∷ c ∷ cs) n h e = ap (λ t. guard t (floorDiv c n ∷ divRow cs n)) (ap (λ t. leb 1 n && t) e ∙ and-false (leb 1 n))
+
+pub divided-yes : (row : List ℤ) (n : ℕ) → 1 ≤ n → length row ≡ 50 → eqRow (drop 2 (multiples row n)) (drop 2 row) ≡ true → divided n (drop 1 row) ≡ some (drop 1 (quotients row n))
+divided-yes [] n d h e = absurd (omega arith)
+divided-yes (x ∷ []) n d h e = absurd (omega arith)
+divided-yes (x ∷ c ∷ cs) n d h e = ap (λ t. guard t (floorDiv c n ∷ divRow cs n)) (ap₂ _&&_ (le-leb 1 n d) e)
+
+-- by 1
+pub divided-one : (e : List ℤ) → 1 ≤ length e → divided 1 e ≡ some e
+divided-one e h = →divided 1 e e (omega arith) h (record {
+  size = refl;
+  columns = λ j. one-*ℤ (entry e (suc j));
+  floor-low = le-by (v (pos 1) ⊗ v (entry e 0)) (v (entry e 0)) (omega arith);
+  floor-high = lt-by (v (entry e 0)) (v (pos 1) ⊗ (v (entry e 0) ⊕ v (pos 1))) (omega arith);
+})
+
+-- a row with a known tag
+pub tag-first : (row : List ℤ) (z : ℤ) → length row ≡ 50 → getD row 0 (pos 0) ≡ z → row ≡ z ∷ drop 1 row
+tag-first [] z h e = absurd (omega arith)
+tag-first (x ∷ row) z h e = ap (λ y. y ∷ row) e
+
+-- ---- from rows to facts
+
+pub no-row : (o : Option (List ℤ)) → none ≡ geRow o → o ≡ none
+no-row none e = refl
+no-row (some a) e = absurd (none-some e)
+
+pub some-row : (row : List ℤ) (o : Option (List ℤ)) → some row ≡ geRow o → (o ≡ some (drop 1 row)) × (getD row 0 (pos 0) ≡ pos 0)
+some-row row none e = absurd (some-none e)
+some-row row (some a) e =
+    let q : row ≡ pos 0 ∷ a = some-injective e in
+    (ap (λ (l : List ℤ). some (drop 1 l)) (sym q), ap (λ (l : List ℤ). getD l 0 (pos 0)) q)
+
+pub row-fact : (t : Bool) (row : List ℤ) (o : Option (List ℤ)) → guard t row ≡ geRow o → guard t (factOf row) ≡ then o (λ e. some (arithmetic ge e))
+row-fact true row none e = absurd (some-none e)
+row-fact true row (some a) e = ap some (ap factOf (some-injective e) ∙ relation-fact 0 a (omega arith))
+row-fact false row none e = refl
+row-fact false row (some a) e = absurd (none-some e)

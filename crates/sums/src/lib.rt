@@ -1,0 +1,150 @@
+// Rule 1, Sum: the facts named, each times its multiplier, added up and divided.
+ghost use mathlib.Core.Path.{_≡_};
+ghost use mathlib.Core.Bool.{true};
+ghost use mathlib.Core.List.{List, _∷_};
+ghost use Prim.Native.Nat.{_+_, _*_, _≤_, _<_};
+ghost use lib.ListN.{length, getD, drop};
+ghost use lib.IntN.{pos, natAbs};
+ghost use lib.Signed.{_≤ℤ_};
+ghost use Rattle.calculus.specs.Limits.{numberLimit, summandLimit};
+ghost use Rattle.calculus.specs.Rows.{floorDiv};
+ghost use Rattle.calculus.specs.Rules.{summand, sumOf, divided};
+ghost use Rattle.format.specs.Fields.{pairsAt};
+ghost use Rattle.format.specs.StepForms.{multipliersWithin};
+ghost use Rattle.format.specs.Checking.{fits, rowWithin};
+ghost use Rattle.rows.specs.Rows.{rowLength, factOf, branchOf};
+ghost use Rattle.rows.specs.Work.{Within, Fine};
+ghost use Rattle.sums.specs.Sums.{added, geRow, rowIn, factIn, sumFact};
+
+// A new row, where the step fits.
+pub struct Summed {
+    pub fits: bool,
+    pub row: [i64; 50],
+}
+
+// Does a fact take the multiplier: at least 1 on a ≥ fact, nonzero on an equation?
+fn takes(row: &[i64], multiplier: i64) -> bool
+    requires { ⌜ length (now row) ≡ rowLength ⌝ }
+    ensures { λ r. ⌜ r ≡ fits (summand multiplier (factOf (now (row .entry)))) ⌝ }
+{
+    let kind = rows::kind_of(row);
+    if kind == 0 {
+        return multiplier > 0;
+    }
+    if kind == 1 {
+        return multiplier != 0;
+    }
+    false
+}
+
+// A row times a multiplier is added to the sum.
+fn add_multiple(sum: &mut [i64; 50], row: &[i64], multiplier: i64)
+    requires { ⌜ (length (now row) ≡ rowLength) × (rowWithin (drop 1 (now row)) ≡ true) ⌝ }
+    requires { ⌜ natAbs multiplier ≤ numberLimit ⌝ }
+    requires { ⌜ (length (now sum) ≡ rowLength) × Within 7000000000000000000 (now sum) ⌝ }
+    ensures { λ _. ⌜ now (sum .exit) ≡ added (now (sum .entry)) multiplier (now (row .entry)) ⌝ }
+{
+    let mut j = 1;
+    while j < 50 {
+        let s = sum[j];
+        let x = row[j];
+        sum[j] = s + multiplier * x;
+        j += 1;
+    }
+}
+
+// The sum of the pairs (fact, multiplier).
+fn sum_of(b: &[u8], at: usize, pairs: usize, work: &[i64], count: usize) -> Summed
+    requires { ⌜ (1 ≤ pairs) × (pairs ≤ summandLimit) × (at + 6 * pairs ≤ length (now b)) ⌝ }
+    requires { ⌜ multipliersWithin (pairsAt (now b) at pairs) ≡ true ⌝ }
+    requires { ⌜ Fine (now work) count ⌝ }
+    ensures { λ r. ⌜ rowIn r ≡ geRow (sumOf (branchOf (now (work .entry)) count) (pairsAt (now (b .entry)) at pairs)) ⌝ }
+{
+    let mut sum = [0i64; 50];
+    let mut i = 0;
+    while i < pairs {
+        let place = at + 6 * i;
+        let fact = records::u16_at(b, place);
+        let multiplier = records::i32_at(b, place + 2);
+        if fact >= count {
+            return Summed {
+                fits: false,
+                row: sum,
+            };
+        }
+        let row = rows::row_at(work, fact);
+        if !takes(row, multiplier) {
+            return Summed {
+                fits: false,
+                row: sum,
+            };
+        }
+        add_multiple(&mut sum, row, multiplier);
+        i += 1;
+    }
+    Summed {
+        fits: true,
+        row: sum,
+    }
+}
+
+// Division rounding down.
+fn floor_div(c: i64, d: i64) -> i64
+    requires { ⌜ pos 1 ≤ℤ d ⌝ }
+    ensures { λ r. ⌜ r ≡ floorDiv c (natAbs d) ⌝ }
+{
+    if c >= 0 { c / d } else { -1 - (-1 - c) / d }
+}
+
+// A sum divided: columns exactly, the constant rounding down.
+fn divided_row(row: [i64; 50], d: i64) -> Summed
+    requires { ⌜ (pos 1 ≤ℤ d) × (getD row 0 (pos 0) ≡ pos 0) ⌝ }
+    ensures { λ r. ⌜ rowIn r ≡ geRow (divided (natAbs d) (drop 1 row)) ⌝ }
+{
+    if d == 1 {
+        return Summed { fits: true, row };
+    }
+    let mut out = [0i64; 50];
+    let c = row[1];
+    out[1] = floor_div(c, d);
+    let mut j = 2;
+    while j < 50 {
+        let x = row[j];
+        let q = x / d;
+        if q * d != x {
+            return Summed {
+                fits: false,
+                row: out,
+            };
+        }
+        out[j] = q;
+        j += 1;
+    }
+    Summed {
+        fits: true,
+        row: out,
+    }
+}
+
+// The row of the fact that a Sum adds.
+pub fn sum_row(
+    b: &[u8],
+    at: usize,
+    pairs: usize,
+    divisor: usize,
+    work: &[i64],
+    count: usize,
+) -> Summed
+    requires { ⌜ (1 ≤ pairs) × (pairs ≤ summandLimit) × (at + 6 * pairs ≤ length (now b)) ⌝ }
+    requires { ⌜ (1 ≤ divisor) × (divisor ≤ 2147483647) ⌝ }
+    requires { ⌜ multipliersWithin (pairsAt (now b) at pairs) ≡ true ⌝ }
+    requires { ⌜ Fine (now work) count ⌝ }
+    ensures { λ r. ⌜ factIn r ≡ sumFact (branchOf (now (work .entry)) count) divisor (pairsAt (now (b .entry)) at pairs) ⌝ }
+{
+    let sum = sum_of(b, at, pairs, work, count);
+    if !sum.fits {
+        return sum;
+    }
+    let row = sum.row;
+    divided_row(row, divisor as i64)
+}
