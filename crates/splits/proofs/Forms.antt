@@ -1,0 +1,176 @@
+-- The children of each rule, fact by fact, as rows state them.
+use Prim.Native.Nat.{ℕ, zero, suc, _+_, _-_, _≤_, _<_}
+use native.Mathlib.Omega.{arith}
+use native.Mathlib.Decide.{ℕ-discrete, decLt}
+use mathlib.Core.Path.{_≡_, refl, sym, _∙_, ap, ap₂, subst}
+use mathlib.Core.Logic.{_≢_}
+use mathlib.Core.Bool.{Bool, true, false, _&&_}
+use mathlib.Core.Option.{Option, none, some}
+use mathlib.Core.List.{List, [], _∷_, _++_, append-assoc}
+use borrow.Author.Tests.{le-leb, lt-leb, leb-true, eq-eqb, ne-eqb}
+use lib.ListN.{length, getD, set, drop, getElem?}
+use lib.Dec.{leb, eqb}
+use lib.IntN.{ℤ, pos, negsuc, negℤ, natAbs}
+use Rattle.calculus.specs.Limits.{numberLimit}
+use Rattle.calculus.specs.Rows.{zeros, number, column, minus, less, below}
+use Rattle.calculus.specs.Facts.{Fact, Branch, Question, same, apart, isLiteral, arithmetic, ge, eq, ne}
+use Rattle.calculus.specs.Children.{splitChildren, apartChildren, lValidChildren, cValidChildren, cInjChildren, pairsWith, pairs, boundChild}
+use Rattle.calculus.specs.Rules.{then, parted, logUp, lastChild}
+use Rattle.format.specs.Fields.{within}
+use Rattle.format.specs.Checking.{fits, rowWithin, factWithin, factsWithin, childrenWithin}
+use Rattle.format.proofs.Faults.{and-true, not-both}
+use Rattle.rows.specs.Rows.{factOf, rowAt, branchOf}
+use Rattle.rows.specs.Work.{single, difference, kindOf}
+use Rattle.rows.proofs.Forms.{column-single, minus-number, number-minus, less-column, columns-difference}
+use Rattle.rows.proofs.Branches.{branch-at, branch-beyond}
+use Rattle.rows.proofs.Tags.{row-relation}
+use Rattle.question.specs.declared.Progress.{Progress}
+use Rattle.splits.specs.Splits.{numbered, childOf}
+
+-- ---- a child by its number
+
+pub child-one : (c : List Fact) (cs : List (List Fact)) (k : ℕ) → k ≡ 1 → c ≡ childOf (some (c ∷ cs)) k
+unfolding childOf
+child-one c cs k e = ap (λ n. getD (c ∷ cs) (n - 1) []) (sym e)
+
+pub child-two : (c d : List Fact) (cs : List (List Fact)) (k : ℕ) → k ≡ 2 → d ≡ childOf (some (c ∷ d ∷ cs)) k
+unfolding childOf
+child-two c d cs k e = ap (λ n. getD (c ∷ d ∷ cs) (n - 1) []) (sym e)
+
+pub child-three : (c d e : List Fact) (cs : List (List Fact)) (k : ℕ) → k ≡ 3 → e ≡ childOf (some (c ∷ d ∷ e ∷ cs)) k
+unfolding childOf
+child-three c d e cs k q = ap (λ n. getD (c ∷ d ∷ e ∷ cs) (n - 1) []) (sym q)
+
+pub child-at : (cs : List (List Fact)) (k : ℕ) → childOf (some cs) k ≡ getD cs (k - 1) []
+unfolding childOf
+child-at cs k = refl
+
+-- ---- Apart
+
+pub parted-beyond : (w : List ℤ) (count k : ℕ) → count ≤ k → fits (then (getElem? (branchOf w count) k) parted) ≡ false
+parted-beyond w count k h = rw (branch-beyond w count k h)
+
+parted-kind : (f : Fact) → (kindOf f ≡ 2 → ⊥) → fits (parted f) ≡ false
+unfolding kindOf
+parted-kind (same x y) h = refl
+parted-kind (apart x y) h = refl
+parted-kind (isLiteral x l) h = refl
+parted-kind (arithmetic ge e) h = refl
+parted-kind (arithmetic eq e) h = refl
+parted-kind (arithmetic ne e) h = absurd (h refl)
+
+pub parted-no : (w : List ℤ) (count k : ℕ) → k < count → (kindOf (factOf (rowAt w k)) ≡ 2 → ⊥) → fits (then (getElem? (branchOf w count) k) parted) ≡ false
+parted-no w count k h n = ap (λ o. fits (then o parted)) (branch-at w count k h) ∙ parted-kind (factOf (rowAt w k)) n
+
+pub parted-is : (w : List ℤ) (count k : ℕ) → k < count → kindOf (factOf (rowAt w k)) ≡ 2
+    → then (getElem? (branchOf w count) k) parted ≡ some (apartChildren (drop 1 (rowAt w k)))
+parted-is w count k h e =
+    ap (λ o. then o parted) (branch-at w count k h)
+    ∙ ap parted (row-relation (rowAt w k) 2 (sym e) (omega arith))
+
+pub parted-test : (w : List ℤ) (count k : ℕ) → k < count → eqb (kindOf (factOf (rowAt w k))) 2 ≡ fits (then (getElem? (branchOf w count) k) parted)
+parted-test w count k h = go (ℕ-discrete (kindOf (factOf (rowAt w k))) 2)
+  where
+    go : Dec (kindOf (factOf (rowAt w k)) ≡ 2) → eqb (kindOf (factOf (rowAt w k))) 2 ≡ fits (then (getElem? (branchOf w count) k) parted)
+    go (yes e) = eq-eqb (kindOf (factOf (rowAt w k))) 2 e ∙ sym (ap fits (parted-is w count k h e))
+    go (no n) = ne-eqb (kindOf (factOf (rowAt w k))) 2 n ∙ sym (parted-no w count k h n)
+
+pub parted-fits : (w : List ℤ) (count k : ℕ) → fits (then (getElem? (branchOf w count) k) parted) ≡ true → (k < count) × (kindOf (factOf (rowAt w k)) ≡ 2)
+parted-fits w count k e = go (decLt k count) (ℕ-discrete (kindOf (factOf (rowAt w k))) 2)
+  where
+    go : Dec (k < count) → Dec (kindOf (factOf (rowAt w k)) ≡ 2) → (k < count) × (kindOf (factOf (rowAt w k)) ≡ 2)
+    go (yes h) (yes q) = (h, q)
+    go (yes h) (no n) = absurd (not-both (fits (then (getElem? (branchOf w count) k) parted)) e (parted-no w count k h n))
+    go (no n) d = absurd (not-both (fits (then (getElem? (branchOf w count) k) parted)) e (parted-beyond w count k (omega arith)))
+
+pub ne-within : (row : List ℤ) → kindOf (factOf row) ≡ 2 → factWithin (factOf row) ≡ true → rowWithin (drop 1 row) ≡ true
+ne-within row e h = sym (ap factWithin (row-relation row 2 (sym e) (omega arith))) ∙ h
+
+-- ---- Branch
+
+pub ge-form : (row e : List ℤ) → factOf row ≡ arithmetic ge e → drop 1 row ≡ e
+unfolding kindOf
+ge-form row e h =
+    let k : kindOf (factOf row) ≡ 0 = ap kindOf h in
+    let f : arithmetic ge (drop 1 row) ≡ arithmetic ge e = sym (row-relation row 0 (sym k) (omega arith)) ∙ h in cc
+
+-- ---- C-Valid
+
+module _ (s : Progress) (x : ℕ) (hl : s .q + x < 48) (hc : s .q + (s .p + x) < 48) where
+  pub first-is : cValidChildren (numbered s) x
+      ≡ (arithmetic ne (single (negsuc 0) (s .q + x) (pos 1)) ∷ arithmetic eq (single (pos 1) (s .q + (s .p + x)) (pos 1)) ∷ [])
+      ∷ (arithmetic eq (single (negsuc 0) (s .q + x) (pos 1)) ∷ arithmetic ge (single (pos 0) (s .q + (s .p + x)) (pos 1)) ∷ arithmetic ge (single (pos (s .n - 1)) (s .q + (s .p + x)) (negsuc 0)) ∷ [])
+      ∷ []
+  first-is =
+      rw (less-column (s .q + x) hl, minus-number (s .q + (s .p + x)) hc (negsuc 0), number-minus (s .q + (s .p + x)) hc (pos (s .n - 1)), column-single (s .q + (s .p + x)) hc)
+
+  pub c-valid-one : (k : ℕ) → k ≡ 1
+      → arithmetic ne (single (negsuc 0) (s .q + x) (pos 1)) ∷ arithmetic eq (single (pos 1) (s .q + (s .p + x)) (pos 1)) ∷ [] ≡ childOf (some (cValidChildren (numbered s) x)) k
+  c-valid-one k e = child-one _ _ k e ∙ sym (ap (λ (cs : List (List Fact)). childOf (some cs) k) first-is)
+
+  pub c-valid-two : (k : ℕ) → k ≡ 2
+      → arithmetic eq (single (negsuc 0) (s .q + x) (pos 1)) ∷ arithmetic ge (single (pos 0) (s .q + (s .p + x)) (pos 1)) ∷ arithmetic ge (single (pos (s .n - 1)) (s .q + (s .p + x)) (negsuc 0)) ∷ []
+      ≡ childOf (some (cValidChildren (numbered s) x)) k
+  c-valid-two k e = child-two _ _ _ k e ∙ sym (ap (λ (cs : List (List Fact)). childOf (some cs) k) first-is)
+
+-- its first child adds two facts, its second three
+pub c-valid-size : (s : Progress) (x k : ℕ) → 1 ≤ k → k ≤ 2 → length (childOf (some (cValidChildren (numbered s) x)) k) ≡ k + 1
+unfolding childOf
+c-valid-size s x zero h g = absurd (omega arith)
+c-valid-size s x (suc zero) h g = refl
+c-valid-size s x (suc (suc zero)) h g = refl
+c-valid-size s x (suc (suc (suc k))) h g = absurd (omega arith)
+
+-- ---- facts put one behind the other
+
+pub put-two : (v w x : List ℤ) (k : ℕ) (f g f' g' : Fact) → branchOf w (k + 1) ≡ branchOf v k ++ (f ∷ []) → branchOf x (k + 1 + 1) ≡ branchOf w (k + 1) ++ (g ∷ []) → f ≡ f' → g ≡ g'
+    → branchOf x (k + 2) ≡ branchOf v k ++ (f' ∷ g' ∷ [])
+put-two v w x k f g f' g' p q a b =
+    let e : k + 2 ≡ k + 1 + 1 = omega arith in
+    ap (branchOf x) e ∙ q ∙ ap (λ l. l ++ (g ∷ [])) p ∙ append-assoc (branchOf v k) (f ∷ []) (g ∷ []) ∙ ap₂ (λ y z. branchOf v k ++ (y ∷ z ∷ [])) a b
+
+pub put-three : (v x y : List ℤ) (k : ℕ) (f g h h' : Fact) → branchOf x (k + 2) ≡ branchOf v k ++ (f ∷ g ∷ []) → branchOf y (k + 2 + 1) ≡ branchOf x (k + 2) ++ (h ∷ []) → h ≡ h'
+    → branchOf y (k + 3) ≡ branchOf v k ++ (f ∷ g ∷ h' ∷ [])
+put-three v x y k f g h h' p q a =
+    let e : k + 3 ≡ k + 2 + 1 = omega arith in
+    ap (branchOf y) e ∙ q ∙ ap (λ l. l ++ (h ∷ [])) p ∙ append-assoc (branchOf v k) (f ∷ g ∷ []) (h ∷ []) ∙ ap (λ z. branchOf v k ++ (f ∷ g ∷ z ∷ [])) a
+
+
+
+-- ---- Card's last child
+
+pub last-is : (s : Progress) (x m : ℕ) → 2 ≤ s .n → s .q + x < 48
+    → lastChild (numbered s) x m ≡ (arithmetic ge (single (negℤ (pos (logUp m (s .n) m 0))) (s .q + x) (pos 1)) ∷ []) ∷ []
+last-is s x m h g =
+    ap (λ (t : Bool). elim t [ true ↦ [] | false ↦ boundChild (numbered s) x (logUp m (s .n) m 0) ]) (lt-leb (s .n) 1 (omega arith))
+    ∙ ap (λ (e : List ℤ). (arithmetic ge e ∷ []) ∷ []) (minus-number (s .q + x) g (pos (logUp m (s .n) m 0)))
+
+pub last-none : (s : Progress) (x m : ℕ) → s .n ≤ 1 → lastChild (numbered s) x m ≡ []
+last-none s x m h = ap (λ (t : Bool). elim t [ true ↦ [] | false ↦ boundChild (numbered s) x (logUp m (s .n) m 0) ]) (le-leb (s .n) 1 h)
+
+pub last-some : (s : Progress) (x m j : ℕ) → j < length (lastChild (numbered s) x m) → 2 ≤ s .n
+last-some s x m j h = go (decLt 1 (s .n))
+  where
+    go : Dec (1 < s .n) → 2 ≤ s .n
+    go (no l) = absurd (let z : length (lastChild (numbered s) x m) ≡ 0 = ap length (last-none s x m (omega arith)) in omega arith)
+    go (yes n) = omega arith
+
+-- ---- the limit
+
+within-set : (row : List ℤ) (j : ℕ) (z : ℤ) → rowWithin row ≡ true → natAbs z ≤ numberLimit → rowWithin (set row j z) ≡ true
+unfolding rowWithin
+within-set [] j z e h = refl
+within-set (x ∷ row) zero z e h = ap₂ _&&_ (le-leb (natAbs z) numberLimit h) (and-true (within numberLimit x) (rowWithin row) e .1)
+within-set (x ∷ row) (suc j) z e h = let (p, q) = and-true (within numberLimit x) (rowWithin row) e in ap₂ _&&_ p (within-set row j z q h)
+
+within-number : (z : ℤ) → natAbs z ≤ numberLimit → rowWithin (number z) ≡ true
+unfolding rowWithin
+within-number z h = ap₂ _&&_ (le-leb (natAbs z) numberLimit h) refl
+
+pub within-single : (c : ℤ) (j : ℕ) (k : ℤ) → natAbs c ≤ numberLimit → natAbs k ≤ numberLimit → rowWithin (single c j k) ≡ true
+unfolding single
+within-single c j k h g = within-set (number c) (suc j) k (within-number c h) g
+
+pub within-difference : (i j : ℕ) → rowWithin (difference i j) ≡ true
+unfolding difference
+within-difference i j = within-set (set (number (pos 0)) (suc i) (pos 1)) (suc j) (negsuc 0) (within-set (number (pos 0)) (suc i) (pos 1) (within-number (pos 0) (omega arith)) (omega arith)) (omega arith)

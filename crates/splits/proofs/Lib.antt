@@ -1,0 +1,5 @@
+pub mod Variables
+pub mod Pairs
+pub mod Forms
+pub mod Operands
+pub mod Limits

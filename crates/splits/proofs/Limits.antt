@@ -1,0 +1,155 @@
+-- "9 when a new number passes the limit": no rule but Branch and Apart can, and these have two children.
+use Prim.Native.Nat.{ℕ, zero, suc, _+_, _-_, _/_, _^_, _≤_, _<_}
+use native.Mathlib.Omega.{arith}
+use native.Mathlib.Decide.{ℕ-discrete, decLt}
+use mathlib.Core.Path.{_≡_, refl, sym, _∙_, ap, subst}
+use mathlib.Core.Bool.{Bool, true, false, _&&_}
+use mathlib.Core.Option.{Option, none, some}
+use mathlib.Core.List.{List, [], _∷_}
+use lib.ListN.{length, getD}
+use lib.Dec.{leb}
+use lib.IntN.{ℤ, pos, negsuc, negℤ, natAbs}
+use Rattle.integers.proofs.Laws.{abs-neg}
+use Rattle.calculus.specs.Limits.{numberLimit}
+use Rattle.calculus.specs.Rows.{number, column, minus, less}
+use Rattle.calculus.specs.Facts.{Fact, same, isLiteral, arithmetic, ge, eq, ne}
+use Rattle.calculus.specs.Children.{lValidChildren, cValidChildren, cInjChildren, pairsWith, pairs}
+use Rattle.calculus.specs.Rules.{logUp, lastChild, children}
+use Rattle.format.specs.Fields.{u16, u16s}
+use Rattle.format.specs.StepForms.{rule, ruleOf, stepOf}
+use Rattle.format.specs.Checking.{fits, orNone, rowWithin, factWithin, factsWithin, childrenWithin}
+use Rattle.format.proofs.Faults.{and-true}
+use Rattle.rows.specs.Rows.{branchOf}
+use Rattle.rows.specs.Work.{single, difference}
+use Rattle.rows.proofs.Forms.{less-column, minus-number, columns-difference}
+use Rattle.question.specs.declared.Progress.{Progress}
+use Rattle.splits.specs.Splits.{isSplit, Ready, asked, numbered, childOf}
+use Rattle.splits.proofs.Variables.{below-first}
+use Rattle.splits.proofs.Forms.{first-is, last-is, last-none, within-single, within-difference}
+use Rattle.splits.proofs.Operands.{card-left, l-valid-operands, c-valid-operands, c-inj-operands, card-operands, branch-child, apart-child, l-valid-child, c-valid-child, c-inj-differ, c-inj-child, card-child}
+
+-- ---- one child of all
+
+and-one : (t : Bool) → t ≡ (t && true)
+and-one true = refl
+and-one false = refl
+
+pub one-within : (f : Fact) → factWithin f ≡ factsWithin (f ∷ [])
+unfolding factsWithin
+one-within f = and-one (factWithin f)
+
+at-within : (cs : List (List Fact)) (j : ℕ) → childrenWithin cs ≡ true → factsWithin (getD cs j []) ≡ true
+unfolding childrenWithin factsWithin
+at-within [] j e = refl
+at-within (c ∷ cs) zero e = and-true (factsWithin c) (childrenWithin cs) e .0
+at-within (c ∷ cs) (suc j) e = at-within cs j (and-true (factsWithin c) (childrenWithin cs) e .1)
+
+pub child-within : (o : Option (List (List Fact))) (k : ℕ) → childrenWithin (orNone o) ≡ true → factsWithin (childOf o k) ≡ true
+unfolding childOf
+child-within o k e = at-within (orNone o) (k - 1) e
+
+pub two-within : (o : Option (List (List Fact))) (c d : List Fact) → o ≡ some (c ∷ d ∷ []) → childrenWithin (orNone o) ≡ (factsWithin (childOf o 1) && factsWithin (childOf o 2))
+unfolding childOf childrenWithin
+two-within o c d e =
+    subst (λ p. childrenWithin (orNone p) ≡ (factsWithin (getD (orNone p) (1 - 1) []) && factsWithin (getD (orNone p) (2 - 1) []))) (sym e)
+    (ap (λ t. factsWithin c && t) (sym (and-one (factsWithin d))))
+
+-- ---- the children of each rule
+
+module _ (s : Progress) (x : ℕ) (hl : s .q + x < 48) where
+  l-valid-within : childrenWithin (lValidChildren (numbered s) x) ≡ true
+  unfolding childrenWithin factsWithin
+  l-valid-within =
+      ap (λ (e : List ℤ). childrenWithin ((isLiteral x 0 ∷ []) ∷ (arithmetic ge e ∷ []) ∷ [])) (less-column (s .q + x) hl)
+      ∙ ap (λ t. (t && true) && true) (within-single (negsuc 0) (s .q + x) (pos 1) (omega arith) (omega arith))
+
+  c-valid-within : s .q + (s .p + x) < 48 → s .n ≤ 196608 → childrenWithin (cValidChildren (numbered s) x) ≡ true
+  unfolding childrenWithin factsWithin
+  c-valid-within hc hn =
+      ap childrenWithin (first-is s x hl hc)
+      ∙ rw (within-single (negsuc 0) (s .q + x) (pos 1) (omega arith) (omega arith),
+      within-single (pos 1) (s .q + (s .p + x)) (pos 1) (omega arith) (omega arith),
+      within-single (pos 0) (s .q + (s .p + x)) (pos 1) (omega arith) (omega arith),
+      within-single (pos (s .n - 1)) (s .q + (s .p + x)) (negsuc 0) (omega arith) (omega arith))
+
+c-inj-within : (s : Progress) (x y : ℕ) → s .q + (s .p + x) < 48 → s .q + (s .p + y) < 48 → (x ≡ y → ⊥) → childrenWithin (cInjChildren (numbered s) x y) ≡ true
+unfolding childrenWithin factsWithin
+c-inj-within s x y hx hy n =
+    rw (minus-number (s .q + (s .p + x)) hx (negsuc 0), columns-difference (s .q + (s .p + x)) (s .q + (s .p + y)) hx hy (λ q. n (omega arith)),
+    within-single (pos 1) (s .q + (s .p + x)) (pos 1) (omega arith) (omega arith),
+    within-difference (s .q + (s .p + x)) (s .q + (s .p + y)))
+
+with-within : (x : ℕ) (ys : List ℕ) (more : List (List Fact)) → childrenWithin (pairsWith x ys more) ≡ childrenWithin more
+unfolding childrenWithin factsWithin
+with-within x [] more = refl
+with-within x (y ∷ ys) more = with-within x ys more
+
+pairs-within : (xs : List ℕ) (more : List (List Fact)) → childrenWithin (pairs xs more) ≡ childrenWithin more
+pairs-within [] more = refl
+pairs-within (x ∷ xs) more = with-within x xs (pairs xs more) ∙ pairs-within xs more
+
+log-bound : (d n m k : ℕ) → logUp d n m k ≤ k + d
+log-bound zero n m k = omega arith
+log-bound (suc d) n m k = go (leb m (n ^ k)) (log-bound d n m (suc k))
+  where
+    go : (t : Bool) → logUp d n m (suc k) ≤ suc k + d → elim t [ true ↦ k | false ↦ logUp d n m (suc k) ] ≤ k + suc d
+    go true h = omega arith
+    go false h = omega arith
+
+last-within : (s : Progress) (x m : ℕ) → s .q + x < 48 → m ≤ 16 → childrenWithin (lastChild (numbered s) x m) ≡ true
+unfolding childrenWithin factsWithin
+last-within s x m h g = go (decLt 1 (s .n))
+  where
+    go : Dec (1 < s .n) → childrenWithin (lastChild (numbered s) x m) ≡ true
+    go (yes n) =
+        let l : logUp m (s .n) m 0 ≤ 0 + m = log-bound m (s .n) m 0 in
+        let a : natAbs (negℤ (pos (logUp m (s .n) m 0))) ≡ logUp m (s .n) m 0 = abs-neg (pos (logUp m (s .n) m 0)) in
+        ap childrenWithin (last-is s x m n h)
+        ∙ ap (λ t. (t && true) && true) (within-single (negℤ (pos (logUp m (s .n) m 0))) (s .q + x) (pos 1) (omega arith) (omega arith))
+    go (no n) = ap childrenWithin (last-none s x m (omega arith))
+
+-- ---- by the rule's number
+
+module _ (b : List ℕ) (s : Progress) (at m : ℕ) (w : List ℤ) (count : ℕ) (h : Ready b s at m w count)
+    (f : fits (children (asked b s) (branchOf w count) (stepOf b (rule b at) at m)) ≡ true) where
+  of : (cs : List (List Fact)) → children (asked b s) (branchOf w count) (stepOf b (rule b at) at m) ≡ some cs → childrenWithin cs ≡ true
+      → childrenWithin (orNone (children (asked b s) (branchOf w count) (stepOf b (rule b at) at m))) ≡ true
+  of cs e t = ap (λ (o : Option (List (List Fact))). childrenWithin (orNone o)) e ∙ t
+
+  pub others-within : 3 < u16 b at → childrenWithin (orNone (children (asked b s) (branchOf w count) (stepOf b (rule b at) at m))) ≡ true
+  others-within g = go (ℕ-discrete (u16 b at) 8) (ℕ-discrete (u16 b at) 10) (ℕ-discrete (u16 b at) 11)
+    where
+      go : Dec (u16 b at ≡ 8) → Dec (u16 b at ≡ 10) → Dec (u16 b at ≡ 11) → childrenWithin (orNone (children (asked b s) (branchOf w count) (stepOf b (rule b at) at m))) ≡ true
+      go (yes e) d d' =
+          let few = h .few-strings in
+          let fewer = h .few-integers in
+          let l : u16 b (at + 4) < s .p = l-valid-operands b s at m w count h (sym e) .1 in
+          of _ (l-valid-child b s at m w count h f (sym e)) (l-valid-within s (u16 b (at + 4)) (omega arith))
+      go (no n8) (yes e) d' =
+          let few = h .few-strings in
+          let fewer = h .few-integers in
+          let l : u16 b (at + 4) < s .p = c-valid-operands b s at m w count h (sym e) .1 in
+          of _ (c-valid-child b s at m w count h f (sym e)) (c-valid-within s (u16 b (at + 4)) (omega arith) (omega arith) (h .few-characters))
+      go (no n8) (no n10) (yes e) =
+          let few = h .few-strings in
+          let fewer = h .few-integers in
+          let l : u16 b (at + 4) < s .p = c-inj-operands b s at m w count h (sym e) .1 in
+          let r : u16 b (at + 6) < s .p = c-inj-operands b s at m w count h (sym e) .2 in
+          of _ (c-inj-child b s at m w count h f (sym e)) (c-inj-within s (u16 b (at + 4)) (u16 b (at + 6)) (omega arith) (omega arith) (c-inj-differ b s at m w count h f (sym e)))
+      go (no n8) (no n10) (no n11) =
+          let e = card-left (u16 b at) (h .splits) (λ q. omega arith) (λ q. omega arith) n8 n10 n11 in
+          let o = card-operands b s at m w count h (sym e) in
+          let two : 2 ≤ (m - 4) / 2 = o .0 in
+          let most : (m - 4) / 2 ≤ 16 = o .1 in
+          let few = h .few-strings in
+          let fewer = h .few-integers in
+          let l : u16 b (at + 4) < s .p = below-first b (s .p) (at + 4) ((m - 4) / 2) (omega arith) (o .3) in
+          of _ (card-child b s at m w count h f (sym e)) (pairs-within (u16s b (at + 4) ((m - 4) / 2)) (lastChild (numbered s) (u16 b (at + 4)) ((m - 4) / 2)) ∙ last-within s (u16 b (at + 4)) ((m - 4) / 2) (omega arith) most)
+
+  pub two-children : u16 b at ≤ 3 → (c : List Fact) × (d : List Fact) × (children (asked b s) (branchOf w count) (stepOf b (rule b at) at m) ≡ some (c ∷ d ∷ []))
+  two-children g = go (ℕ-discrete (u16 b at) 2) (ℕ-discrete (u16 b at) 3)
+    where
+      go : Dec (u16 b at ≡ 2) → Dec (u16 b at ≡ 3) → (c : List Fact) × (d : List Fact) × (children (asked b s) (branchOf w count) (stepOf b (rule b at) at m) ≡ some (c ∷ d ∷ []))
+      go (yes e) d = (_, _, branch-child b s at m w count h f (sym e))
+      go (no n2) (yes e) = (_, _, apart-child b s at m w count h f (sym e))
+      go (no n2) (no n3) = absurd (let e = card-left (u16 b at) (h .splits) n2 n3 (λ q. omega arith) (λ q. omega arith) (λ q. omega arith) in omega (arith, e))

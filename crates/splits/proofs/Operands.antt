@@ -1,0 +1,174 @@
+-- The operands of a step of each rule, and its children.
+use Prim.Native.Nat.{ℕ, zero, suc, _+_, _*_, _-_, _/_, _≤_, _<_}
+use native.Mathlib.Omega.{arith}
+use mathlib.Core.Path.{_≡_, refl, sym, _∙_, ap, subst}
+use mathlib.Core.Bool.{true, false, not, _&&_}
+use mathlib.Core.Option.{Option, some}
+use mathlib.Core.List.{List, [], _∷_}
+use borrow.Author.Tests.{ltb-true, eqb-false, not-true}
+use lib.ListN.{length, drop}
+use lib.Dec.{ltb, eqb, T}
+use lib.IntN.{ℤ}
+use Rattle.calculus.specs.Facts.{Fact, Branch, Question}
+use Rattle.calculus.specs.Children.{splitChildren, apartChildren, lValidChildren, cValidChildren, cInjChildren, pairs}
+use Rattle.calculus.specs.Rules.{guard, distinct, neighbours, sameLength, lastChild, cardChildren, children}
+use Rattle.format.specs.Fields.{u16, u16s}
+use Rattle.format.specs.Question.{formRange, formOf}
+use Rattle.format.specs.Checking.{fits, orNone}
+use Rattle.format.specs.StepForms.{Rule, ruleOf, formFor, fitsForm, rule, allBelow, operandsInRange, stepOf}
+use Rattle.format.proofs.Faults.{and-true}
+use Rattle.steps.proofs.Table.{at-least, at-most, fits-by, least-four}
+use Rattle.question.specs.declared.Progress.{Progress}
+use Rattle.rows.specs.Rows.{factOf, rowAt, branchOf}
+use Rattle.rows.specs.Work.{kindOf}
+use Rattle.rows.proofs.Tested.{guard-fits, guard-given}
+use Rattle.splits.specs.Splits.{isSplit, Ready, asked, numbered}
+use Rattle.splits.proofs.Variables.{card-children}
+use Rattle.splits.proofs.Forms.{parted-is, parted-fits}
+
+-- Card is the last of these rules
+pub card-left : (k : ℕ) → isSplit (ruleOf k) ≡ true → (k ≡ 2 → ⊥) → (k ≡ 3 → ⊥) → (k ≡ 8 → ⊥) → (k ≡ 10 → ⊥) → (k ≡ 11 → ⊥) → k ≡ 12
+card-left zero e h2 h3 h8 h10 h11 = absurd (subst T (sym e) tt)
+card-left (suc zero) e h2 h3 h8 h10 h11 = absurd (subst T (sym e) tt)
+card-left (suc (suc zero)) e h2 h3 h8 h10 h11 = absurd (h2 refl)
+card-left (suc (suc (suc zero))) e h2 h3 h8 h10 h11 = absurd (h3 refl)
+card-left (suc (suc (suc (suc zero)))) e h2 h3 h8 h10 h11 = absurd (subst T (sym e) tt)
+card-left (suc (suc (suc (suc (suc zero))))) e h2 h3 h8 h10 h11 = absurd (subst T (sym e) tt)
+card-left (suc (suc (suc (suc (suc (suc zero)))))) e h2 h3 h8 h10 h11 = absurd (subst T (sym e) tt)
+card-left (suc (suc (suc (suc (suc (suc (suc zero))))))) e h2 h3 h8 h10 h11 = absurd (subst T (sym e) tt)
+card-left (suc (suc (suc (suc (suc (suc (suc (suc zero)))))))) e h2 h3 h8 h10 h11 = absurd (h8 refl)
+card-left (suc (suc (suc (suc (suc (suc (suc (suc (suc zero))))))))) e h2 h3 h8 h10 h11 = absurd (subst T (sym e) tt)
+card-left (suc (suc (suc (suc (suc (suc (suc (suc (suc (suc zero)))))))))) e h2 h3 h8 h10 h11 = absurd (h10 refl)
+card-left (suc (suc (suc (suc (suc (suc (suc (suc (suc (suc (suc zero))))))))))) e h2 h3 h8 h10 h11 = absurd (h11 refl)
+card-left (suc (suc (suc (suc (suc (suc (suc (suc (suc (suc (suc (suc zero)))))))))))) e h2 h3 h8 h10 h11 = refl
+card-left (suc (suc (suc (suc (suc (suc (suc (suc (suc (suc (suc (suc (suc zero))))))))))))) e h2 h3 h8 h10 h11 = absurd (subst T (sym e) tt)
+card-left (suc (suc (suc (suc (suc (suc (suc (suc (suc (suc (suc (suc (suc (suc k)))))))))))))) e h2 h3 h8 h10 h11 = absurd (subst T (sym e) tt)
+
+-- ---- Card asks for the numbers of a question alone
+
+neighbours-same : (b : List ℕ) (s : Progress) (br : Branch) (x : ℕ) (ys : List ℕ) → neighbours (numbered s) br x ys ≡ neighbours (asked b s) br x ys
+neighbours-same b s br x [] = refl
+neighbours-same b s br x (y ∷ ys) = ap (λ t. sameLength (numbered s) br x y && t) (neighbours-same b s br y ys)
+
+pub card-same : (b : List ℕ) (s : Progress) (br : Branch) (xs : List ℕ) → cardChildren (numbered s) br xs ≡ cardChildren (asked b s) br xs
+card-same b s br [] = refl
+card-same b s br (x ∷ []) = refl
+card-same b s br (x ∷ y ∷ xs) =
+    ap (λ t. guard (distinct (x ∷ y ∷ xs) && t) (pairs (x ∷ y ∷ xs) (lastChild (numbered s) x (length (x ∷ y ∷ xs))))) (neighbours-same b s br x (y ∷ xs))
+
+card-given : (s : Progress) (br : Branch) (b : List ℕ) (at m : ℕ) → 2 ≤ m → fits (cardChildren (numbered s) br (u16s b at m)) ≡ true
+    → cardChildren (numbered s) br (u16s b at m) ≡ some (pairs (u16s b at m) (lastChild (numbered s) (u16 b at) m))
+card-given s br b at m h e =
+    let q = card-children (numbered s) br b at m h in
+    q ∙ guard-given (distinct (u16s b at m) && neighbours (numbered s) br (u16 b at) (u16s b (at + 2) (m - 1))) (pairs (u16s b at m) (lastChild (numbered s) (u16 b at) m)) (sym (ap fits q) ∙ e)
+
+-- the children by the rule's number
+pub step-by : (u : Question) (br : Branch) (b : List ℕ) (at m k : ℕ) → k ≡ u16 b at → children u br (stepOf b (rule b at) at m) ≡ children u br (stepOf b (ruleOf k) at m)
+step-by u br b at m k e = ap (λ j. children u br (stepOf b (ruleOf j) at m)) (sym e)
+
+module _ (b : List ℕ) (s : Progress) (at m : ℕ) (w : List ℤ) (count : ℕ) (h : Ready b s at m w count) where
+  pub four : at + 4 ≤ length b
+  four =
+      let long = at-least (formFor (rule b at)) m (h .form-fits) in
+      let whole = h .whole in omega (arith, least-four (rule b at))
+
+  long : (k : ℕ) → k ≡ u16 b at → formFor (ruleOf k) .least ≤ m
+  long k e = at-least (formFor (ruleOf k)) m (fits-by b at m k e (h .form-fits))
+
+  ranged : (k : ℕ) → k ≡ u16 b at → operandsInRange b (s .p) (s .q + (s .p + s .p)) (ruleOf k) at m ≡ true
+  ranged k e = ap (λ j. operandsInRange b (s .p) (s .q + (s .p + s .p)) (ruleOf j) at m) e ∙ h .in-range
+
+  first-below : (x : ℕ) (xs : List ℕ) → allBelow (s .p) (x ∷ xs) ≡ true → x < s .p
+  first-below x xs e = ltb-true x (s .p) (and-true (ltb x (s .p)) (allBelow (s .p) xs) e .0)
+
+  -- Branch: the form
+  pub branch-operands : 2 ≡ u16 b at → (8 ≤ m) × (at + 4 + 4 + 6 * ((m - 8) / 6) ≤ length b) × (formRange b (s .q + (s .p + s .p)) (at + 4) ((m - 8) / 6) ≡ true)
+  unfolding operandsInRange
+  branch-operands e =
+      let l : 8 ≤ m = long 2 e in
+      let whole = h .whole in
+      (l, omega arith, ranged 2 e)
+
+  -- Apart: the fact
+  pub apart-operands : 3 ≡ u16 b at → at + 4 + 2 ≤ length b
+  apart-operands e =
+      let l : 6 ≤ m = long 3 e in
+      let whole = h .whole in omega arith
+
+  -- L-Valid, C-Valid: the variable
+  pub l-valid-operands : 8 ≡ u16 b at → (at + 4 + 2 ≤ length b) × (u16 b (at + 4) < s .p)
+  unfolding operandsInRange
+  l-valid-operands e =
+      let l : 6 ≤ m = long 8 e in
+      let whole = h .whole in
+      (omega arith, first-below (u16 b (at + 4)) [] (ranged 8 e))
+
+  pub c-valid-operands : 10 ≡ u16 b at → (at + 4 + 2 ≤ length b) × (u16 b (at + 4) < s .p)
+  unfolding operandsInRange
+  c-valid-operands e =
+      let l : 6 ≤ m = long 10 e in
+      let whole = h .whole in
+      (omega arith, first-below (u16 b (at + 4)) [] (ranged 10 e))
+
+  -- C-Inj: the variables
+  pub c-inj-operands : 11 ≡ u16 b at → (at + 6 + 2 ≤ length b) × (u16 b (at + 4) < s .p) × (u16 b (at + 6) < s .p)
+  unfolding operandsInRange
+  c-inj-operands e =
+      let l : 8 ≤ m = long 11 e in
+      let whole = h .whole in
+      (omega arith, first-below (u16 b (at + 4)) (u16 b (at + 6) ∷ []) (ranged 11 e), first-below (u16 b (at + 6)) [] (and-true (ltb (u16 b (at + 4)) (s .p)) (allBelow (s .p) (u16 b (at + 6) ∷ [])) (ranged 11 e) .1))
+
+  -- Card: the variables
+  pub card-operands : 12 ≡ u16 b at → (2 ≤ (m - 4) / 2) × ((m - 4) / 2 ≤ 16) × (at + 4 + 2 * ((m - 4) / 2) ≤ length b) × (allBelow (s .p) (u16s b (at + 4) ((m - 4) / 2)) ≡ true) × (4 ≤ m)
+  unfolding operandsInRange
+  card-operands e =
+      let l : 8 ≤ m = long 12 e in
+      let most : (m - 8) / 2 ≤ 14 = at-most (formFor (ruleOf 12)) m (fits-by b at m 12 e (h .form-fits)) in
+      let whole = h .whole in
+      (omega arith, omega arith, omega arith, ranged 12 e, omega arith)
+
+  -- ---- the children of each rule, where the step fits
+  module _ (f : fits (children (asked b s) (branchOf w count) (stepOf b (rule b at) at m)) ≡ true) where
+    fits-by-rule : (k : ℕ) → k ≡ u16 b at → fits (children (asked b s) (branchOf w count) (stepOf b (ruleOf k) at m)) ≡ true
+    fits-by-rule k e = sym (ap fits (step-by (asked b s) (branchOf w count) b at m k e)) ∙ f
+
+    pub branch-child : 2 ≡ u16 b at → children (asked b s) (branchOf w count) (stepOf b (rule b at) at m) ≡ some (splitChildren (formOf b (at + 4) ((m - 8) / 6)))
+    unfolding stepOf
+    branch-child e = step-by (asked b s) (branchOf w count) b at m 2 e
+
+    pub apart-fact : 3 ≡ u16 b at → (u16 b (at + 4) < count) × (kindOf (factOf (rowAt w (u16 b (at + 4)))) ≡ 2)
+    unfolding stepOf
+    apart-fact e = parted-fits w count (u16 b (at + 4)) (fits-by-rule 3 e)
+
+    pub apart-child : 3 ≡ u16 b at → children (asked b s) (branchOf w count) (stepOf b (rule b at) at m) ≡ some (apartChildren (drop 1 (rowAt w (u16 b (at + 4)))))
+    unfolding stepOf
+    apart-child e = step-by (asked b s) (branchOf w count) b at m 3 e ∙ parted-is w count (u16 b (at + 4)) (apart-fact e .0) (apart-fact e .1)
+
+    pub l-valid-child : 8 ≡ u16 b at → children (asked b s) (branchOf w count) (stepOf b (rule b at) at m) ≡ some (lValidChildren (numbered s) (u16 b (at + 4)))
+    unfolding stepOf
+    l-valid-child e = step-by (asked b s) (branchOf w count) b at m 8 e
+
+    pub c-valid-child : 10 ≡ u16 b at → children (asked b s) (branchOf w count) (stepOf b (rule b at) at m) ≡ some (cValidChildren (numbered s) (u16 b (at + 4)))
+    unfolding stepOf
+    c-valid-child e = step-by (asked b s) (branchOf w count) b at m 10 e
+
+    differ : 11 ≡ u16 b at → fits (guard (not (eqb (u16 b (at + 4)) (u16 b (at + 6)))) (cInjChildren (numbered s) (u16 b (at + 4)) (u16 b (at + 6)))) ≡ true
+    unfolding stepOf
+    differ e = fits-by-rule 11 e
+
+    pub c-inj-differ : 11 ≡ u16 b at → u16 b (at + 4) ≡ u16 b (at + 6) → ⊥
+    c-inj-differ e = eqb-false (u16 b (at + 4)) (u16 b (at + 6)) (not-true _ (sym (guard-fits (not (eqb (u16 b (at + 4)) (u16 b (at + 6)))) (cInjChildren (numbered s) (u16 b (at + 4)) (u16 b (at + 6)))) ∙ differ e))
+
+    pub c-inj-child : 11 ≡ u16 b at → children (asked b s) (branchOf w count) (stepOf b (rule b at) at m) ≡ some (cInjChildren (numbered s) (u16 b (at + 4)) (u16 b (at + 6)))
+    unfolding stepOf
+    c-inj-child e = step-by (asked b s) (branchOf w count) b at m 11 e ∙ guard-given (not (eqb (u16 b (at + 4)) (u16 b (at + 6)))) (cInjChildren (numbered s) (u16 b (at + 4)) (u16 b (at + 6))) (differ e)
+
+    pub card-child : 12 ≡ u16 b at → children (asked b s) (branchOf w count) (stepOf b (rule b at) at m) ≡ some (pairs (u16s b (at + 4) ((m - 4) / 2)) (lastChild (numbered s) (u16 b (at + 4)) ((m - 4) / 2)))
+    unfolding stepOf
+    card-child e =
+        let q = step-by (asked b s) (branchOf w count) b at m 12 e ∙ sym (card-same b s (branchOf w count) (u16s b (at + 4) ((m - 4) / 2))) in
+        q ∙ card-given s (branchOf w count) b (at + 4) ((m - 4) / 2) (card-operands e .0) (sym (ap fits q) ∙ f)
+
+-- a child's number is at most the number of children
+pub at-most-of : (o : Option (List (List Fact))) (cs : List (List Fact)) (k : ℕ) → o ≡ some cs → k ≤ length (orNone o) → k ≤ length cs
+at-most-of o cs k e h = subst (λ p. k ≤ length (orNone p)) e h

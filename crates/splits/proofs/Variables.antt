@@ -1,0 +1,142 @@
+-- Tests on the variables of a step, read one after another from the bytes.
+use Prim.Native.Nat.{ℕ, zero, suc, _+_, _*_, _-_, _≤_, _<_}
+use native.Mathlib.Numerals.{add-one}
+use native.Mathlib.Omega.{arith}
+use mathlib.Core.Path.{_≡_, refl, sym, _∙_, ap, ap₂, subst}
+use mathlib.Core.Bool.{Bool, true, false, not, _&&_, _||_}
+use mathlib.Core.Option.{Option, none, some}
+use mathlib.Core.List.{List, [], _∷_}
+use borrow.Author.Tests.{eq-eqb, ne-eqb, ltb-true}
+use lib.ListN.{length, getD}
+use lib.Dec.{eqb, ltb}
+use Rattle.calculus.specs.Facts.{Question, Branch}
+use Rattle.calculus.specs.Children.{pairs}
+use Rattle.calculus.specs.Rules.{guard, elem, distinct, neighbours, sameLength, lastChild, cardChildren}
+use Rattle.format.specs.Fields.{u16, u16s}
+use Rattle.format.specs.StepForms.{allBelow}
+use Rattle.format.proofs.Faults.{and-true}
+use Rattle.format.proofs.Fields.{length-u16s}
+use Rattle.rows.specs.Work.{statesEqual}
+
+-- the first of them and the others
+pub u16s-more : (b : List ℕ) (i left : ℕ) → 0 < left → u16s b i left ≡ u16 b i ∷ u16s b (i + 2) (left - 1)
+unfolding u16s
+u16s-more b i zero h = absurd (omega arith)
+u16s-more b i (suc n) h = let e : suc n - 1 ≡ n = omega arith in rw e
+
+pub u16s-done : (b : List ℕ) (i left : ℕ) → left ≤ 0 → u16s b i left ≡ []
+unfolding u16s
+u16s-done b i zero h = refl
+u16s-done b i (suc n) h = absurd (omega arith)
+
+pub u16s-one-more : (b : List ℕ) (i others : ℕ) → u16s b i (others + 1) ≡ u16 b i ∷ u16s b (i + 2) others
+unfolding u16s
+u16s-one-more b i others = rw add-one
+
+pub u16s-at : (b : List ℕ) (i n j : ℕ) → j < n → getD (u16s b i n) j 0 ≡ u16 b (i + 2 * j)
+unfolding u16s
+u16s-at b i zero j h = absurd (omega arith)
+u16s-at b i (suc n) zero h = let e : i + 2 * 0 ≡ i = omega arith in ap (u16 b) (sym e)
+u16s-at b i (suc n) (suc j) h =
+    let e : i + 2 + 2 * j ≡ i + 2 * suc j = omega arith in u16s-at b (i + 2) n j (omega arith) ∙ ap (u16 b) e
+
+-- ---- a variable among others
+
+pub elem-yes : (b : List ℕ) (i left x : ℕ) → 0 < left → u16 b i ≡ x → elem x (u16s b i left) ≡ true
+elem-yes b i left x h e = ap (elem x) (u16s-more b i left h) ∙ ap (λ t. t || elem x (u16s b (i + 2) (left - 1))) (eq-eqb x (u16 b i) (sym e))
+
+pub elem-no : (b : List ℕ) (i left x : ℕ) → 0 < left → (u16 b i ≡ x → ⊥) → elem x (u16s b i left) ≡ elem x (u16s b (i + 2) (left - 1))
+elem-no b i left x h e = ap (elem x) (u16s-more b i left h) ∙ ap (λ t. t || elem x (u16s b (i + 2) (left - 1))) (ne-eqb x (u16 b i) (λ q. e (sym q)))
+
+-- ---- different variables
+
+pub distinct-no : (b : List ℕ) (i left : ℕ) → 0 < left → elem (u16 b i) (u16s b (i + 2) (left - 1)) ≡ true → distinct (u16s b i left) ≡ false
+distinct-no b i left h e = ap distinct (u16s-more b i left h) ∙ ap (λ t. not t && distinct (u16s b (i + 2) (left - 1))) e
+
+pub distinct-yes : (b : List ℕ) (i left : ℕ) → 0 < left → elem (u16 b i) (u16s b (i + 2) (left - 1)) ≡ false → distinct (u16s b i left) ≡ distinct (u16s b (i + 2) (left - 1))
+distinct-yes b i left h e = ap distinct (u16s-more b i left h) ∙ ap (λ t. not t && distinct (u16s b (i + 2) (left - 1))) e
+
+not-true : (t : Bool) → not t ≡ true → t ≡ false
+not-true true e = sym e
+not-true false e = refl
+
+distinct-parts : (b : List ℕ) (i others : ℕ) → distinct (u16s b i (others + 1)) ≡ true → (elem (u16 b i) (u16s b (i + 2) others) ≡ false) × (distinct (u16s b (i + 2) others) ≡ true)
+distinct-parts b i others e =
+    let (p, q) = and-true (not (elem (u16 b i) (u16s b (i + 2) others))) (distinct (u16s b (i + 2) others)) (sym (ap distinct (u16s-one-more b i others)) ∙ e) in
+    (not-true _ p, q)
+
+recount : (others : ℕ) → 0 < others → others - 1 + 1 ≡ others
+recount others h = omega arith
+
+pub distinct-rest : (b : List ℕ) (i others : ℕ) → 0 < others → distinct (u16s b i (others + 1)) ≡ true → distinct (u16s b (i + 2) (others - 1 + 1)) ≡ true
+distinct-rest b i others h e = ap (λ n. distinct (u16s b (i + 2) n)) (recount others h) ∙ distinct-parts b i others e .1
+
+pub neighbours-differ : (b : List ℕ) (i others : ℕ) → 0 < others → distinct (u16s b i (others + 1)) ≡ true → u16 b i ≡ u16 b (i + 2) → ⊥
+neighbours-differ b i others h e q =
+    let f : elem (u16 b i) (u16s b (i + 2) others) ≡ true = elem-yes b (i + 2) others (u16 b i) h (sym q) in
+    clash (elem (u16 b i) (u16s b (i + 2) others)) f (distinct-parts b i others e .0)
+  where
+    clash : (t : Bool) → t ≡ true → t ≡ false → ⊥
+    clash true p q = let z : _≡_ {A = ℕ} 0 1 = cc in omega arith
+    clash false p q = let z : _≡_ {A = ℕ} 0 1 = cc in omega arith
+
+-- ---- variables below p
+
+pub below-first : (b : List ℕ) (p i left : ℕ) → 0 < left → allBelow p (u16s b i left) ≡ true → u16 b i < p
+below-first b p i left h e = ltb-true (u16 b i) p (and-true (ltb (u16 b i) p) (allBelow p (u16s b (i + 2) (left - 1))) (sym (ap (allBelow p) (u16s-more b i left h)) ∙ e) .0)
+
+pub below-others : (b : List ℕ) (p i left : ℕ) → 0 < left → allBelow p (u16s b i left) ≡ true → allBelow p (u16s b (i + 2) (left - 1)) ≡ true
+below-others b p i left h e = and-true (ltb (u16 b i) p) (allBelow p (u16s b (i + 2) (left - 1))) (sym (ap (allBelow p) (u16s-more b i left h)) ∙ e) .1
+
+pub below-at : (b : List ℕ) (p i n j : ℕ) → j < n → allBelow p (u16s b i n) ≡ true → u16 b (i + 2 * j) < p
+below-at b p i zero j h e = absurd (omega arith)
+below-at b p i (suc n) zero h e = let q : i + 2 * 0 ≡ i = omega arith in rw q (below-first b p i (suc n) (omega arith) e)
+below-at b p i (suc n) (suc j) h e =
+    let r : suc n - 1 ≡ n = omega arith in
+    let q : i + 2 * suc j ≡ i + 2 + 2 * j = omega arith in rw q (below-at b p (i + 2) n j (omega arith) (subst (λ l. allBelow p (u16s b (i + 2) l) ≡ true) r (below-others b p i (suc n) (omega arith) e)))
+
+pub below-later : (b : List ℕ) (p i others j : ℕ) → j < others → allBelow p (u16s b i (others + 1)) ≡ true → u16 b (i + 2 + 2 * j) < p
+below-later b p i others j h e =
+    let q : i + 2 * (j + 1) ≡ i + 2 + 2 * j = omega arith in
+    subst (λ k. u16 b k < p) q (below-at b p i (others + 1) (j + 1) (omega arith) e)
+
+pub below-second : (b : List ℕ) (p i others : ℕ) → 0 < others → allBelow p (u16s b i (others + 1)) ≡ true → u16 b (i + 2) < p
+below-second b p i others h e =
+    let q : i + 2 + 2 * 0 ≡ i + 2 = omega arith in
+    subst (λ k. u16 b k < p) q (below-later b p i others 0 h e)
+
+pub below-rest : (b : List ℕ) (p i others : ℕ) → 0 < others → allBelow p (u16s b i (others + 1)) ≡ true → allBelow p (u16s b (i + 2) (others - 1 + 1)) ≡ true
+below-rest b p i others h e =
+    let q : others + 1 - 1 ≡ others - 1 + 1 = omega arith in
+    subst (λ n. allBelow p (u16s b (i + 2) n) ≡ true) q (below-others b p i (others + 1) (omega arith) e)
+
+-- ---- neighbours
+
+module _ (u : Question) (br : Branch) where
+  states-same : (x y : ℕ) → sameLength u br x y ≡ statesEqual br (u .q + x) (u .q + y)
+  unfolding statesEqual
+  states-same x y = refl
+
+  neighbours-more : (b : List ℕ) (i others : ℕ) → 0 < others
+      → neighbours u br (u16 b i) (u16s b (i + 2) others) ≡ (statesEqual br (u .q + u16 b i) (u .q + u16 b (i + 2)) && neighbours u br (u16 b (i + 2)) (u16s b (i + 2 + 2) (others - 1)))
+  neighbours-more b i others h = ap (neighbours u br (u16 b i)) (u16s-more b (i + 2) others h) ∙ ap (λ t. t && neighbours u br (u16 b (i + 2)) (u16s b (i + 2 + 2) (others - 1))) (states-same (u16 b i) (u16 b (i + 2)))
+
+  pub neighbours-no : (b : List ℕ) (i others : ℕ) → 0 < others → statesEqual br (u .q + u16 b i) (u .q + u16 b (i + 2)) ≡ false → neighbours u br (u16 b i) (u16s b (i + 2) others) ≡ false
+  neighbours-no b i others h e = neighbours-more b i others h ∙ rw e
+
+  pub neighbours-yes : (b : List ℕ) (i others : ℕ) → 0 < others → statesEqual br (u .q + u16 b i) (u .q + u16 b (i + 2)) ≡ true
+      → neighbours u br (u16 b i) (u16s b (i + 2) others) ≡ neighbours u br (u16 b (i + 2)) (u16s b (i + 2 + 2) (others - 1))
+  neighbours-yes b i others h e = neighbours-more b i others h ∙ rw e
+
+  pub neighbours-done : (b : List ℕ) (i others : ℕ) → others ≤ 0 → neighbours u br (u16 b i) (u16s b (i + 2) others) ≡ true
+  neighbours-done b i others h = ap (neighbours u br (u16 b i)) (u16s-done b (i + 2) others h)
+
+  -- Card's children, of two variables or more
+  pub card-children : (b : List ℕ) (at m : ℕ) → 2 ≤ m
+      → cardChildren u br (u16s b at m) ≡ guard (distinct (u16s b at m) && neighbours u br (u16 b at) (u16s b (at + 2) (m - 1))) (pairs (u16s b at m) (lastChild u (u16 b at) m))
+  unfolding u16s
+  card-children b at zero h = absurd (omega arith)
+  card-children b at (suc zero) h = absurd (omega arith)
+  card-children b at (suc (suc m)) h =
+      let e : suc (suc m) - 1 ≡ suc m = omega arith in
+      rw e (ap (λ n. guard (distinct (u16s b at (suc (suc m))) && neighbours u br (u16 b at) (u16s b (at + 2) (suc m))) (pairs (u16s b at (suc (suc m))) (lastChild u (u16 b at) n))) (length-u16s b at (suc (suc m))))

@@ -1,0 +1,63 @@
+-- `splits::bound_row` meets its contract.
+use Prim.Native.Nat.{ℕ, _+_, _*_, _-_, _/_, _≤_, _<_}
+use borrow.Author.Needs.{needs}
+use borrow.Author.Tests.{not-false, not-true, eq-eqb, ne-eqb, ltb-true}
+use denote.Ref.{now}
+use lib.IntN.{ℤ, pos, negsuc, negℤ}
+use lib.ListN.{length, getD, drop}
+use lib.Dec.{eqb}
+use mathlib.Core.Bool.{Bool, true, false, not, _&&_}
+use mathlib.Core.List.{List, [], _∷_, _++_}
+use mathlib.Core.Option.{some}
+use mathlib.Core.Path.{_∙_, _≡_, refl, sym, ap, ap₂, subst}
+use mir.Facts.{toZ-ofZ, toZ-pos}
+use mir.Syntax.{w64}
+use mir.Val.{SFits, ofZ, toZ}
+use native.Mathlib.Omega.{arith}
+use Rattle.calculus.specs.Facts.{Fact, same, apart, isLiteral, arithmetic, ge, eq, ne}
+use Rattle.calculus.specs.Rows.{column, number, minus, less, below}
+use Rattle.calculus.specs.Children.{splitChildren, apartChildren, lValidChildren, cValidChildren, cInjChildren, pairs}
+use Rattle.calculus.specs.Rules.{elem, distinct, neighbours, lastChild, cardChildren, children, logUp}
+use Rattle.format.specs.Fields.{u16, u16s}
+use Rattle.format.specs.Question.{formOf, relationOf}
+use Rattle.format.specs.StepForms.{allBelow, stepAt, stepOf, rule, ruleOf}
+use Rattle.format.specs.Checking.{fits, orNone, rowWithin, factWithin, factsWithin, childrenWithin}
+use Rattle.rows.specs.Rows.{factOf, rowAt, branchOf}
+use Rattle.rows.specs.Work.{kindOf, single, difference, statesEqual}
+use Rattle.rows.proofs.Branches.{length-row}
+use Rattle.rows.proofs.Forms.{less-column, minus-number, columns-difference}
+use Rattle.rows.proofs.Small.{small-fits, fine-at, neg-fits, neg-is}
+use Rattle.integers.proofs.Laws.{minus-one-*ℤ}
+use Rattle.rows.proofs.Tested.{guard-fits}
+use Rattle.constraints.proofs.Ranges.{form-within, form-rises}
+use Rattle.splits.specs.Splits.{numbered, asked, childOf}
+use Rattle.splits.proofs.Forms.{child-one, child-two, child-three, child-at, parted-beyond, parted-is, parted-test, ne-within, ge-form, c-valid-one, c-valid-two, put-two, put-three, last-is, last-some}
+use Rattle.splits.proofs.bound_row.Statement.{statement}
+use Rattle.splits.proofs.bound_row.Tie as tie
+
+log-up-requires : tie.Need-log-up-requires
+log-up-requires c κs = search needs
+
+cast-bound : tie.Need-cast-bound
+cast-bound c = search needs
+
+sub-single-row : tie.Need-sub-single-row
+sub-single-row c = let m : c .before .args .m ≤ 16 = c .before .pre .1 in let h : c .log-up .result ≤ 16 = omega (arith, c .log-up .ensures .1) in neg-fits (pos (c .log-up .result)) 16 h (omega arith)
+
+add-single-row : tie.Need-add-single-row
+add-single-row c = search needs
+
+single-row-requires : tie.Need-single-row-requires
+single-row-requires c κs = search needs
+
+returns : tie.Need-returns
+returns c =
+    let s = c .before .before .before in
+    let r = c .before .before .log-up .result in
+    let m : s .args .m ≤ 16 = s .pre .1 in
+    let h : r ≤ 16 = omega (arith, c .before .before .log-up .ensures .1) in
+    ap (λ (f : Fact). (f ∷ []) ∷ []) (c .single-row .ensures ∙ ap (λ (z : ℤ). arithmetic ge (single z (s .args .s .q + s .args .x) (pos 1))) (neg-is (pos r) 16 h (omega arith) ∙ minus-one-*ℤ (pos r) ∙ ap (λ (n : ℕ). negℤ (pos n)) (c .before .before .log-up .ensures .0)))
+    ∙ sym (last-is (s .args .s) (s .args .x) (s .args .m) (s .pre .2) (omega (arith, s .pre)))
+
+pub bound-row-spec : {M : Type 1} → statement M
+bound-row-spec = tie.close (tie.spec log-up-requires cast-bound sub-single-row add-single-row single-row-requires returns)

@@ -1,0 +1,107 @@
+-- `splits::lengths_agree` meets its contract.
+use Prim.Native.Nat.{ℕ, _+_, _*_, _-_, _/_, _≤_, _<_}
+use borrow.Author.Needs.{needs}
+use borrow.Author.Tests.{not-false, not-true, eq-eqb, ne-eqb, ltb-true}
+use denote.Ref.{now}
+use lib.IntN.{ℤ, pos, negsuc, negℤ}
+use lib.ListN.{length, getD, drop}
+use lib.Dec.{eqb}
+use mathlib.Core.Bool.{Bool, true, false, not, _&&_}
+use mathlib.Core.List.{List, [], _∷_, _++_}
+use mathlib.Core.Option.{some}
+use mathlib.Core.Path.{_∙_, _≡_, refl, sym, ap, ap₂, subst}
+use mir.Facts.{toZ-ofZ, toZ-pos}
+use mir.Syntax.{w64}
+use mir.Val.{SFits, ofZ, toZ}
+use native.Mathlib.Omega.{arith}
+use Rattle.calculus.specs.Facts.{Fact, same, apart, isLiteral, arithmetic, ge, eq, ne}
+use Rattle.calculus.specs.Rows.{column, number, minus, less, below}
+use Rattle.calculus.specs.Children.{splitChildren, apartChildren, lValidChildren, cValidChildren, cInjChildren, pairs}
+use Rattle.calculus.specs.Rules.{elem, distinct, neighbours, lastChild, cardChildren, children, logUp}
+use Rattle.format.specs.Fields.{u16, u16s}
+use Rattle.format.specs.Question.{formOf, relationOf}
+use Rattle.format.specs.StepForms.{allBelow, stepAt, stepOf, rule, ruleOf}
+use Rattle.format.specs.Checking.{fits, orNone, rowWithin, factWithin, factsWithin, childrenWithin}
+use Rattle.rows.specs.Rows.{factOf, rowAt, branchOf}
+use Rattle.rows.specs.Work.{kindOf, single, difference, statesEqual}
+use Rattle.rows.proofs.Branches.{length-row}
+use Rattle.rows.proofs.Forms.{less-column, minus-number, columns-difference}
+use Rattle.rows.proofs.Small.{small-fits, fine-at, neg-fits, neg-is}
+use Rattle.integers.proofs.Laws.{minus-one-*ℤ}
+use Rattle.rows.proofs.Tested.{guard-fits}
+use Rattle.constraints.proofs.Ranges.{form-within, form-rises}
+use Rattle.splits.specs.Splits.{numbered, asked, childOf}
+use Rattle.splits.proofs.Variables.{u16s-done, elem-yes, elem-no, distinct-no, distinct-yes, distinct-rest, neighbours-differ, below-first, below-second, below-later, below-rest, neighbours-no, neighbours-yes, neighbours-done, card-children}
+use Rattle.splits.proofs.lengths_agree.Statement.{statement}
+use Rattle.splits.proofs.lengths_agree.Tie as tie
+
+abbrev Inv-loop : tie.InvT-loop
+Inv-loop b s at others work count i₀ left₀ i left = (i + 2 + 2 * left ≤ length b) × (distinct (u16s b i (left + 1)) ≡ true) × (allBelow (s .p) (u16s b i (left + 1)) ≡ true) × (neighbours (numbered s) (branchOf work count) (u16 b i) (u16s b (i + 2) left) ≡ neighbours (numbered s) (branchOf work count) (u16 b at) (u16s b (at + 2) others))
+
+abbrev μ-loop : tie.MeasureT-loop
+μ-loop b s at others work count i₀ left₀ i left = left
+
+loop-holds : tie.Need-loop-holds Inv-loop μ-loop
+loop-holds c = let s = c .before in (s .pre .0 .0, s .pre .1 .0 .0, s .pre .1 .0 .1, refl)
+
+u16-at-requires : tie.Need-u16-at-requires Inv-loop μ-loop
+u16-at-requires c κs = omega arith
+
+add-u16-at : tie.Need-add-u16-at Inv-loop μ-loop
+add-u16-at c = omega arith
+
+u16-at-requires-2 : tie.Need-u16-at-requires-2 Inv-loop μ-loop
+u16-at-requires-2 c κs = omega arith
+
+add-states-equal : tie.Need-add-states-equal Inv-loop μ-loop
+add-states-equal c = search needs
+
+add-states-equal-2 : tie.Need-add-states-equal-2 Inv-loop μ-loop
+add-states-equal-2 c = search needs
+
+states-equal-requires : tie.Need-states-equal-requires Inv-loop μ-loop
+states-equal-requires c κs =
+    let s = c .before .before .before .before .before .before .before in
+    let l = c .before .before .before .before .before .loop in
+    let b = now (s .args .b) in
+    let fx : u16 b (l .i) < s .args .s .p = below-first b (s .args .s .p) (l .i) (l .left + 1) (omega arith) (l .inv .2) in
+    let fy : u16 b (l .i + 2) < s .args .s .p = below-second b (s .args .s .p) (l .i) (l .left) (omega arith) (l .inv .2) in
+    let ex : c .before .before .before .u16-at .result ≡ u16 b (l .i) = c .before .before .before .u16-at .ensures .0 in
+    let ey : c .before .before .u16-at2 .result ≡ u16 b (l .i + 2) = c .before .before .u16-at2 .ensures .0 in
+    let few : s .args .s .p ≤ 16 = s .pre .0 .1 in
+    let fewer : s .args .s .q ≤ 16 = s .pre .0 .2 in
+    (s .pre .1 .1, (omega arith, omega arith, λ q. neighbours-differ b (l .i) (l .left) (omega arith) (l .inv .1) (let e : c .before .before .before .u16-at .result ≡ c .before .before .u16-at2 .result = omega arith in sym ex ∙ e ∙ ey)))
+
+returns : tie.Need-returns Inv-loop μ-loop
+returns c =
+    let s = c .before .before .before .before .before .before .before .before .before in
+    let l = c .before .before .before .before .before .before .before .loop in
+    let b = now (s .args .b) in
+    let br = branchOf (now (s .args .work)) (s .args .count) in
+    sym (neighbours-no (numbered (s .args .s)) br b (l .i) (l .left) (omega arith) (ap₂ (λ (x y : ℕ). statesEqual br (s .args .s .q + x) (s .args .s .q + y)) (sym (c .before .before .before .before .before .u16-at .ensures .0)) (sym (c .before .before .before .before .u16-at2 .ensures .0)) ∙ sym (c .before .states-equal .ensures) ∙ not-true _ (c .if1 .taken))) ∙ l .inv .3
+
+add-i : tie.Need-add-i Inv-loop μ-loop
+add-i c = omega arith
+
+sub-left : tie.Need-sub-left Inv-loop μ-loop
+sub-left c = omega arith
+
+loop-less : tie.Need-loop-less Inv-loop μ-loop
+loop-less c = omega arith
+
+loop-again : tie.Need-loop-again Inv-loop μ-loop
+loop-again c =
+    let s = c .before .before .before .before .before .before .before .before .before in
+    let l = c .before .before .before .before .before .before .before .loop in
+    let b = now (s .args .b) in
+    let br = branchOf (now (s .args .work)) (s .args .count) in
+    (omega arith, distinct-rest b (l .i) (l .left) (omega arith) (l .inv .1), below-rest b (s .args .s .p) (l .i) (l .left) (omega arith) (l .inv .2), sym (neighbours-yes (numbered (s .args .s)) br b (l .i) (l .left) (omega arith) (ap₂ (λ (x y : ℕ). statesEqual br (s .args .s .q + x) (s .args .s .q + y)) (sym (c .before .before .before .before .before .u16-at .ensures .0)) (sym (c .before .before .before .before .u16-at2 .ensures .0)) ∙ sym (c .before .states-equal .ensures) ∙ not-false _ (c .if1 .left))) ∙ l .inv .3)
+
+returns-2 : tie.Need-returns-2 Inv-loop μ-loop
+returns-2 c =
+    let s = c .before .before .before in
+    let l = c .before .loop in
+    sym (neighbours-done (numbered (s .args .s)) (branchOf (now (s .args .work)) (s .args .count)) (now (s .args .b)) (l .i) (l .left) (omega arith)) ∙ l .inv .3
+
+pub lengths-agree-spec : {M : Type 1} → statement M
+lengths-agree-spec = tie.close (tie.spec Inv-loop μ-loop loop-holds u16-at-requires add-u16-at u16-at-requires-2 add-states-equal add-states-equal-2 states-equal-requires returns add-i sub-left loop-less loop-again returns-2)

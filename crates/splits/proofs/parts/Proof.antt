@@ -1,0 +1,53 @@
+-- `splits::parts` meets its contract.
+use Prim.Native.Nat.{ℕ, _+_, _*_, _-_, _/_, _≤_, _<_}
+use borrow.Author.Needs.{needs}
+use borrow.Author.Tests.{not-false, not-true, eq-eqb, ne-eqb, ltb-true}
+use denote.Ref.{now}
+use lib.IntN.{ℤ, pos, negsuc, negℤ}
+use lib.ListN.{length, getD, drop}
+use lib.Dec.{eqb}
+use mathlib.Core.Bool.{Bool, true, false, not, _&&_}
+use mathlib.Core.List.{List, [], _∷_, _++_}
+use mathlib.Core.Option.{some}
+use mathlib.Core.Path.{_∙_, _≡_, refl, sym, ap, ap₂, subst}
+use mir.Facts.{toZ-ofZ, toZ-pos}
+use mir.Syntax.{w64}
+use mir.Val.{SFits, ofZ, toZ}
+use native.Mathlib.Omega.{arith}
+use Rattle.calculus.specs.Facts.{Fact, same, apart, isLiteral, arithmetic, ge, eq, ne}
+use Rattle.calculus.specs.Rows.{column, number, minus, less, below}
+use Rattle.calculus.specs.Children.{splitChildren, apartChildren, lValidChildren, cValidChildren, cInjChildren, pairs}
+use Rattle.calculus.specs.Rules.{elem, distinct, neighbours, lastChild, cardChildren, children, logUp}
+use Rattle.format.specs.Fields.{u16, u16s}
+use Rattle.format.specs.Question.{formOf, relationOf}
+use Rattle.format.specs.StepForms.{allBelow, stepAt, stepOf, rule, ruleOf}
+use Rattle.format.specs.Checking.{fits, orNone, rowWithin, factWithin, factsWithin, childrenWithin}
+use Rattle.rows.specs.Rows.{factOf, rowAt, branchOf}
+use Rattle.rows.specs.Work.{kindOf, single, difference, statesEqual}
+use Rattle.rows.proofs.Branches.{length-row}
+use Rattle.rows.proofs.Forms.{less-column, minus-number, columns-difference}
+use Rattle.rows.proofs.Small.{small-fits, fine-at, neg-fits, neg-is}
+use Rattle.integers.proofs.Laws.{minus-one-*ℤ}
+use Rattle.rows.proofs.Tested.{guard-fits}
+use Rattle.constraints.proofs.Ranges.{form-within, form-rises}
+use Rattle.splits.specs.Splits.{numbered, asked, childOf}
+use Rattle.splits.proofs.Forms.{child-one, child-two, child-three, child-at, parted-beyond, parted-is, parted-test, ne-within, ge-form, c-valid-one, c-valid-two, put-two, put-three, last-is, last-some}
+use Rattle.splits.proofs.parts.Statement.{statement}
+use Rattle.splits.proofs.parts.Tie as tie
+
+returns : tie.Need-returns
+returns c = let s = c .before in sym (parted-beyond (now (s .args .work)) (s .args .count) (s .args .fact) (c .if1 .taken))
+
+row-at-requires : tie.Need-row-at-requires
+row-at-requires c κs = search needs
+
+kind-of-requires : tie.Need-kind-of-requires
+kind-of-requires c κs = let s = c .before .before in let few = s .pre .0 in let room = s .pre .1 in ap length (c .row-at .ensures) ∙ length-row (now (s .args .work)) (s .args .fact) (omega arith)
+
+returns-2 : tie.Need-returns-2
+returns-2 c =
+    let s = c .before .before .before in
+    ap (λ (n : ℕ). eqb n 2) (c .kind-of .ensures ∙ ap (λ (r : List ℤ). kindOf (factOf r)) (c .before .row-at .ensures)) ∙ parted-test (now (s .args .work)) (s .args .count) (s .args .fact) (omega arith)
+
+pub parts-spec : {M : Type 1} → statement M
+parts-spec = tie.close (tie.spec returns row-at-requires kind-of-requires returns-2)

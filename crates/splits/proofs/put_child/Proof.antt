@@ -1,0 +1,114 @@
+-- `splits::put_child` meets its contract.
+use Prim.Native.Nat.{ℕ, _+_, _*_, _-_, _/_, _≤_, _<_}
+use borrow.Author.Needs.{needs}
+use borrow.Author.Tests.{not-false, not-true, eq-eqb, ne-eqb, ltb-true}
+use denote.Ref.{now}
+use lib.IntN.{ℤ, pos, negsuc, negℤ}
+use lib.ListN.{length, getD, drop}
+use lib.Dec.{eqb}
+use mathlib.Core.Bool.{Bool, true, false, not, _&&_}
+use mathlib.Core.List.{List, [], _∷_, _++_}
+use mathlib.Core.Option.{some}
+use mathlib.Core.Path.{_∙_, _≡_, refl, sym, ap, ap₂, subst}
+use mir.Facts.{toZ-ofZ, toZ-pos}
+use mir.Syntax.{w64}
+use mir.Val.{SFits, ofZ, toZ}
+use native.Mathlib.Omega.{arith}
+use Rattle.calculus.specs.Facts.{Fact, same, apart, isLiteral, arithmetic, ge, eq, ne}
+use Rattle.calculus.specs.Rows.{column, number, minus, less, below}
+use Rattle.calculus.specs.Children.{splitChildren, apartChildren, lValidChildren, cValidChildren, cInjChildren, pairs}
+use Rattle.calculus.specs.Rules.{elem, distinct, neighbours, lastChild, cardChildren, children, logUp}
+use Rattle.format.specs.Fields.{u16, u16s}
+use Rattle.format.specs.Question.{formOf, relationOf}
+use Rattle.format.specs.StepForms.{allBelow, stepAt, stepOf, rule, ruleOf}
+use Rattle.format.specs.Checking.{fits, orNone, rowWithin, factWithin, factsWithin, childrenWithin}
+use Rattle.rows.specs.Rows.{factOf, rowAt, branchOf}
+use Rattle.rows.specs.Work.{kindOf, single, difference, statesEqual}
+use Rattle.rows.proofs.Branches.{length-row}
+use Rattle.rows.proofs.Forms.{less-column, minus-number, columns-difference}
+use Rattle.rows.proofs.Small.{small-fits, fine-at, neg-fits, neg-is}
+use Rattle.integers.proofs.Laws.{minus-one-*ℤ}
+use Rattle.rows.proofs.Tested.{guard-fits}
+use Rattle.constraints.proofs.Ranges.{form-within, form-rises}
+use Rattle.splits.specs.Splits.{numbered, asked, childOf}
+use Rattle.splits.specs.Splits.{isSplit}
+use Rattle.splits.proofs.Operands.{card-left, card-same, step-by, four, branch-operands, apart-operands, l-valid-operands, c-valid-operands, c-inj-operands, card-operands, branch-child, apart-fact, apart-child, l-valid-child, c-valid-child, c-inj-differ, c-inj-child, card-child, at-most-of}
+use Rattle.calculus.specs.Rules.{then, parted}
+use lib.ListN.{getElem?}
+use mathlib.Core.Option.{Option}
+use Rattle.splits.proofs.Forms.{c-valid-size}
+use Rattle.splits.proofs.put_child.Statement.{statement}
+use Rattle.splits.proofs.put_child.Tie as tie
+
+u16-at-requires : tie.Need-u16-at-requires
+u16-at-requires c κs =
+    let s = c .before in
+    let b = now (s .args .ticket) in
+    let br = branchOf (now (s .args .work)) (s .args .count) in
+    omega (arith, four (now (s .args .ticket)) (s .args .s) (s .args .at) (s .args .size) (now (s .args .work)) (s .args .count) (s .pre .0))
+
+add-u16-at : tie.Need-add-u16-at
+add-u16-at c = search needs
+
+u16-at-requires-2 : tie.Need-u16-at-requires-2
+u16-at-requires-2 c κs =
+    let s = c .before .before .before .before in
+    let b = now (s .args .ticket) in
+    let br = branchOf (now (s .args .work)) (s .args .count) in
+    c-valid-operands (now (s .args .ticket)) (s .args .s) (s .args .at) (s .args .size) (now (s .args .work)) (s .args .count) (s .pre .0) (sym (c .before .if1 .taken) ∙ c .before .before .u16-at .ensures .0) .0
+
+put-c-valid-requires : tie.Need-put-c-valid-requires
+put-c-valid-requires c κs =
+    let s = c .before .before .before .before .before in
+    let b = now (s .args .ticket) in
+    let br = branchOf (now (s .args .work)) (s .args .count) in
+    let x : c .u16-at2 .result ≡ u16 b (s .args .at + 4) = c .u16-at2 .ensures .0 in
+    let l : u16 b (s .args .at + 4) < s .args .s .p = c-valid-operands (now (s .args .ticket)) (s .args .s) (s .args .at) (s .args .size) (now (s .args .work)) (s .args .count) (s .pre .0) (sym (c .before .before .if1 .taken) ∙ c .before .before .before .u16-at .ensures .0) .1 in
+    let few = s .pre .0 .few-strings in
+    let most = at-most-of _ _ (s .args .k) (c-valid-child (now (s .args .ticket)) (s .args .s) (s .args .at) (s .args .size) (now (s .args .work)) (s .args .count) (s .pre .0) (s .pre .1 .0 .fitting) (sym (c .before .before .if1 .taken) ∙ c .before .before .before .u16-at .ensures .0)) (s .pre .1 .0 .at-most) in
+    let from = s .pre .1 .0 .from-one in
+    let n = ap (λ (o : Option (List (List Fact))). length (childOf o (s .args .k))) (c-valid-child (now (s .args .ticket)) (s .args .s) (s .args .at) (s .args .size) (now (s .args .work)) (s .args .count) (s .pre .0) (s .pre .1 .0 .fitting) (sym (c .before .before .if1 .taken) ∙ c .before .before .before .u16-at .ensures .0)) ∙ c-valid-size (s .args .s) (u16 b (s .args .at + 4)) (s .args .k) from most in
+    let fact-room = s .pre .1 .1 in
+    ((omega arith, s .pre .0 .fine .room, from, most, omega arith), (s .pre .0 .few-strings, s .pre .0 .few-integers, s .pre .0 .some-character, s .pre .0 .few-characters))
+
+same-length : tie.Need-same-length
+same-length c = search needs
+
+returns : tie.Need-returns
+returns c =
+    let s = c .before .before .before .before .before .before .before in
+    let b = now (s .args .ticket) in
+    let br = branchOf (now (s .args .work)) (s .args .count) in
+    c .before .put-c-valid .ensures ∙ ap (λ (n : ℕ). br ++ childOf (some (cValidChildren (numbered (s .args .s)) n)) (s .args .k)) (c .before .before .u16-at2 .ensures .0) ∙ ap (λ (l : List Fact). br ++ l) (sym (ap (λ (o : Option (List (List Fact))). childOf o (s .args .k)) (c-valid-child (now (s .args .ticket)) (s .args .s) (s .args .at) (s .args .size) (now (s .args .work)) (s .args .count) (s .pre .0) (s .pre .1 .0 .fitting) (sym (c .before .before .before .before .if1 .taken) ∙ c .before .before .before .before .before .u16-at .ensures .0))))
+
+child-row-requires : tie.Need-child-row-requires
+child-row-requires c κs =
+    let s = c .before .before .before .before in
+    let b = now (s .args .ticket) in
+    let br = branchOf (now (s .args .work)) (s .args .count) in
+    (s .pre .0, ((λ q. c .before .if1 .left (c .before .before .u16-at .ensures .0 ∙ q)), s .pre .1 .0))
+
+put-row-requires : tie.Need-put-row-requires
+put-row-requires c κs =
+    let s = c .before .before .before .before .before .before in
+    let b = now (s .args .ticket) in
+    let br = branchOf (now (s .args .work)) (s .args .count) in
+    let n = ap length (c .before .child-row .ensures) in
+    let fact-room = s .pre .1 .1 in
+    (omega arith, s .pre .0 .fine .room)
+
+add-result : tie.Need-add-result
+add-result c = search needs
+
+same-length-2 : tie.Need-same-length-2
+same-length-2 c = search needs
+
+returns-2 : tie.Need-returns-2
+returns-2 c =
+    let s = c .before .before .before .before .before .before .before .before in
+    let b = now (s .args .ticket) in
+    let br = branchOf (now (s .args .work)) (s .args .count) in
+    c .before .put-row .ensures ∙ ap (λ (l : List Fact). br ++ l) (c .before .before .before .child-row .ensures)
+
+pub put-child-spec : {M : Type 1} → statement M
+put-child-spec = tie.close (tie.spec u16-at-requires add-u16-at u16-at-requires-2 put-c-valid-requires same-length returns child-row-requires put-row-requires add-result same-length-2 returns-2)
