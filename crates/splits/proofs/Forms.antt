@@ -135,8 +135,6 @@ put-three v x y k f g h h' p q a =
     let e : k + 3 ≡ k + 2 + 1 = omega arith in
     ap (branchOf y) e ∙ q ∙ ap (λ l. l ++ (h ∷ [])) p ∙ append-assoc (branchOf v k) (f ∷ g ∷ []) (h ∷ []) ∙ ap (λ z. branchOf v k ++ (f ∷ g ∷ z ∷ [])) a
 
-
-
 -- ---- Card's last child
 
 pub last-is : (s : Progress) (x m : ℕ) → 2 ≤ s .n → s .q + x < 48

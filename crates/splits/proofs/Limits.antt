@@ -67,17 +67,22 @@ module _ (s : Progress) (x : ℕ) (hl : s .q + x < 48) where
   unfolding childrenWithin factsWithin
   c-valid-within hc hn =
       ap childrenWithin (first-is s x hl hc)
-      ∙ rw (within-single (negsuc 0) (s .q + x) (pos 1) (omega arith) (omega arith),
-      within-single (pos 1) (s .q + (s .p + x)) (pos 1) (omega arith) (omega arith),
-      within-single (pos 0) (s .q + (s .p + x)) (pos 1) (omega arith) (omega arith),
-      within-single (pos (s .n - 1)) (s .q + (s .p + x)) (negsuc 0) (omega arith) (omega arith))
+      ∙ rw (
+        within-single (negsuc 0) (s .q + x) (pos 1) (omega arith) (omega arith),
+        within-single (pos 1) (s .q + (s .p + x)) (pos 1) (omega arith) (omega arith),
+        within-single (pos 0) (s .q + (s .p + x)) (pos 1) (omega arith) (omega arith),
+        within-single (pos (s .n - 1)) (s .q + (s .p + x)) (negsuc 0) (omega arith) (omega arith),
+      )
 
 c-inj-within : (s : Progress) (x y : ℕ) → s .q + (s .p + x) < 48 → s .q + (s .p + y) < 48 → (x ≡ y → ⊥) → childrenWithin (cInjChildren (numbered s) x y) ≡ true
 unfolding childrenWithin factsWithin
 c-inj-within s x y hx hy n =
-    rw (minus-number (s .q + (s .p + x)) hx (negsuc 0), columns-difference (s .q + (s .p + x)) (s .q + (s .p + y)) hx hy (λ q. n (omega arith)),
-    within-single (pos 1) (s .q + (s .p + x)) (pos 1) (omega arith) (omega arith),
-    within-difference (s .q + (s .p + x)) (s .q + (s .p + y)))
+    rw (
+      minus-number (s .q + (s .p + x)) hx (negsuc 0),
+      columns-difference (s .q + (s .p + x)) (s .q + (s .p + y)) hx hy (λ q. n (omega arith)),
+      within-single (pos 1) (s .q + (s .p + x)) (pos 1) (omega arith) (omega arith),
+      within-difference (s .q + (s .p + x)) (s .q + (s .p + y)),
+    )
 
 with-within : (x : ℕ) (ys : List ℕ) (more : List (List Fact)) → childrenWithin (pairsWith x ys more) ≡ childrenWithin more
 unfolding childrenWithin factsWithin

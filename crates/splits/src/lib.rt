@@ -70,7 +70,14 @@ fn all_differ(b: &[u8], at: usize, count: usize) -> bool
 }
 
 // Card: "for each neighbouring pair a fact states their lengths' difference = 0", of the variable at a position and the others behind it.
-fn lengths_agree(b: &[u8], s: Progress, at: usize, others: usize, work: &[i64], count: usize) -> bool
+fn lengths_agree(
+    b: &[u8],
+    s: Progress,
+    at: usize,
+    others: usize,
+    work: &[i64],
+    count: usize,
+) -> bool
     requires { ⌜ (at + 2 + 2 * others ≤ length (now b)) × (s .p ≤ variableLimit) × (s .q ≤ variableLimit) ⌝ }
     requires { ⌜ (distinct (u16s (now b) at (others + 1)) ≡ true) × (allBelow (s .p) (u16s (now b) at (others + 1)) ≡ true) ⌝ }
     requires { ⌜ (count ≤ factLimit) × (workNumbers ≤ length (now work)) ⌝ }
@@ -208,7 +215,15 @@ fn card_row(b: &[u8], s: Progress, at: usize, m: usize, k: usize) -> [i64; 50]
 // ---- children by number
 
 // The only fact of child k, for every rule but C-Valid.
-fn child_row(ticket: &[u8], s: Progress, at: usize, size: usize, work: &[i64], count: usize, k: usize) -> [i64; 50]
+fn child_row(
+    ticket: &[u8],
+    s: Progress,
+    at: usize,
+    size: usize,
+    work: &[i64],
+    count: usize,
+    k: usize,
+) -> [i64; 50]
     requires { ⌜ Ready (now ticket) s at size (now work) count ⌝ }
     requires { ⌜ u16 (now ticket) at ≢ 10 ⌝ }
     requires { ⌜ Numbered (children (asked (now ticket) s) (branchOf (now work) count) (stepAt (now ticket) at size)) k ⌝ }
@@ -260,7 +275,15 @@ fn put_c_valid(work: &mut [i64], count: usize, s: Progress, x: usize, k: usize) 
 }
 
 // Child k behind the facts of the branch; the number of facts then.
-pub fn put_child(ticket: &[u8], s: Progress, at: usize, size: usize, work: &mut [i64], count: usize, k: usize) -> usize
+pub fn put_child(
+    ticket: &[u8],
+    s: Progress,
+    at: usize,
+    size: usize,
+    work: &mut [i64],
+    count: usize,
+    k: usize,
+) -> usize
     requires { ⌜ Ready (now ticket) s at size (now work) count ⌝ }
     requires { ⌜ Numbered (children (asked (now ticket) s) (branchOf (now work) count) (stepAt (now ticket) at size)) k ⌝ }
     requires { ⌜ count + length (childOf (children (asked (now ticket) s) (branchOf (now work) count) (stepAt (now ticket) at size)) k) ≤ factLimit ⌝ }
@@ -278,7 +301,15 @@ pub fn put_child(ticket: &[u8], s: Progress, at: usize, size: usize, work: &mut 
 // ---- the limits
 
 // "9 when a new number passes the limit": of child k. Only Branch and Apart make numbers from numbers of the ticket.
-pub fn child_within(ticket: &[u8], s: Progress, at: usize, size: usize, work: &[i64], count: usize, k: usize) -> bool
+pub fn child_within(
+    ticket: &[u8],
+    s: Progress,
+    at: usize,
+    size: usize,
+    work: &[i64],
+    count: usize,
+    k: usize,
+) -> bool
     requires { ⌜ Ready (now ticket) s at size (now work) count ⌝ }
     requires { ⌜ Numbered (children (asked (now ticket) s) (branchOf (now work) count) (stepAt (now ticket) at size)) k ⌝ }
     ensures { λ r. ⌜ r ≡ factsWithin (childOf (children (asked (now (ticket .entry)) s) (branchOf (now (work .entry)) count) (stepAt (now (ticket .entry)) at size)) k) ⌝ }
@@ -292,7 +323,14 @@ pub fn child_within(ticket: &[u8], s: Progress, at: usize, size: usize, work: &[
 }
 
 // "Under claim 1 all children of a split are tried for 9".
-pub fn children_within(ticket: &[u8], s: Progress, at: usize, size: usize, work: &[i64], count: usize) -> bool
+pub fn children_within(
+    ticket: &[u8],
+    s: Progress,
+    at: usize,
+    size: usize,
+    work: &[i64],
+    count: usize,
+) -> bool
     requires { ⌜ Ready (now ticket) s at size (now work) count ⌝ }
     requires { ⌜ fitting (children (asked (now ticket) s) (branchOf (now work) count) (stepAt (now ticket) at size)) ≡ true ⌝ }
     ensures { λ r. ⌜ r ≡ childrenWithin (orNone (children (asked (now (ticket .entry)) s) (branchOf (now (work .entry)) count) (stepAt (now (ticket .entry)) at size))) ⌝ }

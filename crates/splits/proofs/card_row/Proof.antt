@@ -58,10 +58,12 @@ loop-holds c =
     let o : 1 ≤ s .args .k = s .pre .1 .1 .0 in
     let more = lastChild (numbered (s .args .s)) (u16 b (s .args .at)) (s .args .m) in
     let t : s .args .k ≤ length (pairs (u16s b (s .args .at) (s .args .m)) more) = s .pre .1 .1 .1 in
-    let e : s .args .m - 1 + 1 ≡ s .args .m = omega arith in
-    (omega arith, ap (λ (n : ℕ). allBelow (s .args .s .p) (u16s b (s .args .at) n)) e ∙ s .pre .0 .3,
-     subst (λ (n : ℕ). s .args .k - 1 < length (pairs (u16s b (s .args .at) n) more)) (sym e) (omega arith),
-     ap (λ (n : ℕ). getD (pairs (u16s b (s .args .at) n) more) (s .args .k - 1) []) e)
+    let e : s .args .m - 1 + 1 ≡ s .args .m = omega arith in (
+      omega arith,
+      ap (λ (n : ℕ). allBelow (s .args .s .p) (u16s b (s .args .at) n)) e ∙ s .pre .0 .3,
+      subst (λ (n : ℕ). s .args .k - 1 < length (pairs (u16s b (s .args .at) n) more)) (sym e) (omega arith),
+      ap (λ (n : ℕ). getD (pairs (u16s b (s .args .at) n) more) (s .args .k - 1) []) e,
+    )
 
 u16-at-requires : tie.Need-u16-at-requires Inv-loop μ-loop
 u16-at-requires c κs = omega arith
@@ -115,9 +117,12 @@ loop-again c =
     let l = c .before .before .loop in
     let b = now (s .args .b) in
     let more = lastChild (numbered (s .args .s)) (u16 b (s .args .at)) (s .args .m) in
-    let n = pair-count b (l .i) (l .others) more (c .before .loop-test .taken) in
-    (omega arith, below-rest b (s .args .s .p) (l .i) (l .others) (c .before .loop-test .taken) (l .inv .1), omega arith,
-     pair-there b (l .i) (l .others) more (l .left) (c .before .loop-test .taken) (omega arith) ∙ l .inv .3)
+    let n = pair-count b (l .i) (l .others) more (c .before .loop-test .taken) in (
+      omega arith,
+      below-rest b (s .args .s .p) (l .i) (l .others) (c .before .loop-test .taken) (l .inv .1),
+      omega arith,
+      pair-there b (l .i) (l .others) more (l .left) (c .before .loop-test .taken) (omega arith) ∙ l .inv .3,
+    )
 
 u16-at-requires-3 : tie.Need-u16-at-requires-3 Inv-loop μ-loop
 u16-at-requires-3 c κs = let s = c .before .before .before in omega (arith, s .pre .0)
