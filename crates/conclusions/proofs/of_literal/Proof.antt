@@ -1,0 +1,98 @@
+-- `conclusions::of_literal` meets its contract.
+use Prim.Native.Nat.{_+_, _≤_}
+use borrow.Author.Needs.{needs}
+use denote.Ref.{now}
+use lib.IntN.{pos, ℤ}
+use mathlib.Core.Option.{some}
+use mathlib.Core.Path.{_∙_, _≡_, ap, sym}
+use mir.Facts.{toZ-ofZ}
+use native.Mathlib.Omega.{arith}
+use Rattle.calculus.specs.Children.{one}
+use Rattle.calculus.specs.Classes.{lowest}
+use Rattle.calculus.specs.Facts.{Fact, arithmetic, eq}
+use Rattle.classes.specs.Classes.{literalOf}
+use Rattle.conclusions.proofs.Laws.{literal-adds, literal-below, literal-none}
+use Rattle.conclusions.specs.Made.{madeOf}
+use Rattle.format.specs.Fields.{u32s}
+use Rattle.format.specs.Places.{literalsFrom}
+use Rattle.format.specs.StepForms.{functionOf}
+use Rattle.rows.specs.Rows.{branchOf}
+use Rattle.rows.specs.Work.{single}
+use Rattle.conclusions.proofs.of_literal.Statement.{statement}
+use Rattle.conclusions.proofs.of_literal.Tie as tie
+use Rattle.format.proofs.Places.{skip-up}
+
+-- the literal that was found
+found-is : (c : tie.After-known-told) → lowest (c .before .before .before .before .before .labels .result) (c .before .before .before .before .before .before .before .args .x) 0 (c .before .before .before .before .before .before .before .args .s .literals + 1) ≡ some (c .before .found .given .0 .0)
+unfolding literalOf
+found-is c = sym (c .before .before .before .class-literal .ensures) ∙ ap literalOf (c .before .found .given .1)
+
+few : (c : tie.After-known-told) → c .before .found .given .0 .0 ≤ c .before .before .before .before .before .before .before .args .s .literals
+few c = omega (arith, literal-below (c .before .before .before .before .before .labels .result) (c .before .before .before .before .before .before .before .args .x) (c .before .before .before .before .before .before .before .args .s .literals + 1) (c .before .found .given .0 .0) (found-is c))
+
+labels-requires : tie.Need-labels-requires
+labels-requires c κs = search needs
+
+add-class-literal : tie.Need-add-class-literal
+add-class-literal c = search needs
+
+class-literal-requires : tie.Need-class-literal-requires
+class-literal-requires c κs = search needs
+
+enum-told : tie.Need-enum-told
+enum-told c = search needs
+
+misfit-requires : tie.Need-misfit-requires
+misfit-requires c κs = search needs
+
+enum-known-found : tie.Need-enum-known-found
+enum-known-found c = search needs
+
+literal-text-requires : tie.Need-literal-text-requires
+literal-text-requires c κs =
+    let s = c .before .before .before .before .before .before .before in
+    omega (arith, s .pre .1 .1, skip-up (now (s .args .ticket)) (c .before .found .given .0 .0) (s .args .s .literals) literalsFrom (few c))
+
+less-text-requires : tie.Need-less-text-requires
+less-text-requires c κs = search needs
+
+column-of-requires : tie.Need-column-of-requires
+column-of-requires c κs = search needs
+
+single-row-requires : tie.Need-single-row-requires
+single-row-requires c κs = search needs
+
+returns : tie.Need-returns
+unfolding literalOf
+returns c =
+    let a = c .before .before .before .before .before .before .before .args in
+    c .misfit .ensures
+    ∙ literal-none (now (a .ticket)) (a .s) (branchOf (now (a .work)) (a .count)) (c .before .before .before .before .before .labels .result) (a .x) (c .before .before .before .before .before .labels .ensures) (functionOf (a .function)) (sym (c .before .before .before .class-literal .ensures) ∙ ap literalOf (c .before .enum-told .given .1))
+
+returns-2 : tie.Need-returns-2
+unfolding madeOf
+returns-2 c =
+    let a = c .before .before .before .before .before .before .before .before .before .before .before .args in
+    let b = now (a .ticket) in
+    ap (λ (f : Fact). some (one f)) (c .single-row .ensures
+    ∙ ap (λ (z : ℤ). arithmetic eq (single z (c .before .column-of .result) (pos 1))) (toZ-ofZ (record { sfits = c .before .before .less-text .ok }) ∙ c .before .before .less-text .ensures))
+    ∙ literal-adds b (a .s) (branchOf (now (a .work)) (a .count)) (c .before .before .before .before .before .before .before .before .before .labels .result) (a .x) (c .before .before .before .before .before .before .before .before .before .labels .ensures) (a .function) (c .before .before .before .before .before .found .given .0 .0) (c .before .column-of .result)
+    (u32s b (c .before .before .before .literal-text .result .at) (c .before .before .before .literal-text .result .count)) (found-is (c .before .before .before .before)) (c .before .column-of .ensures .0) (c .before .column-of .ensures .1)
+    (c .before .before .before .literal-text .ensures .1 (a .s .literals) (few (c .before .before .before .before)))
+
+pub of-literal-spec : {M : Type 1} → statement M
+of-literal-spec =
+    tie.close
+    (tie.spec
+    labels-requires
+    add-class-literal
+    class-literal-requires
+    enum-told
+    misfit-requires
+    enum-known-found
+    literal-text-requires
+    less-text-requires
+    column-of-requires
+    single-row-requires
+    returns
+    returns-2)

@@ -1,0 +1,266 @@
+// The rules that close a branch, 4 and 5, and those with one conclusion: 1, 6, 7, 9 and 13.
+ghost use mathlib.Core.Path.{_≡_};
+ghost use mathlib.Core.Option.{none};
+ghost use mathlib.Core.Bool.{true};
+ghost use mathlib.Core.List.{_++_};
+ghost use Prim.Native.Nat.{ℕ, _+_, _*_, _<_, _≤_};
+ghost use lib.ListN.{length};
+ghost use lib.IntN.{negℤ};
+ghost use Rattle.calculus.specs.Limits.{variableLimit, literalLimit, columnLimit};
+ghost use Rattle.calculus.specs.Facts.{Question, valueOf};
+ghost use Rattle.calculus.specs.Steps.{Sum, AConf, SConf, SProp, Join};
+ghost use Rattle.calculus.specs.Rules.{children};
+ghost use Rattle.format.specs.Fields.{u32, u32s};
+ghost use Rattle.format.specs.Question.{columnCount};
+ghost use Rattle.format.specs.Places.{skip, literalsFrom};
+ghost use Rattle.format.specs.StepForms as forms;
+ghost use Rattle.format.specs.StepForms.{formFor, fitsForm, sumPairs, functionOf, rule, lengthFits, operandsInRange, stepAt};
+ghost use Rattle.format.specs.Checking.{nth, orNone, takenTried};
+ghost use Rattle.question.specs.Progress.{progressOf};
+ghost use Rattle.rows.specs.Rows.{branchOf};
+ghost use Rattle.rows.specs.Work.{Fine};
+ghost use Rattle.conclusions.specs.Made.{isClosing, isConcluding, closingOf, madeOf, columnOf, literalChildren};
+use classes::Lowest;
+use question::Progress;
+use records::u16_at;
+use records::u32_at;
+
+// ---- rules that close
+
+// A-Conf: "an arithmetic fact without coefficients and false".
+fn a_conf(k: usize, work: &[i64], count: usize) -> bool
+    requires { ⌜ Fine (now work) count ⌝ }
+    ensures { λ r. ⌜ ((u : Question) → closingOf r ≡ children u (branchOf (now (work .entry)) count) (AConf k)) ⌝ }
+{
+    if count <= k {
+        return false;
+    }
+    rows::is_false(rows::row_at(work, k))
+}
+
+// S-Conf, where the question has so many literals besides the empty one.
+fn s_conf(literals: usize, work: &[i64], count: usize) -> bool
+    requires { ⌜ Fine (now work) count × (literals ≤ literalLimit) ⌝ }
+    ensures { λ r. ⌜ ((u : Question) → length (u .literals) ≡ literals → closingOf r ≡ children u (branchOf (now (work .entry)) count) SConf) ⌝ }
+{
+    let labels = classes::labels(work, count);
+    classes::conflict(work, count, labels, literals + 1)
+}
+
+// Does a step of A-Conf or S-Conf close the branch? Its body stands at a position and is of proper form.
+pub fn closes(
+    ticket: &[u8],
+    s: Progress,
+    at: usize,
+    size: usize,
+    work: &[i64],
+    count: usize,
+) -> bool
+    requires { ⌜ (at + size ≤ length (now ticket)) × (lengthFits (now ticket) at size ≡ true) × (isClosing (rule (now ticket) at) ≡ true) ⌝ }
+    requires { ⌜ Fine (now work) count × (s .literals ≤ literalLimit) ⌝ }
+    ensures { λ r. ⌜ closingOf r ≡ children (progressOf (now (ticket .entry)) s .question) (branchOf (now (work .entry)) count) (stepAt (now (ticket .entry)) at size) ⌝ }
+{
+    if u16_at(ticket, at) == 4 {
+        return a_conf(u16_at(ticket, at + 4), work, count);
+    }
+    s_conf(s.literals, work, count)
+}
+
+// ---- rules with one conclusion
+
+// What a step gives: whether it fits, and then the row of the fact that it adds.
+pub struct Made {
+    pub fits: bool,
+    pub row: [i64; 50],
+}
+
+fn misfit() -> Made
+    ensures { λ r. ⌜ madeOf r ≡ none ⌝ }
+{
+    Made {
+        fits: false,
+        row: [0; 50],
+    }
+}
+
+// Sum: "Adds a ≥ fact".
+fn sum(ticket: &[u8], at: usize, size: usize, work: &[i64], count: usize) -> Made
+    requires { ⌜ (at + size ≤ length (now ticket)) × (fitsForm (formFor forms.sum) size ≡ true) × (operandsInRange (now ticket) 0 0 forms.sum at size ≡ true) ⌝ }
+    requires { ⌜ Fine (now work) count ⌝ }
+    ensures { λ r. ⌜ ((u : Question) → madeOf r ≡ children u (branchOf (now (work .entry)) count) (Sum (u32 (now (ticket .entry)) (at + 4)) (sumPairs (now (ticket .entry)) at size))) ⌝ }
+{
+    let divisor = u32_at(ticket, at + 4);
+    let summed = sums::sum_row(ticket, at + 8, (size - 8) / 6, divisor, work, count);
+    let row = summed.row;
+    Made {
+        fits: summed.fits,
+        row,
+    }
+}
+
+// The column of function (0 len, 1 code) of variable x.
+fn column_of(p: usize, q: usize, function: usize, x: usize) -> usize
+    requires { ⌜ (p ≤ variableLimit) × (q ≤ variableLimit) × (x < p) ⌝ }
+    ensures { λ r. ⌜ (r ≡ columnOf p q function x) × (r < columnLimit) ⌝ }
+{
+    if function == 0 {
+        return q + x;
+    }
+    q + (p + x)
+}
+
+// S-Prop: "Adds f(x) − f(y) = 0", for different variables of one class.
+fn s_prop(
+    p: usize,
+    q: usize,
+    function: usize,
+    x: usize,
+    y: usize,
+    work: &[i64],
+    count: usize,
+) -> Made
+    requires { ⌜ Fine (now work) count × (p ≤ variableLimit) × (q ≤ variableLimit) × (x < p) × (y < p) ⌝ }
+    ensures { λ r. ⌜ ((u : Question) → u .p ≡ p → u .q ≡ q → madeOf r ≡ children u (branchOf (now (work .entry)) count) (SProp (functionOf function) x y)) ⌝ }
+{
+    if x == y {
+        return misfit();
+    }
+    let labels = classes::labels(work, count);
+    if !classes::same_class(labels, 2 * x, 2 * y) {
+        return misfit();
+    }
+    Made {
+        fits: true,
+        row: rows::difference_row(
+            1,
+            column_of(p, q, function, x),
+            column_of(p, q, function, y),
+        ),
+    }
+}
+
+// The negative of function (0 len, 1 code) of a text: "code (the code point of a one-character string, else −1)".
+fn less_text(ticket: &[u8], function: usize, at: usize, count: usize) -> i64
+    requires { ⌜ at + 4 * count ≤ length (now ticket) ⌝ }
+    ensures { λ r. ⌜ r ≡ negℤ (valueOf (functionOf function) (u32s (now (ticket .entry)) at count)) ⌝ }
+{
+    if function == 0 {
+        return 0 - count as i64;
+    }
+    if count == 1 {
+        return 0 - u32_at(ticket, at) as i64;
+    }
+    1
+}
+
+// L-Intro, with function 0: "Adds len(x) = length of l"; C-Collapse, with function 1: "Adds code(x) = code of l, or −1".
+fn of_literal(
+    ticket: &[u8],
+    s: Progress,
+    function: usize,
+    x: usize,
+    work: &[i64],
+    count: usize,
+) -> Made
+    requires { ⌜ Fine (now work) count × (s .p ≤ variableLimit) × (s .q ≤ variableLimit) × (x < s .p) ⌝ }
+    requires { ⌜ (s .literals ≤ literalLimit) × (skip (now ticket) (s .literals) literalsFrom ≤ length (now ticket)) ⌝ }
+    ensures { λ r. ⌜ madeOf r ≡ literalChildren (progressOf (now (ticket .entry)) s .question) (branchOf (now (work .entry)) count) (functionOf function) x ⌝ }
+{
+    let labels = classes::labels(work, count);
+    let found = classes::class_literal(labels, s.literals + 1, x);
+    match found {
+        Lowest::Nothing => misfit(),
+        Lowest::Literal(l) => {
+            let text = question::literal_text(ticket, l);
+            let constant = less_text(ticket, function, text.at, text.count);
+            Made {
+                fits: true,
+                row: rows::single_row(1, constant, column_of(s.p, s.q, function, x), 1),
+            }
+        }
+    }
+}
+
+// Join: "Adds the first as an equation", of two ≥ facts, one the negative of the other.
+fn join(j: usize, k: usize, work: &[i64], count: usize) -> Made
+    requires { ⌜ Fine (now work) count ⌝ }
+    ensures { λ r. ⌜ ((u : Question) → madeOf r ≡ children u (branchOf (now (work .entry)) count) (Join j k)) ⌝ }
+{
+    if count <= j {
+        return misfit();
+    }
+    if count <= k {
+        return misfit();
+    }
+    let row = rows::row_at(work, j);
+    if !rows::joins(row, rows::row_at(work, k)) {
+        return misfit();
+    }
+    Made {
+        fits: true,
+        row: rows::equation_row(row),
+    }
+}
+
+// What a step of a rule with one conclusion gives. Its body stands at a position and is of proper form.
+fn conclusion(
+    ticket: &[u8],
+    s: Progress,
+    at: usize,
+    size: usize,
+    work: &[i64],
+    count: usize,
+) -> Made
+    requires { ⌜ (at + size ≤ length (now ticket)) × (lengthFits (now ticket) at size ≡ true) × (isConcluding (rule (now ticket) at) ≡ true) ⌝ }
+    requires { ⌜ operandsInRange (now ticket) (s .p) (columnCount (progressOf (now ticket) s .question)) (rule (now ticket) at) at size ≡ true ⌝ }
+    requires { ⌜ (s .p ≤ variableLimit) × (s .q ≤ variableLimit) × (s .literals ≤ literalLimit) × (skip (now ticket) (s .literals) literalsFrom ≤ length (now ticket)) ⌝ }
+    requires { ⌜ Fine (now work) count ⌝ }
+    ensures { λ r. ⌜ madeOf r ≡ children (progressOf (now (ticket .entry)) s .question) (branchOf (now (work .entry)) count) (stepAt (now (ticket .entry)) at size) ⌝ }
+{
+    let number = u16_at(ticket, at);
+    let first = u16_at(ticket, at + 4);
+    match number {
+        1 => sum(ticket, at, size, work, count),
+        6 => {
+            let x = u16_at(ticket, at + 6);
+            let y = u16_at(ticket, at + 8);
+            s_prop(s.p, s.q, first, x, y, work, count)
+        }
+        7 => of_literal(ticket, s, 0, first, work, count),
+        9 => of_literal(ticket, s, 1, first, work, count),
+        _ => join(first, u16_at(ticket, at + 6), work, count),
+    }
+}
+
+// The first of 8 to 10 that applies to a step of a rule with one conclusion; 0 for none, and then its fact stands behind the others.
+pub fn conclude(
+    ticket: &[u8],
+    s: Progress,
+    at: usize,
+    size: usize,
+    work: &mut [i64],
+    count: usize,
+) -> usize
+    requires { ⌜ (at + size ≤ length (now ticket)) × (lengthFits (now ticket) at size ≡ true) × (isConcluding (rule (now ticket) at) ≡ true) ⌝ }
+    requires { ⌜ operandsInRange (now ticket) (s .p) (columnCount (progressOf (now ticket) s .question)) (rule (now ticket) at) at size ≡ true ⌝ }
+    requires { ⌜ (s .p ≤ variableLimit) × (s .q ≤ variableLimit) × (s .literals ≤ literalLimit) × (skip (now ticket) (s .literals) literalsFrom ≤ length (now ticket)) ⌝ }
+    requires { ⌜ Fine (now work) count ⌝ }
+    ensures fault { λ r. ⌜ r ≡ takenTried (branchOf (now (work .entry)) count) (nth (children (progressOf (now (ticket .entry)) s .question) (branchOf (now (work .entry)) count) (stepAt (now (ticket .entry)) at size)) 1) ⌝ }
+    ensures added { λ r. ⌜ (r ≡ 0 → branchOf (now (work .exit)) (count + 1) ≡ branchOf (now (work .entry)) count ++ orNone (nth (children (progressOf (now (ticket .entry)) s .question) (branchOf (now (work .entry)) count) (stepAt (now (ticket .entry)) at size)) 1)) ⌝ }
+    ensures fine { λ r. ⌜ (r ≡ 0 → Fine (now (work .exit)) (count + 1)) ⌝ }
+    ensures kept { λ r. ⌜ ((j : ℕ) → j ≤ count → branchOf (now (work .exit)) j ≡ branchOf (now (work .entry)) j) ⌝ }
+{
+    let made = conclusion(ticket, s, at, size, work, count);
+    if !made.fits {
+        return 8;
+    }
+    let row = made.row;
+    if !rows::fact_within(&row) {
+        return 9;
+    }
+    if 128 <= count {
+        return 10;
+    }
+    rows::put_row(work, count, row);
+    0
+}
