@@ -44,14 +44,14 @@ answer u b m = record { strs = strings u b m; ints = take (u .q) m }
 
 module _ (u : Question) (b : Branch) (m : List ℤ) where
   -- the string of the variable x
-  abbrev S : ℕ → List ℕ
+  abbrev pub S : ℕ → List ℕ
   S x = stringOf u b m x (stringsTo u b m x)
 
-  length-strings : (k : ℕ) → length (stringsTo u b m k) ≡ k
+  pub length-strings : (k : ℕ) → length (stringsTo u b m k) ≡ k
   length-strings zero = refl
   length-strings (suc k) = let e : length (stringsTo u b m k ++ (S k ∷ [])) ≡ length (stringsTo u b m k) + 1 = length-append (stringsTo u b m k) (S k ∷ []) in omega (arith, length-strings k)
 
-  strings-at : (k x : ℕ) → x < k → getD (stringsTo u b m k) x [] ≡ S x
+  pub strings-at : (k x : ℕ) → x < k → getD (stringsTo u b m k) x [] ≡ S x
   strings-at zero x h = absurd (omega arith)
   strings-at (suc k) x h = go (ℕ-discrete x k) (strings-at k x)
     where
@@ -59,7 +59,7 @@ module _ (u : Question) (b : Branch) (m : List ℤ) where
       go (yes e) ih = getD-at (stringsTo u b m k) (S k) [] [] x (length-strings k ∙ sym e) ∙ ap S (sym e)
       go (no f) ih = List·getD-append (stringsTo u b m k) (S k ∷ []) [] x (subst (λ n. x < n) (sym (length-strings k)) (omega arith)) ∙ ih (omega arith)
 
-  in-strings→ : (k : ℕ) (s : List ℕ) → In s (stringsTo u b m k) → (y : ℕ) × (y < k) × (s ≡ S y)
+  pub in-strings→ : (k : ℕ) (s : List ℕ) → In s (stringsTo u b m k) → (y : ℕ) × (y < k) × (s ≡ S y)
   in-strings→ zero s h = absurd h
   in-strings→ (suc k) s h = go (in-append s (stringsTo u b m k) (S k ∷ []) h) (in-strings→ k s)
     where
@@ -68,7 +68,7 @@ module _ (u : Question) (b : Branch) (m : List ℤ) where
       go (inr (inl e)) ih = (k, omega arith, e)
       go (inr (inr z)) ih = absurd z
 
-  →in-strings : (k y : ℕ) → y < k → In (S y) (stringsTo u b m k)
+  pub →in-strings : (k y : ℕ) → y < k → In (S y) (stringsTo u b m k)
   →in-strings zero y h = absurd (omega arith)
   →in-strings (suc k) y h = go (ℕ-discrete y k) (→in-strings k y)
     where
@@ -79,7 +79,7 @@ module _ (u : Question) (b : Branch) (m : List ℤ) where
   abbrev fixedBehind : ℕ → Option (List ℕ) → List (List ℕ)
   fixedBehind k o = elim o as (λ _. List (List ℕ)) [ some s ↦ s ∷ fixedStrings u b m k | none ↦ fixedStrings u b m k ]
 
-  in-fixed→ : (k : ℕ) (s : List ℕ) → In s (fixedStrings u b m k) → (y : ℕ) × (y < k) × (fixedString u b m y ≡ some s)
+  pub in-fixed→ : (k : ℕ) (s : List ℕ) → In s (fixedStrings u b m k) → (y : ℕ) × (y < k) × (fixedString u b m y ≡ some s)
   in-fixed→ zero s h = absurd h
   in-fixed→ (suc k) s h = go (fixedString u b m k) refl h (in-fixed→ k s)
     where
@@ -88,7 +88,7 @@ module _ (u : Question) (b : Branch) (m : List ℤ) where
       go (some t) e (inr i) ih = let (y, g, q) = ih i in (y, omega arith, q)
       go none e i ih = let (y, g, q) = ih i in (y, omega arith, q)
 
-  →in-fixed : (k y : ℕ) (s : List ℕ) → y < k → fixedString u b m y ≡ some s → In s (fixedStrings u b m k)
+  pub →in-fixed : (k y : ℕ) (s : List ℕ) → y < k → fixedString u b m y ≡ some s → In s (fixedStrings u b m k)
   →in-fixed zero y s h e = absurd (omega arith)
   →in-fixed (suc k) y s h e = go (ℕ-discrete y k) (→in-fixed k y s)
     where
@@ -110,13 +110,13 @@ module _ (u : Question) (b : Branch) (m : List ℤ) where
   abbrev chosen : ℕ → Option (List ℕ) → Bool → List ℕ
   chosen x o t = elim o as (λ _. List ℕ) [ some s ↦ s | none ↦ elim t as (λ _. List ℕ) [ true ↦ getD (stringsTo u b m x) (lowestVar (labels b) x) [] | false ↦ freshFrom (u .p) (u .n) (L x) (before x) 0 ] ]
 
-  S-fixed : (x : ℕ) (s : List ℕ) → fixedString u b m x ≡ some s → S x ≡ s
+  pub S-fixed : (x : ℕ) (s : List ℕ) → fixedString u b m x ≡ some s → S x ≡ s
   S-fixed x s e = ap (λ o. chosen x o (ltb (lowestVar (labels b) x) x)) e
 
-  S-copied : (x : ℕ) → fixedString u b m x ≡ none → lowestVar (labels b) x < x → S x ≡ S (lowestVar (labels b) x)
+  pub S-copied : (x : ℕ) → fixedString u b m x ≡ none → lowestVar (labels b) x < x → S x ≡ S (lowestVar (labels b) x)
   S-copied x e h = ap₂ (chosen x) e (lt-ltb (lowestVar (labels b) x) x h) ∙ strings-at x (lowestVar (labels b) x) h
 
-  S-new : (x : ℕ) → fixedString u b m x ≡ none → lowestVar (labels b) x ≡ x → S x ≡ freshFrom (u .p) (u .n) (L x) (before x) 0
+  pub S-new : (x : ℕ) → fixedString u b m x ≡ none → lowestVar (labels b) x ≡ x → S x ≡ freshFrom (u .p) (u .n) (L x) (before x) 0
   S-new x e h = ap₂ (chosen x) e (le-ltb (lowestVar (labels b) x) x (omega arith))
 
 -- ---- a saturated leaf

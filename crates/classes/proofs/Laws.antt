@@ -1,6 +1,6 @@
 -- Laws of labels, rows and tests below a bound, in the form that a loop asks.
 use mathlib.Core.Path.{_≡_, refl, sym, _∙_, ap, ap₂}
-use mathlib.Core.Bool.{Bool, true, false, cond, _||_}
+use mathlib.Core.Bool.{Bool, true, false, cond, _||_, or-true, or-false, or-assoc}
 use mathlib.Core.Option.{Option, none, some}
 use mathlib.Core.List.{List, [], _∷_, _++_}
 use Prim.Native.Nat.{ℕ, zero, suc, _+_, _*_, _-_, _^_, _≤_, _<_}
@@ -91,10 +91,6 @@ module _ (ls : List ℕ) (x y : ℕ) where
 
 -- ---- some number below a bound
 
-or-true : (a : Bool) → (a || true) ≡ true
-or-true true = refl
-or-true false = refl
-
 module _ (t : ℕ → Bool) where
   pub any-more : (i : ℕ) → anyBelow i t ≡ false → t i ≡ false → anyBelow (i + 1) t ≡ false
   any-more i e f = rw (add-one, e, f)
@@ -129,14 +125,6 @@ module _ (n m k : ℕ) where
       less = omega arith
 
 -- ---- ≉ facts
-
-or-false : (a : Bool) → (a || false) ≡ a
-or-false true = refl
-or-false false = refl
-
-or-assoc : (a b c : Bool) → ((a || b) || c) ≡ (a || (b || c))
-or-assoc true b c = refl
-or-assoc false b c = refl
 
 apart-cons : (ls : List ℕ) (f : Fact) (b : Branch) → apartMeet ls (f ∷ b) ≡ (apartMeet ls (f ∷ []) || apartMeet ls b)
 apart-cons ls (same x y) b = refl

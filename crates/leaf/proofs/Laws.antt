@@ -1,6 +1,6 @@
 -- Laws of texts, of the tests by values, and of loops over variables.
 use mathlib.Core.Path.{_≡_, refl, sym, _∙_, ap, ap₂}
-use mathlib.Core.Bool.{Bool, true, false, not, cond, _&&_, _||_}
+use mathlib.Core.Bool.{Bool, true, false, not, cond, _&&_, _||_, and-false}
 use mathlib.Core.Option.{Option, none, some}
 use mathlib.Core.List.{List, [], _∷_}
 use Prim.Native.Nat.{ℕ, zero, suc, _+_, _-_, _≤_, _<_}
@@ -23,6 +23,7 @@ use Rattle.calculus.specs.SaturationTest.{every, lowestVar, lowestOf, saturated
 use Rattle.format.specs.Fields.{u32, u32s}
 use Rattle.format.specs.Records.{next}
 use Rattle.format.specs.Places.{skip, texts, literalsFrom}
+use Rattle.format.proofs.Places.{skip-far, length-texts}
 use Rattle.classes.specs.Classes.{clash}
 use Rattle.classes.proofs.Laws.{lowest-done, lowest-yes, lowest-no}
 use Rattle.leaf.specs.declared.Leaf.{Leaf}
@@ -30,11 +31,6 @@ use Rattle.leaf.specs.Leaf.{asked}
 use Rattle.leaf.specs.Values.{textFits, literalFits, lengthFits, codeBy, codeFits, varFits, pairBy, pairFits}
 
 -- ---- texts
-
-pub length-u32s : (b : List ℕ) (at k : ℕ) → length (u32s b at k) ≡ k
-unfolding u32s
-length-u32s b at zero = refl
-length-u32s b at (suc k) = ap suc (length-u32s b (at + 4) k)
 
 pub code-one : (b : List ℕ) (at k : ℕ) → k ≡ 1 → codeOf (u32s b at k) ≡ pos (u32 b at)
 unfolding u32s
@@ -45,11 +41,6 @@ unfolding u32s
 code-other b at zero h = refl
 code-other b at (suc zero) h = absurd (h refl)
 code-other b at (suc (suc k)) h = refl
-
-pub length-texts : (b : List ℕ) (k at : ℕ) → length (texts b k at) ≡ k
-unfolding texts
-length-texts b zero at = refl
-length-texts b (suc k) at = ap suc (length-texts b k (next b at))
 
 -- a literal that was found is one of the m
 some-is : (k l : ℕ) → _≡_ {A = Option ℕ} (some k) (some l) → k ≡ l
@@ -73,11 +64,6 @@ pub literal-below : (ls : List ℕ) (x m l : ℕ) → lowest ls x 0 m ≡ some l
 literal-below ls x m l e = omega (arith, from-below ls x m 0 l e)
 
 -- records that stand before whole ones are whole
-skip-far : (b : List ℕ) (k at : ℕ) → at ≤ skip b k at
-unfolding skip
-skip-far b zero at = omega arith
-skip-far b (suc k) at = let h : next b at ≤ skip b k (next b at) = skip-far b k (next b at) in omega arith
-
 pub skip-more : (b : List ℕ) (j k at : ℕ) → j ≤ k → skip b j at ≤ skip b k at
 unfolding skip
 skip-more b zero k at h = skip-far b k at
@@ -185,10 +171,6 @@ module _ (u : Question) (ls : List ℕ) (m : List ℤ) (x k : ℕ) (e : k ≡ le
   card-many h g = counted ∙ rw (lt-leb k 1 h, lt-leb (u .n) 1 g)
 
 -- ---- every variable
-
-and-false : (a : Bool) → (a && false) ≡ false
-and-false true = refl
-and-false false = refl
 
 module _ (t : ℕ → Bool) where
   pub every-more : (i : ℕ) → every i t ≡ true → t i ≡ true → every (i + 1) t ≡ true

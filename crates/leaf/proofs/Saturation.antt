@@ -2,7 +2,7 @@
 use Prim.Native.Nat.{ℕ, zero, suc, _-_, _≤_, _<_}
 use native.Mathlib.Omega.{arith}
 use mathlib.Core.Path.{_≡_, refl, sym, _∙_, ap, ap₂, subst}
-use mathlib.Core.Bool.{Bool, true, false, not, _&&_, _||_}
+use mathlib.Core.Bool.{Bool, true, false, not, _&&_, _||_, and-true, and-assoc, or-false}
 use mathlib.Core.Option.{Option, none, some}
 use mathlib.Core.List.{List, [], _∷_}
 use lib.ListN.{length}
@@ -11,14 +11,14 @@ use lib.IntN.{ℤ, pos, negsuc, _-ℤ_, _+ℤ_, negℤ}
 use lib.Signed.{ltZ}
 use borrow.Author.Tests.{lt-ltb, eqb-true}
 use Rattle.integers.proofs.Laws.{≤ℤ-pos, pos-≤ℤ, →-ℤ-zero, →-ℤ-nonneg, -ℤ-zero→, -ℤ-nonneg→}
-use Rattle.lists.proofs.Tests.{→true, true→}
+use Rattle.lists.proofs.Tests.{→true, true→, equal-tests}
 use Rattle.calculus.specs.Alphabet.{lastCharacter}
 use Rattle.calculus.specs.Rows.{eqℤ, isZero, nonneg, number, minus, less}
 use Rattle.calculus.specs.Facts.{Question, Branch, Fact, same, isLiteral, arithmetic, ge, eq, ne, Function, len, code, literal, valueOf, apply}
 use Rattle.calculus.specs.Chains.{varNode, litNode}
 use Rattle.calculus.specs.Classes.{label, labels, sameClass, classLiteral, conflict}
+use Rattle.calculus.specs.Children.{one, sPropChild, literalChild, lValidChildren, cValidChildren, cInjChildren}
 use Rattle.calculus.specs.Rules.{guard, then}
-use Rattle.calculus.specs.Children.{one}
 use Rattle.calculus.specs.Steps.{SProp, LIntro, LValid, CCollapse, CValid, CInj}
 use Rattle.calculus.specs.Model.{modelOf, valueIn}
 use Rattle.calculus.specs.SaturationTest.{held, heldAll, heldSome, byChildren, saturatedStep, saturatedCard, saturated, every}
@@ -28,12 +28,6 @@ use Rattle.calculus.proofs.Leaf.{apply-in}
 use Rattle.leaf.specs.Values.{textFits, literalFits, lengthFits, codeBy, codeFits, varFits, pairBy, pairFits, byValues}
 
 -- ---- tests of equal meaning
-
-equal-tests : (a b : Bool) → (T a → T b) → (T b → T a) → a ≡ b
-equal-tests true true f g = refl
-equal-tests true false f g = absurd (f tt)
-equal-tests false true f g = absurd (g tt)
-equal-tests false false f g = refl
 
 zero-minus : (x y : ℤ) → isZero (x -ℤ y) ≡ eqℤ x y
 zero-minus x y = equal-tests (isZero (x -ℤ y)) (eqℤ x y)
@@ -49,14 +43,6 @@ leb-minus k c = equal-tests (nonneg (pos k -ℤ pos c)) (leb c k)
 positive-minus : (z : ℤ) → nonneg (z -ℤ pos 1) ≡ ltZ (pos 0) z
 positive-minus (pos k) = leb-minus k 1 ∙ equal-tests (leb 1 k) (ltb 0 k) (λ t. true→ (lt-ltb 0 k (leb→le 1 k t))) (λ t. le→leb 1 k (ltb→lt 0 k t))
 positive-minus (negsuc k) = refl
-
-and-true : (a : Bool) → (a && true) ≡ a
-and-true true = refl
-and-true false = refl
-
-or-false : (a : Bool) → (a || false) ≡ a
-or-false true = refl
-or-false false = refl
 
 -- ---- the children of each rule
 
@@ -82,7 +68,7 @@ module _ (u : Question) (ls : List ℕ) (m : List ℤ) where
   byLiteral f (some l) z = eqℤ z (valueOf f (literal u l))
 
   literal-step : (f : Function) (x : ℕ) (o : Option ℕ)
-      → byChildren ls m (then o (λ l. some (one (arithmetic eq (minus (apply u f x) (number (valueOf f (literal u l)))))))) ≡ byLiteral f o (M f x)
+      → byChildren ls m (then o (λ l. some (literalChild u f x l))) ≡ byLiteral f o (M f x)
   literal-step f x none = refl
   literal-step f x (some l) = one-holds (arithmetic eq (minus (apply u f x) (number (valueOf f (literal u l))))) (number-is f x (valueOf f (literal u l)))
 
@@ -92,7 +78,7 @@ module _ (u : Question) (ls : List ℕ) (m : List ℤ) where
   both-values (some l) z c = refl
 
   -- L-Valid
-  length-step : (x : ℕ) → heldSome ls m ((isLiteral x 0 ∷ []) ∷ (arithmetic ge (less (apply u len x)) ∷ []) ∷ []) ≡ lengthFits ls x (M len x)
+  length-step : (x : ℕ) → heldSome ls m (lValidChildren u x) ≡ lengthFits ls x (M len x)
   unfolding lengthFits
   length-step x =
       ap₂ _||_ (and-true (sameClass ls (varNode x) (litNode 0)))
@@ -109,10 +95,7 @@ module _ (u : Question) (ls : List ℕ) (m : List ℤ) where
   last-is : (x : ℕ) → valueIn m (minus (number (pos (lastCharacter (u .n)))) (apply u code x)) ≡ pos (lastCharacter (u .n)) -ℤ M code x
   last-is x = dot-minus (number (pos (lastCharacter (u .n)))) (apply u code x) (pos 1 ∷ m) (dot-number m (pos (lastCharacter (u .n)))) (apply-in u m code x)
 
-  code-step : (x : ℕ) → heldSome ls m
-      ((arithmetic ne (less (apply u len x)) ∷ arithmetic eq (minus (apply u code x) (number (negsuc 0))) ∷ [])
-      ∷ (arithmetic eq (less (apply u len x)) ∷ arithmetic ge (apply u code x) ∷ arithmetic ge (minus (number (pos (lastCharacter (u .n)))) (apply u code x)) ∷ [])
-      ∷ []) ≡ codeFits (u .n) (M len x) (M code x)
+  code-step : (x : ℕ) → heldSome ls m (cValidChildren u x) ≡ codeFits (u .n) (M len x) (M code x)
   code-step x =
       let single : isZero (valueIn m (less (apply u len x))) ≡ eqℤ (M len x) (pos 1) = ap isZero (less-is x) ∙ zero-minus (M len x) (pos 1) in
       ap₂ _||_ (ap₂ (λ (s t : Bool). not s && (t && true)) single (number-is code x (negsuc 0)))
@@ -124,15 +107,11 @@ module _ (u : Question) (ls : List ℕ) (m : List ℤ) where
   byClass true t = t
   byClass false t = true
 
-  same-step : (f : Function) (x y : ℕ) (g : Bool) → byChildren ls m (guard g (one (arithmetic eq (minus (apply u f x) (apply u f y))))) ≡ byClass g (eqℤ (M f x) (M f y))
+  same-step : (f : Function) (x y : ℕ) (g : Bool) → byChildren ls m (guard g (sPropChild u f x y)) ≡ byClass g (eqℤ (M f x) (M f y))
   same-step f x y true = one-holds (arithmetic eq (minus (apply u f x) (apply u f y))) (equal-is f x y)
   same-step f x y false = refl
 
-  inj-step : (x y : ℕ) (g : Bool) → byChildren ls m (guard g
-      ((arithmetic eq (minus (apply u code x) (number (negsuc 0))) ∷ [])
-      ∷ (arithmetic ne (minus (apply u code x) (apply u code y)) ∷ [])
-      ∷ (same x y ∷ [])
-      ∷ [])) ≡ byClass g (eqℤ (M code x) (negsuc 0) || (not (eqℤ (M code x) (M code y)) || sameClass ls (varNode x) (varNode y)))
+  inj-step : (x y : ℕ) (g : Bool) → byChildren ls m (guard g (cInjChildren u x y)) ≡ byClass g (eqℤ (M code x) (negsuc 0) || (not (eqℤ (M code x) (M code y)) || sameClass ls (varNode x) (varNode y)))
   inj-step x y true =
       ap₂ _||_ (and-true _ ∙ number-is code x (negsuc 0))
       (ap₂ _||_ (and-true (not (held ls m (arithmetic eq (minus (apply u code x) (apply u code y))))) ∙ ap not (equal-is code x y))
@@ -155,13 +134,9 @@ module _ (u : Question) (ls : List ℕ) (m : List ℤ) where
   pair-cases false false z w c d h = ap (λ (t : Bool). eqℤ c (negsuc 0) || t) (or-false (not (eqℤ c d)))
 
   pair-step : (x y : ℕ)
-      → (byChildren ls m (guard (not (eqb x y) && sameClass ls (varNode x) (varNode y)) (one (arithmetic eq (minus (apply u len x) (apply u len y)))))
-      && byChildren ls m (guard (not (eqb x y) && sameClass ls (varNode x) (varNode y)) (one (arithmetic eq (minus (apply u code x) (apply u code y)))))
-      && byChildren ls m (guard (not (eqb x y))
-      ((arithmetic eq (minus (apply u code x) (number (negsuc 0))) ∷ [])
-      ∷ (arithmetic ne (minus (apply u code x) (apply u code y)) ∷ [])
-      ∷ (same x y ∷ [])
-      ∷ []))) ≡ pairFits u ls m x y
+      → (byChildren ls m (guard (not (eqb x y) && sameClass ls (varNode x) (varNode y)) (sPropChild u len x y))
+      && byChildren ls m (guard (not (eqb x y) && sameClass ls (varNode x) (varNode y)) (sPropChild u code x y))
+      && byChildren ls m (guard (not (eqb x y)) (cInjChildren u x y))) ≡ pairFits u ls m x y
   unfolding pairFits
   pair-step x y =
       let one-class = sameClass ls (varNode x) (varNode y) in
@@ -181,10 +156,6 @@ swap true true c = sym (and-true c)
 swap true false true = refl
 swap true false false = refl
 swap false b c = refl
-
-assoc : (a b c : Bool) → (a && b && c) ≡ (a && (b && c))
-assoc true b c = refl
-assoc false b c = refl
 
 every-ap : (k : ℕ) (s t : ℕ → Bool) → ((x : ℕ) → s x ≡ t x) → every k s ≡ every k t
 every-ap zero s t h = refl
@@ -206,8 +177,8 @@ module _ (u : Question) (b : Branch) (m : List ℤ) where
       ∙ both-values u (labels b) m (classLiteral u b x) (modelOf u m len x) (modelOf u m code x) in
       ap (λ (t : Bool). t && saturatedCard u (labels b) m x)
       (ap₂ _&&_ (ap (λ (t : Bool). a && t && c) (length-step u (labels b) m x) ∙ swap a l c ∙ ap (λ (t : Bool). t && l) literal) (code-step u (labels b) m x))
-      ∙ assoc (f && l) k (saturatedCard u (labels b) m x)
-      ∙ assoc f l (k && saturatedCard u (labels b) m x)
+      ∙ and-assoc (f && l) k (saturatedCard u (labels b) m x)
+      ∙ and-assoc f l (k && saturatedCard u (labels b) m x)
 
   pub saturated-is : saturated u b m ≡ (not (conflict u b) && every (u .p) (byValues u (labels b) m))
   saturated-is = ap (λ (t : Bool). not (conflict u b) && t) (every-ap (u .p) _ (byValues u (labels b) m) (λ x.

@@ -33,7 +33,7 @@ pub struct Leaf {
 
 // ---- numbers
 
-fn equal(a: i64, b: i64) -> bool
+pub fn equal(a: i64, b: i64) -> bool
     ensures { λ r. ⌜ r ≡ eqℤ a b ⌝ }
 {
     a == b

@@ -38,3 +38,10 @@ nor→ false b t = (tt, t)
 pub →nor : (a b : Bool) → T (not a) → T (not b) → T (not (a || b))
 →nor true b s t = absurd s
 →nor false b s t = t
+
+-- two tests of one meaning
+pub equal-tests : (a b : Bool) → (T a → T b) → (T b → T a) → a ≡ b
+equal-tests true true f g = refl
+equal-tests true false f g = absurd (f tt)
+equal-tests false true f g = absurd (g tt)
+equal-tests false false f g = refl

@@ -10,8 +10,9 @@ use mir.Syntax.{w64}
 use mir.ValLaws.{toZ-pos}
 use native.Mathlib.Omega.{arith}
 use Rattle.calculus.specs.Rows.{eqℤ}
+use Rattle.format.proofs.Fields.{length-u32s}
 use Rattle.format.specs.Fields.{u32s}
-use Rattle.leaf.proofs.Laws.{length-u32s, text-no, text-yes}
+use Rattle.leaf.proofs.Laws.{text-no, text-yes}
 use Rattle.leaf.proofs.fits_text.Statement.{statement}
 use Rattle.leaf.proofs.fits_text.Tie as tie
 

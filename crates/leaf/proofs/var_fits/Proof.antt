@@ -11,8 +11,9 @@ use mir.Val.{ofZ, toZ}
 use Rattle.calculus.specs.Classes.{lowest}
 use Rattle.calculus.specs.Facts.{code, len}
 use Rattle.calculus.specs.Model.{modelOf}
+use Rattle.format.proofs.Places.{length-texts}
 use Rattle.format.specs.Places.{literalsFrom}
-use Rattle.leaf.proofs.Laws.{card-any, fromLiteral, length-texts, var-card, var-code, var-length, var-literal}
+use Rattle.leaf.proofs.Laws.{card-any, fromLiteral, var-card, var-code, var-length, var-literal}
 use Rattle.leaf.specs.Leaf.{asked}
 use Rattle.leaf.specs.Values.{codeFits, lengthFits, literalFits}
 use Rattle.leaf.proofs.var_fits.Statement.{statement}

@@ -1,0 +1,96 @@
+-- `strings::store` meets its contract.
+use Prim.Native.Nat.{_*_, _+_, _-_, _≤_, ℕ}
+use borrow.Author.Needs.{needs}
+use denote.Ref.{now}
+use lib.ListN.{getD, length, length-set, set, take}
+use lib.Seq.{sets}
+use mathlib.Core.List.{List}
+use mathlib.Core.Option.{Option}
+use mathlib.Core.Path.{_∙_, _≡_, ap, refl, sym}
+use native.Mathlib.Omega.{arith}
+use Rattle.strings.proofs.Table.{sized-none, sized-some, stored-more}
+use Rattle.strings.specs.Filling.{storedAs}
+use Rattle.strings.proofs.store.Statement.{statement}
+use Rattle.strings.proofs.store.Tie as tie
+
+abbrev Inv-loop : tie.InvT-loop
+Inv-loop characters₀ x size w from i₀ characters i = (i ≤ size) × (length characters ≡ length characters₀) × (characters ≡ sets characters₀ (64 * x) (take i w))
+
+abbrev μ-loop : tie.MeasureT-loop
+μ-loop characters₀ x size w from i₀ characters i = size - i
+
+returns : tie.Need-returns Inv-loop μ-loop
+unfolding storedAs
+returns c =
+    let s = c .before .args in
+    sym (ap (λ (o : Option (List ℕ)). storedAs o (now (s .characters)) (s .x)) (sized-none (s .size) (s .t3) (c .if1 .taken)))
+
+mul-from : tie.Need-mul-from Inv-loop μ-loop
+mul-from c = search needs
+
+loop-holds : tie.Need-loop-holds Inv-loop μ-loop
+loop-holds c = (omega arith, refl, refl)
+
+mul-c : tie.Need-mul-c Inv-loop μ-loop
+mul-c c = search needs
+
+array-read-c : tie.Need-array-read-c Inv-loop μ-loop
+array-read-c c = search needs
+
+add-characters : tie.Need-add-characters Inv-loop μ-loop
+add-characters c = search needs
+
+mul-characters : tie.Need-mul-characters Inv-loop μ-loop
+mul-characters c = search needs
+
+slice-write-characters : tie.Need-slice-write-characters Inv-loop μ-loop
+slice-write-characters c = search needs
+
+add-i : tie.Need-add-i Inv-loop μ-loop
+add-i c = search needs
+
+loop-less : tie.Need-loop-less Inv-loop μ-loop
+loop-less c = search needs
+
+loop-again : tie.Need-loop-again Inv-loop μ-loop
+loop-again c =
+    let l = c .before .loop in
+    let s = c .before .before .before in
+    let n : length (s .args .t3) ≡ 64 = s .good .1 .1 .0 .1 .0 .1 in (
+      omega arith,
+      simp length-set (l .inv .1),
+      ap (λ (b : List ℕ). set b (64 * s .args .x + l .i) (getD (s .args .t3) (l .i) 0)) (l .inv .2)
+          ∙ stored-more (now (s .args .characters)) (s .args .t3) (64 * s .args .x) (l .i) (omega arith),
+    )
+
+same-length : tie.Need-same-length Inv-loop μ-loop
+same-length c = c .before .loop .inv .1
+
+returns-2 : tie.Need-returns-2 Inv-loop μ-loop
+unfolding storedAs
+returns-2 c =
+    let l = c .before .loop in
+    let s = c .before .before .before .args in
+    let e : l .i ≡ s .size = omega arith in
+    l .inv .2 ∙ ap (λ (i : ℕ). sets (now (s .characters)) (64 * s .x) (take i (s .t3))) e
+    ∙ sym (ap (λ (o : Option (List ℕ)). storedAs o (now (s .characters)) (s .x)) (sized-some (s .size) (s .t3) (c .before .before .if1 .left)))
+
+pub store-spec : {M : Type 1} → statement M
+store-spec =
+    tie.close
+    (tie.spec
+    Inv-loop
+    μ-loop
+    returns
+    mul-from
+    loop-holds
+    mul-c
+    array-read-c
+    add-characters
+    mul-characters
+    slice-write-characters
+    add-i
+    loop-less
+    loop-again
+    same-length
+    returns-2)

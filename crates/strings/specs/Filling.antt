@@ -1,0 +1,68 @@
+-- The table of strings while it is filled: a size past 64 says that a variable has no string yet.
+use Prim.Native.Nat.{ℕ, zero, suc, _*_, _≤_, _<_}
+use mathlib.Core.Bool.{Bool, true, false, cond}
+use mathlib.Core.Option.{Option, none, some}
+use mathlib.Core.List.{List, [], _∷_}
+use lib.ListN.{length, getD, take, drop}
+use lib.Seq.{sets}
+use lib.Dec.{leb, ltb}
+use lib.IntN.{ℤ}
+use Rattle.calculus.specs.Limits.{lengthLimit}
+use Rattle.calculus.specs.Facts.{Question, len, code}
+use Rattle.calculus.specs.Classes.{lowest}
+use Rattle.calculus.specs.Model.{modelOf}
+use Rattle.calculus.specs.SaturationTest.{lowestVar}
+use Rattle.calculus.specs.Strings.{eqString, freshFrom, fixedBy}
+use Rattle.format.specs.Records.{size}
+use Rattle.format.specs.Places.{skip, literalsFrom}
+use Rattle.answer.specs.Table.{row}
+use Rattle.strings.specs.declared.Given.{Given}
+
+-- the first size characters, where there are at most 64
+unfoldable pub sized : ℕ → List ℕ → Option (List ℕ)
+sized size characters = cond (leb size lengthLimit) (some (take size characters)) none
+
+abbrev pub givenOf : Given → Option (List ℕ)
+givenOf w = sized (w .size) (w .characters)
+
+-- the string of variable y in a table
+abbrev pub entry : List ℕ → List ℕ → ℕ → Option (List ℕ)
+entry characters sizes y = sized (getD sizes y 0) (drop (lengthLimit * y) characters)
+
+-- the table once variable x has a string
+unfoldable pub storedAs : Option (List ℕ) → List ℕ → ℕ → List ℕ
+storedAs none characters x = characters
+storedAs (some s) characters x = sets characters (lengthLimit * x) s
+
+-- the strings of the first variables that have one
+unfoldable pub before : Option (List ℕ) → List (List ℕ) → List (List ℕ)
+before none ss = ss
+before (some s) ss = s ∷ ss
+
+unfoldable pub givenStrings : List ℕ → List ℕ → ℕ → List (List ℕ)
+givenStrings characters sizes zero = []
+givenStrings characters sizes (suc y) = before (entry characters sizes y) (givenStrings characters sizes y)
+
+-- the string w is the one there
+unfoldable pub isIt : Option (List ℕ) → List ℕ → Bool
+isIt none w = false
+isIt (some s) w = eqString w s
+
+-- what the first two rounds give to variable x: the calculus' `fixedString` with the labels ls of the branch
+abbrev pub fixedAt : Question → List ℕ → List ℤ → ℕ → Option (List ℕ)
+fixedAt u ls m x = fixedBy u (lowest ls x 0 (suc (length (u .literals)))) (modelOf u m len x) (modelOf u m code x)
+
+-- the string of variable x, of length l, in the third round: its own, that of the lowest variable of its class, or the first that is not given
+unfoldable pub completed : ℕ → ℕ → List ℕ → ℕ → List ℕ → List ℕ → ℕ → List ℕ
+completed n p ls l characters sizes x = elim (entry characters sizes x) [
+  | some s ↦ s
+  | none ↦
+      elim (ltb (lowestVar ls x) x) [
+        | true ↦ row characters (lowestVar ls x) (getD sizes (lowestVar ls x) 0)
+        | false ↦ freshFrom p n l (givenStrings characters sizes p) 0
+      ]
+]
+
+-- no literal is longer than 64 characters, 4 bytes each
+abbrev pub ShortLiterals : List ℕ → ℕ → Type 0
+ShortLiterals b literals = (j : ℕ) → j < literals → size b (skip b j literalsFrom) ≤ 4 * lengthLimit
