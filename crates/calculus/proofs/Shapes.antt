@@ -3,14 +3,25 @@ use Prim.Native.Nat.{ℕ, zero, suc, _+_, _≤_}
 use native.Mathlib.Omega.{arith}
 use mathlib.Core.Path.{_≡_, refl, sym, _∙_, ap, ap₂}
 use mathlib.Core.Logic.{_≢_, inl, inr}
+use mathlib.Core.Bool.{Bool, true, false, not, _&&_}
+use mathlib.Core.Option.{some}
 use mathlib.Core.List.{List, [], _∷_, _++_, map}
-use lib.ListN.{length, replicate, length-append}
+use lib.ListN.{length, replicate, getElem?, length-append}
+use lib.Dec.{leb, eqb}
+use lib.IntN.{negsuc}
+use borrow.Author.Tests.{lt-leb}
+use Rattle.lists.proofs.Options.{some-injective, none-some}
 use Rattle.calculus.specs.Alphabet.{characterCount}
-use Rattle.calculus.specs.Facts.{Question, Fact, Branch}
+use Rattle.calculus.specs.Facts.{Question, Fact, same, apart, isLiteral, arithmetic, ge, eq, ne, Branch}
+use Rattle.calculus.specs.Classes.{labels, sameClass, classLiteral, conflict}
+use Rattle.calculus.specs.Chains.{varNode}
 use Rattle.calculus.specs.Steps.{Step, Sum, Split, Apart, AConf, SConf, SProp, LIntro, LValid, CCollapse, CValid, CInj, Card, Join, pairCount, lastCount, shape}
-use Rattle.calculus.specs.Children.{pairsWith, pairs}
+use Rattle.calculus.specs.Rows.{scale, eqRow}
+use Rattle.calculus.specs.Children.{pairsWith, pairs, boundChild}
+use Rattle.calculus.specs.Rules.{sumOf, divided, parted, falsum, joined, neighbours, distinct, logUp, lastChild, cardChildren, children}
 use Rattle.calculus.specs.Instances.{LastChild, Instance}
 use Rattle.calculus.specs.Walk.{Waiting, Walk, working, closed, wait, cutBack, enter}
+use Rattle.calculus.proofs.Tests.{guard→, then→}
 
 recount : (cs : List (List Fact)) (j k : ℕ) → j ≡ k → map length cs ≡ replicate j 1 → map length cs ≡ replicate k 1
 recount cs j k e h = h ∙ ap (λ n. replicate n 1) e
@@ -77,3 +88,68 @@ enter-counted b (c ∷ cs) ss = ap₂ working (length-append b c) (wait-counted 
 pub shape-walks : (u : Question) → 1 ≤ u .n → (b : Branch) (st : Step) (cs : List (List Fact)) (ss : List (Waiting Branch (List Fact))) → Instance u b st cs
     → count (enter _++_ b cs ss) ≡ enter _+_ (length b) (shape (u .n) st) (map counted ss)
 shape-walks u h b st cs ss i = enter-counted b cs ss ∙ ap (λ l. enter _+_ (length b) l (map counted ss)) (instance-shape u h b st cs i)
+
+-- ---- the children that checking computes, on any branch
+
+last-count : (n : ℕ) → lastCount n ≡ elim (leb n 1) [ true ↦ 0 | false ↦ 1 ]
+last-count zero = refl
+last-count (suc zero) = refl
+last-count (suc (suc n)) = rw (lt-leb (suc (suc n)) 1 (omega arith))
+
+last-shape : (u : Question) (x m : ℕ) → map length (lastChild u x m) ≡ replicate (lastCount (characterCount (u .n))) 1
+last-shape u x m = by-test (leb (characterCount (u .n)) 1) ∙ ap (λ k. replicate k 1) (sym (last-count (characterCount (u .n))))
+  where
+    by-test : (t : Bool) → map (length {A = Fact}) (elim t as (λ _. List (List Fact)) [ true ↦ [] | false ↦ boundChild u x (logUp m (characterCount (u .n)) m 0) ]) ≡ replicate (elim t as (λ _. ℕ) [ true ↦ 0 | false ↦ 1 ]) 1
+    by-test true = refl
+    by-test false = refl
+
+card-shape : (u : Question) (b : Branch) (xs : List ℕ) {cs : List (List Fact)} → cardChildren u b xs ≡ some cs → map length cs ≡ replicate (pairCount (length xs) + lastCount (characterCount (u .n))) 1
+card-shape u b [] e = absurd (none-some e)
+card-shape u b (x ∷ []) e = absurd (none-some e)
+card-shape u b (x ∷ y ∷ xs) e =
+    let m : ℕ = length (x ∷ y ∷ xs) in
+    ap (map length) (sym (guard→ (distinct (x ∷ y ∷ xs) && neighbours u b x (y ∷ xs)) e .1)) ∙ pairs-sizes (x ∷ y ∷ xs) (lastChild u x m) (lastCount (characterCount (u .n))) (last-shape u x m)
+
+parted-shape : (f : Fact) {cs : List (List Fact)} → parted f ≡ some cs → map length cs ≡ 1 ∷ 1 ∷ []
+parted-shape (same x y) e = absurd (none-some e)
+parted-shape (apart x y) e = absurd (none-some e)
+parted-shape (isLiteral x l) e = absurd (none-some e)
+parted-shape (arithmetic ge g) e = absurd (none-some e)
+parted-shape (arithmetic eq g) e = absurd (none-some e)
+parted-shape (arithmetic ne g) e = ap (map length) (sym (some-injective e))
+
+joined-shape : (f g : Fact) {cs : List (List Fact)} → joined f g ≡ some cs → map length cs ≡ 1 ∷ []
+joined-shape (arithmetic ge d) (arithmetic ge g) e = ap (map length) (sym (guard→ (eqRow (scale (negsuc 0) d) g) e .1))
+joined-shape (arithmetic ge d) (arithmetic eq g) e = absurd (none-some e)
+joined-shape (arithmetic ge d) (arithmetic ne g) e = absurd (none-some e)
+joined-shape (arithmetic ge d) (same x y) e = absurd (none-some e)
+joined-shape (arithmetic ge d) (apart x y) e = absurd (none-some e)
+joined-shape (arithmetic ge d) (isLiteral x l) e = absurd (none-some e)
+joined-shape (arithmetic eq d) g e = absurd (none-some e)
+joined-shape (arithmetic ne d) g e = absurd (none-some e)
+joined-shape (same x y) g e = absurd (none-some e)
+joined-shape (apart x y) g e = absurd (none-some e)
+joined-shape (isLiteral x l) g e = absurd (none-some e)
+
+-- a step that fits has the shape that it shows
+pub children-shape : (u : Question) (b : Branch) (st : Step) (cs : List (List Fact)) → children u b st ≡ some cs → map length cs ≡ shape (u .n) st
+unfolding shape
+children-shape u b (Sum d ts) cs e =
+    let (r, _, e2) = then→ (sumOf b ts) _ e in
+    let (g, _, e3) = then→ (divided d r) _ e2 in
+    ap (map length) (sym (some-injective e3))
+children-shape u b (Split g) cs e = ap (map length) (sym (some-injective e))
+children-shape u b (Apart k) cs e = let (f, _, e2) = then→ (getElem? b k) _ e in parted-shape f e2
+children-shape u b (AConf k) cs e = let (f, _, e2) = then→ (getElem? b k) _ e in ap (map length) (sym (guard→ (falsum f) e2 .1))
+children-shape u b SConf cs e = ap (map length) (sym (guard→ (conflict u b) e .1))
+children-shape u b (SProp f x y) cs e = ap (map length) (sym (guard→ (not (eqb x y) && sameClass (labels b) (varNode x) (varNode y)) e .1))
+children-shape u b (LIntro x) cs e = let (l, _, e2) = then→ (classLiteral u b x) _ e in ap (map length) (sym (some-injective e2))
+children-shape u b (LValid x) cs e = ap (map length) (sym (some-injective e))
+children-shape u b (CCollapse x) cs e = let (l, _, e2) = then→ (classLiteral u b x) _ e in ap (map length) (sym (some-injective e2))
+children-shape u b (CValid x) cs e = ap (map length) (sym (some-injective e))
+children-shape u b (CInj x y) cs e = ap (map length) (sym (guard→ (not (eqb x y)) e .1))
+children-shape u b (Card xs) cs e = card-shape u b xs e
+children-shape u b (Join j k) cs e =
+    let (f, _, e2) = then→ (getElem? b j) _ e in
+    let (g, _, e3) = then→ (getElem? b k) _ e2 in
+    joined-shape f g e3

@@ -45,3 +45,14 @@ module _ {A : Type 0} (test : A → Bool) (every : List A → Bool) (none : ever
   every-take (x ∷ l) (suc n) e =
       let (p, q) = and→ (test x) (every l) (true→ (sym (more x l) ∙ e)) in
       more x (take n l) ∙ ap₂ _&&_ (→true (test x) p) (every-take l n (→true (every l) q))
+
+  -- an element of a list that passes
+  pub every-at : (l : List A) (k : ℕ) (x : A) → every l ≡ true → getElem? l k ≡ some x → test x ≡ true
+  every-at [] k x e h = absurd (none-some h)
+  every-at (y ∷ l) zero x e h = ap test (sym (some-injective h)) ∙ →true (test y) (and→ (test y) (every l) (true→ (sym (more y l) ∙ e)) .0)
+  every-at (y ∷ l) (suc k) x e h = every-at l k x (→true (every l) (and→ (test y) (every l) (true→ (sym (more y l) ∙ e)) .1)) h
+
+  -- two lists
+  pub every-append : (l m : List A) → every (l ++ m) ≡ (every l && every m)
+  every-append [] m = ap (λ t. t && every m) (sym none)
+  every-append (x ∷ l) m = more x (l ++ m) ∙ ap (λ t. test x && t) (every-append l m) ∙ sym (and-assoc (test x) (every l) (every m)) ∙ ap (λ t. t && every m) (sym (more x l))

@@ -1,16 +1,22 @@
--- The number of children: Card's pairs, and the child numbers in range.
+-- The number of children and of the facts that each adds: Card's pairs, the child numbers in range, and how many there can be.
 use Prim.Native.Nat.{ℕ, zero, suc, _+_, _*_, _-_, _/_, _≤_, _<_}
 use native.Mathlib.Omega.{arith}
-use native.Mathlib.Nat.{mul-suc, suc-mul, div-eq-of-eq-mul-right}
-use mathlib.Core.Path.{_≡_, refl, sym, _∙_, ap}
+use native.Mathlib.Nat.{mul-suc, suc-mul, mul-le-mul, div-eq-of-eq-mul-right}
+use native.Mathlib.Decide.{decLt}
+use mathlib.Core.Path.{_≡_, refl, sym, _∙_, ap, subst}
+use mathlib.Core.Logic.{_⊎_, inl, inr}
+use mathlib.Core.Bool.{true}
 use mathlib.Core.List.{List, [], _∷_}
-use lib.ListN.{length, length-replicate}
+use lib.ListN.{length, getD, replicate, length-replicate}
 use lib.Dec.{leb, eqb}
 use borrow.Author.Tests.{le-leb, lt-leb, ne-eqb}
+use Rattle.lists.specs.Lists.{All}
 use Rattle.calculus.specs.Alphabet.{characterCount}
 use Rattle.calculus.specs.Steps.{pairCount, lastCount, shape}
-use Rattle.format.specs.StepForms.{card, cardVariables, stepOf, isChild}
+use Rattle.format.specs.Fields.{u16}
+use Rattle.format.specs.StepForms.{Rule, sum, branch, apart, aConf, sConf, sProp, lIntro, lValid, cCollapse, cValid, cInj, card, join, unknown, ruleOf, formFor, fitsForm, rule, lengthFits, cardVariables, stepOf, stepAt, isChild}
 use Rattle.format.proofs.Fields.{length-u16s}
+use Rattle.steps.proofs.Table.{at-least, at-most, between, unnamed}
 
 twice : (m : ℕ) → 2 * pairCount (suc m) ≡ suc m * m
 twice zero = refl
@@ -18,6 +24,10 @@ twice (suc m) =
     let h : 2 * pairCount (suc m) ≡ suc m * m = twice m in
     let e : 2 * pairCount (suc (suc m)) ≡ 2 * suc m + 2 * pairCount (suc m) = omega arith in
     omega (arith, mul-suc (suc (suc m)) m, suc-mul (suc m) m)
+
+-- a product of small numbers
+pub pairs-few : (m : ℕ) → m ≤ 16 → m * (m - 1) ≤ 240
+pairs-few m h = mul-le-mul {n₂ = 16} {m₂ = 15} h (omega arith)
 
 -- the number of pairs among m
 pub pairs-halved : (m : ℕ) → m * (m - 1) / 2 ≡ pairCount m
@@ -51,3 +61,92 @@ unfolding shape stepOf
 card-count b n at m =
     length-replicate (pairCount (length (cardVariables b at m)) + lastCount (characterCount n)) 1
     ∙ ap (λ k. pairCount k + lastCount (characterCount n)) (length-u16s b (at + 4) ((m - 4) / 2))
+
+-- ---- how many there are
+
+last-few : (n : ℕ) → lastCount n ≤ 1
+last-few zero = omega arith
+last-few (suc zero) = omega arith
+last-few (suc (suc n)) = omega arith
+
+card-few : (b : List ℕ) (n at m : ℕ) → fitsForm (formFor card) m ≡ true → length (shape n (stepOf b card at m)) ≤ 121
+card-few b n at m f =
+    let long = at-least (formFor card) m f in
+    let short = at-most (formFor card) m f in
+    let variables : (m - 4) / 2 ≤ 16 = omega arith in
+    omega (arith, card-count b n at m, pairs-halved ((m - 4) / 2), pairs-few ((m - 4) / 2) variables, last-few (characterCount n))
+
+-- no step has more than 121 children
+pub few-children : (b : List ℕ) (n at m : ℕ) → lengthFits b at m ≡ true → length (shape n (stepAt b at m)) ≤ 121
+unfolding shape stepOf
+few-children b n at m f = go (rule b at) f
+  where
+    go : (r : Rule) → fitsForm (formFor r) m ≡ true → length (shape n (stepOf b r at m)) ≤ 121
+    go sum f = omega arith
+    go branch f = omega arith
+    go apart f = omega arith
+    go aConf f = omega arith
+    go sConf f = omega arith
+    go sProp f = omega arith
+    go lIntro f = omega arith
+    go lValid f = omega arith
+    go cCollapse f = omega arith
+    go cValid f = omega arith
+    go cInj f = omega arith
+    go card f = card-few b n at m f
+    go join f = omega arith
+    go unknown f = omega arith
+
+-- ---- how many facts each adds
+
+ones : (k : ℕ) → All {A = ℕ} (λ x. x ≡ 1) (replicate k 1)
+ones zero = tt
+ones (suc k) = (refl, ones k)
+
+-- one, but for C-Valid
+pub one-each : (b : List ℕ) (n at m k : ℕ) → (k ≡ 10) ⊎ All (λ x. x ≡ 1) (shape n (stepOf b (ruleOf k) at m))
+unfolding shape stepOf
+one-each b n at m k = go (decLt k 14)
+  where
+    P : ℕ → Type 0
+    P j = (j ≡ 10) ⊎ All (λ x. x ≡ 1) (shape n (stepOf b (ruleOf j) at m))
+
+    one : All (λ (x : ℕ). x ≡ 1) (1 ∷ [])
+    one = (refl, tt)
+
+    two : All (λ (x : ℕ). x ≡ 1) (1 ∷ 1 ∷ [])
+    two = (refl, (refl, tt))
+
+    go : Dec (k < 14) → P k
+    go (yes h) =
+        between P 14 0 k
+        (inr tt, (inr one, (inr two, (inr two, (inr tt, (inr tt, (inr one, (inr one, (inr two, (inr one, (inl refl, (inr (refl, two), (inr (ones (pairCount (length (cardVariables b at m)) + lastCount (characterCount n))), (inr one, tt))))))))))))))
+        (omega arith) h
+    go (no h) = inr (subst (λ (r : Rule). All (λ x. x ≡ 1) (shape n (stepOf b r at m))) (sym (unnamed k (omega arith))) tt)
+
+one-at : (ls : List ℕ) (i : ℕ) → All (λ x. x ≡ 1) ls → i < length ls → 1 ≡ getD ls i 0
+one-at [] i h g = absurd (omega arith)
+one-at (x ∷ ls) zero h g = sym (h .0)
+one-at (x ∷ ls) (suc i) h g = one-at ls i (h .1) (omega arith)
+
+module _ (b : List ℕ) (n at m k : ℕ) (j : ℕ) (e : j ≡ u16 b at) where
+  pub adds-one : (j ≡ 10 → ⊥) → 1 ≤ k → k ≤ length (shape n (stepAt b at m)) → 1 ≡ getD (shape n (stepAt b at m)) (k - 1) 0
+  adds-one x l h = go (one-each b n at m (u16 b at))
+    where
+      go : (u16 b at ≡ 10) ⊎ All (λ x. x ≡ 1) (shape n (stepAt b at m)) → 1 ≡ getD (shape n (stepAt b at m)) (k - 1) 0
+      go (inl f) = absurd (x (e ∙ f))
+      go (inr a) = one-at (shape n (stepAt b at m)) (k - 1) a (omega arith)
+
+  -- C-Valid's first child adds two facts, its second three
+  by-c-valid : j ≡ 10 → shape n (stepAt b at m) ≡ 2 ∷ 3 ∷ []
+  unfolding shape stepOf
+  by-c-valid f = sym (ap (λ i. shape n (stepOf b (ruleOf i) at m)) (sym f ∙ e))
+
+  pub adds-two : j ≡ 10 → k ≡ 1 → 2 ≡ getD (shape n (stepAt b at m)) (k - 1) 0
+  adds-two f g = rw (by-c-valid f, g)
+
+  pub adds-three : j ≡ 10 → (k ≡ 1 → ⊥) → 1 ≤ k → k ≤ length (shape n (stepAt b at m)) → 3 ≡ getD (shape n (stepAt b at m)) (k - 1) 0
+  adds-three f g l h =
+      let two : k ≤ 2 = rw (by-c-valid f) at h in
+      let second : k ≡ 2 = omega arith in
+      rw (by-c-valid f, second)

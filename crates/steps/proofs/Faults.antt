@@ -1,14 +1,16 @@
 -- The numbers 5 and 6 of a step's body, and what comes behind them.
-use Prim.Native.Nat.{ℕ}
+use Prim.Native.Nat.{ℕ, _+_, _≤_}
 use native.Mathlib.Omega.{arith}
 use mathlib.Core.Path.{_≡_, refl, sym, _∙_, ap, ap₂}
 use mathlib.Core.Bool.{Bool, true, false, _&&_}
 use mathlib.Core.List.{List}
+use lib.ListN.{length}
 use Rattle.calculus.specs.Facts.{Question}
 use Rattle.format.specs.Records.{need}
 use Rattle.format.specs.Question.{columnCount}
 use Rattle.format.specs.StepForms.{rule, lengthFits, operandsInRange}
 use Rattle.format.specs.Reading.{stepFault}
+use Rattle.steps.specs.Forms.{Formed}
 
 -- ---- chains of two tests
 
@@ -30,11 +32,6 @@ chain-none false y ok e = absurd (omega arith)
 
 -- ---- the body of m bytes at a position
 
--- its length fits, and its operands are in their ranges
-pub record Formed (b : List ℕ) (u : Question) (at m : ℕ) : Type 0 where
-  pub fits : lengthFits b at m ≡ true
-  pub in-range : operandsInRange b (u .p) (columnCount u) (rule b at) at m ≡ true
-
 module _ (b : List ℕ) (u : Question) (ok : Bool) (at m : ℕ) where
   abbrev inRange : Bool
   inRange = operandsInRange b (u .p) (columnCount u) (rule b at) at m
@@ -55,8 +52,8 @@ module _ (b : List ℕ) (u : Question) (ok : Bool) (at m : ℕ) where
   out-of-form f e n = chain-all (lengthFits b at m) inRange ok f e n 0
 
   -- neither applies
-  pub formed : 0 ≡ stepFault b u ok 0 at m → Formed b u at m
-  formed e = let (f, r, _) = chain-none (lengthFits b at m) inRange ok e in record { fits = f; in-range = r }
+  pub formed : at + m ≤ length b → 0 ≡ stepFault b u ok 0 at m → Formed b u at m
+  formed h e = let (f, r, _) = chain-none (lengthFits b at m) inRange ok e in record { within = h; fits = f; in-range = r }
 
   pub child-passed : 0 ≡ stepFault b u ok 0 at m → ok ≡ true
   child-passed e = let (_, _, k) = chain-none (lengthFits b at m) inRange ok e in k

@@ -3,7 +3,7 @@
 ghost use mathlib.Core.Path.{_≡_};
 ghost use mathlib.Core.Bool.{true};
 ghost use Prim.Native.Nat.{ℕ, _+_, _*_, _-_, _/_, _<_, _≤_};
-ghost use lib.ListN.{length};
+ghost use lib.ListN.{length, getD};
 ghost use lib.Dec.{eqb};
 ghost use Rattle.calculus.specs.Limits.{variableLimit};
 ghost use Rattle.calculus.specs.Alphabet.{characterCount};
@@ -197,6 +197,17 @@ pub fn child_count(b: &[u8], n: usize, at: usize, size: usize) -> usize
         12 => card_children(n, (size - 4) / 2),
         _ => 0,
     }
+}
+
+// How many facts child k of a body's step adds, where it fits: C-Valid's children add two and three, all others one.
+pub fn child_facts(b: &[u8], at: usize, k: usize) -> usize
+    requires { ⌜ at + 2 ≤ length (now b) ⌝ }
+    ensures { λ r. ⌜ ((n m : ℕ) → 1 ≤ k → k ≤ length (shape n (stepAt (now (b .entry)) at m)) → r ≡ getD (shape n (stepAt (now (b .entry)) at m)) (k - 1) 0) ⌝ }
+{
+    if u16_at(b, at) != 10 {
+        return 1;
+    }
+    if k == 1 { 2 } else { 3 }
 }
 
 // Claim 2: "the child taken, from 1; it is 1 for a rule with one conclusion or none".

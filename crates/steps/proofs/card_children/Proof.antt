@@ -1,24 +1,18 @@
 -- `steps::card_children` meets its contract.
 use borrow.Author.Needs.{needs}
 use native.Mathlib.Omega.{arith}
-use native.Mathlib.Nat.{mul-le-mul}
-use Prim.Native.Nat.{ℕ, _-_, _*_, _≤_}
-use Rattle.steps.proofs.Children.{pairs-halved, last-left-out, last-there}
+use Rattle.steps.proofs.Children.{pairs-few, pairs-halved, last-left-out, last-there}
 use Rattle.steps.proofs.card_children.Statement.{statement}
 use Rattle.steps.proofs.card_children.Tie as tie
-
--- a product of small numbers
-few : (m : ℕ) → m ≤ 16 → m * (m - 1) ≤ 256
-few m h = mul-le-mul {n₂ = 16} {m₂ = 16} h (omega arith)
 
 sub-pairs : tie.Need-sub-pairs
 sub-pairs c = search needs
 
 mul-pairs : tie.Need-mul-pairs
-mul-pairs c = record { fits = omega (arith, few (c .args .m) (c .pre .1)) }
+mul-pairs c = record { fits = omega (arith, pairs-few (c .args .m) (c .pre .1)) }
 
 add-result : tie.Need-add-result
-add-result c = record { fits = omega (arith, few (c .before .args .m) (c .before .pre .1)) }
+add-result c = record { fits = omega (arith, pairs-few (c .before .args .m) (c .before .pre .1)) }
 
 returns : tie.Need-returns
 returns c = omega (arith, pairs-halved (c .before .args .m), last-left-out (c .before .args .n) (c .if1 .taken))

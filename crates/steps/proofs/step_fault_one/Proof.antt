@@ -27,7 +27,7 @@ add-u16-at c = search needs
 u16-at-requires : tie.Need-u16-at-requires
 u16-at-requires c κs =
     let s = c .before .before .before in
-    let fits = formed (now (s .args .b)) (progressOf (now (s .args .b)) (s .args .s) .question) true (s .args .at) (s .args .size) (sym (c .if1 .left) ∙ c .before .operands-fault .ensures) .fits in
+    let fits = formed (now (s .args .b)) (progressOf (now (s .args .b)) (s .args .s) .question) true (s .args .at) (s .args .size) (s .pre .0) (sym (c .if1 .left) ∙ c .before .operands-fault .ensures) .fits in
     let long = at-least (formFor (rule (now (s .args .b)) (s .args .at))) (s .args .size) fits in
     omega (arith, least-four (rule (now (s .args .b)) (s .args .at)))
 

@@ -20,7 +20,7 @@ returns c =
 child-in-range-requires : tie.Need-child-in-range-requires
 child-in-range-requires c κs =
     let s = c .before .before .before in
-    (s .pre .0, formed (now (s .args .b)) (progressOf (now (s .args .b)) (s .args .s) .question) true (s .args .at) (s .args .size) (sym (c .if1 .left) ∙ c .before .operands-fault .ensures) .fits)
+    (s .pre .0, formed (now (s .args .b)) (progressOf (now (s .args .b)) (s .args .s) .question) true (s .args .at) (s .args .size) (s .pre .0) (sym (c .if1 .left) ∙ c .before .operands-fault .ensures) .fits)
 
 returns-2 : tie.Need-returns-2
 returns-2 c =

@@ -1,0 +1,64 @@
+-- The children of a step that splits a branch: each is there and within the limits.
+use Prim.Native.Nat.{ℕ, zero, suc, _+_, _-_, _≤_, _<_}
+use native.Mathlib.Omega.{arith}
+use mathlib.Core.Path.{_≡_, refl, sym, _∙_, ap}
+use mathlib.Core.Bool.{Bool, true, _&&_}
+use mathlib.Core.Option.{Option, some}
+use mathlib.Core.List.{List, [], _∷_}
+use lib.ListN.{length, drop, getElem?}
+use borrow.Author.Tests.{leb-true}
+use Rattle.lists.proofs.Options.{none-some}
+use Rattle.lists.proofs.Every.{every-at}
+use Rattle.calculus.specs.Limits.{factLimit}
+use Rattle.calculus.specs.Facts.{Question, Fact, Branch}
+use Rattle.calculus.specs.Children.{childAt}
+use Rattle.format.specs.Checking.{orNone, factsWithin, childrenWithin, room, roomForAll, nth}
+use Rattle.derivation.specs.State.{offeredIn, childrenOn, childOn}
+use Rattle.derivation.specs.Ok.{Splits}
+
+-- ---- child k of a list, from 1
+
+there : {A : Type 0} (cs : List (List A)) (k : ℕ) → k < length cs → getElem? cs k ≡ some (orNone (getElem? cs k))
+there [] k h = absurd (omega arith)
+there (c ∷ cs) zero h = refl
+there (c ∷ cs) (suc k) h = there cs k (omega arith)
+
+at-there : {A : Type 0} (cs : List (List A)) (k : ℕ) → 1 ≤ k → k ≤ length cs → childAt cs k ≡ some (orNone (childAt cs k))
+at-there cs zero l h = absurd (omega arith)
+at-there cs (suc k) l h = there cs k (omega arith)
+
+-- the next child, and those after it
+pub next-child : {A : Type 0} (cs : List (List A)) (k : ℕ) → k < length cs → drop k cs ≡ orNone (childAt cs (suc k)) ∷ drop (suc k) cs
+next-child [] k h = absurd (omega arith)
+next-child (c ∷ cs) zero h = refl
+next-child (c ∷ cs) (suc k) h = next-child cs k (omega arith)
+
+at-passes : (test : List Fact → Bool) (every : List (List Fact) → Bool) → every [] ≡ true → ((c : List Fact) (cs : List (List Fact)) → every (c ∷ cs) ≡ (test c && every cs))
+    → (cs : List (List Fact)) (k : ℕ) (c : List Fact) → every cs ≡ true → childAt cs k ≡ some c → test c ≡ true
+at-passes test every none more cs zero c e h = absurd (none-some h)
+at-passes test every none more cs (suc k) c e h = every-at test every none more cs k c e h
+
+-- ---- the children of a split
+
+module _ {b : List ℕ} {u : Question} {br : Branch} {at n : ℕ} (sp : Splits b u br at n) where
+  pub its-all : childrenOn b u br at ≡ sp .its-children
+  its-all = ap orNone (sp .fit)
+
+  pub child-of : (k : ℕ) → childOn b u br at k ≡ orNone (childAt (sp .its-children) k)
+  child-of k = ap (λ o. orNone (nth o k)) (sp .fit)
+
+  child-at : (k : ℕ) → 1 ≤ k → k ≤ n → childAt (sp .its-children) k ≡ some (childOn b u br at k)
+  child-at k l h = at-there (sp .its-children) k l (omega (arith, sp .number)) ∙ ap some (sym (child-of k))
+
+  -- child k is there
+  pub taken-there : (k : ℕ) → 1 ≤ k → k ≤ n → nth (offeredIn b u br at) k ≡ some (childOn b u br at k)
+  taken-there k l h = ap (λ o. nth o k) (sp .fit) ∙ child-at k l h
+
+  -- its numbers are within the limit, and it finds room
+  pub child-within : (k : ℕ) → 1 ≤ k → k ≤ n → factsWithin (childOn b u br at k) ≡ true
+  unfolding childrenWithin
+  child-within k l h = at-passes factsWithin childrenWithin refl (λ c cs. refl) (sp .its-children) k (childOn b u br at k) (sp .within) (child-at k l h)
+
+  pub child-room : (k : ℕ) → 1 ≤ k → k ≤ n → length br + length (childOn b u br at k) ≤ factLimit
+  unfolding roomForAll
+  child-room k l h = leb-true _ factLimit (at-passes (room (length br)) (roomForAll (length br)) refl (λ c cs. refl) (sp .its-children) k (childOn b u br at k) (sp .room) (child-at k l h))

@@ -1,0 +1,149 @@
+-- Pending splits: rows at or above a mark do not touch what is below it, so the splits pend as before on a branch that grows.
+use Prim.Native.Nat.{ℕ, zero, suc, _+_, _-_, _≤_, _<_}
+use native.Mathlib.Omega.{arith}
+use native.Mathlib.Numerals.{add-one}
+use mathlib.Core.Path.{_≡_, refl, sym, _∙_, ap, ap₂, subst}
+use mathlib.Core.Bool.{Bool, true, false, _&&_, cond}
+use mathlib.Core.List.{List, [], _∷_, _++_}
+use lib.ListN.{length, take, drop, length-append}
+use lib.Seq.{take-append-le, take-append-seam, take-at, length-take-le}
+use lib.Dec.{ltb}
+use borrow.Author.Tests.{ltb-true}
+use Rattle.lists.proofs.Every.{every-append, every-take}
+use Rattle.calculus.specs.Limits.{factLimit, pendingLimit}
+use Rattle.calculus.specs.Facts.{Question, Fact, Branch}
+use Rattle.format.specs.Checking.{factWithin, factsWithin}
+use Rattle.branch.specs.declared.Split.{Split}
+use Rattle.branch.specs.Stack.{split, begunOf}
+use Rattle.derivation.specs.State.{childOn, waitingOn, waitings}
+use Rattle.derivation.specs.Ok.{Splits, Pends, AllPend, Ok}
+use Rattle.derivation.proofs.Children.{child-within, child-room}
+
+-- ---- a branch that grows
+
+module _ (b : List ℕ) (u : Question) where
+  pub pend-grown : (br c : Branch) (ss : List Split) → AllPend b u br ss → AllPend b u (br ++ c) ss
+  unfolding AllPend
+  pend-grown br c [] h = tt
+  pend-grown br c (s ∷ ss) h =
+      let e : take (s .mark) (br ++ c) ≡ take (s .mark) br = take-append-le (s .mark) br c (h .0 .behind) in
+      let here : Pends b u (br ++ c) s = record {
+        behind = omega (arith, h .0 .behind, length-append br c);
+        splits = subst (λ (l : Branch). Splits b u l (s .at) (s .last)) (sym e) (h .0 .splits);
+        some-begun = h .0 .some-begun;
+        some-left = h .0 .some-left;
+      } in
+      (here, subst (λ (l : Branch). AllPend b u l ss) (sym e) (h .1))
+
+  pub waitings-grown : (br c : Branch) (ss : List Split) → AllPend b u br ss → waitings b u (br ++ c) ss ≡ waitings b u br ss
+  unfolding AllPend waitings
+  waitings-grown br c [] h = refl
+  waitings-grown br c (s ∷ ss) h =
+      ap (λ (l : Branch). waitingOn b u l s ∷ waitings b u l ss) (take-append-le (s .mark) br c (h .0 .behind))
+
+  pub length-waitings : (br : Branch) (ss : List Split) → length (waitings b u br ss) ≡ length ss
+  unfolding waitings
+  length-waitings br [] = refl
+  length-waitings br (s ∷ ss) = ap suc (length-waitings (take (s .mark) br) ss)
+
+-- ---- numbers within the limit
+
+pub within-append : (br c : Branch) → factsWithin br ≡ true → factsWithin c ≡ true → factsWithin (br ++ c) ≡ true
+unfolding factsWithin
+within-append br c e f = every-append factWithin factsWithin refl (λ x xs. refl) br c ∙ ap₂ _&&_ e f
+
+pub within-take : (br : Branch) (n : ℕ) → factsWithin br ≡ true → factsWithin (take n br) ≡ true
+unfolding factsWithin
+within-take br n e = every-take factWithin factsWithin refl (λ x xs. refl) br n e
+
+-- ---- the first child of a split is begun
+
+module _ (b : List ℕ) (u : Question) (br : Branch) (ss : List Split) (at n : ℕ) (ok : Ok b u br ss) (sp : Splits b u br at n) where
+  few-first : 1 ≤ n → length (br ++ childOn b u br at 1) ≤ factLimit
+  few-first h = omega (arith, length-append br (childOn b u br at 1), child-room sp 1 (omega arith) h)
+
+  small-first : 1 ≤ n → factsWithin (br ++ childOn b u br at 1) ≡ true
+  small-first h = within-append br (childOn b u br at 1) (ok .small) (child-within sp 1 (omega arith) h)
+
+  -- its only child
+  pub ok-one : 1 ≤ n → Ok b u (br ++ childOn b u br at 1) ss
+  ok-one h = record {
+    few = few-first h;
+    small = small-first h;
+    few-pending = ok .few-pending;
+    pend = pend-grown b u br (childOn b u br at 1) ss (ok .pend);
+  }
+
+  -- the split is pending
+  pub ok-split : 2 ≤ n → length ss < pendingLimit → Ok b u (br ++ childOn b u br at 1) (split (length br) at 2 n ∷ ss)
+  unfolding AllPend
+  ok-split h g =
+      let c : List Fact = childOn b u br at 1 in
+      let e : take (length br) (br ++ c) ≡ br = take-append-seam br c in
+      let here : Pends b u (br ++ c) (split (length br) at 2 n) = record {
+        behind = omega (arith, length-append br c);
+        splits = subst (λ (l : Branch). Splits b u l at n) (sym e) sp;
+        some-begun = omega arith;
+        some-left = h;
+      } in
+      record {
+        few = few-first (omega arith);
+        small = small-first (omega arith);
+        few-pending = omega arith;
+        pend = (here, subst (λ (l : Branch). AllPend b u l ss) (sym e) (ok .pend));
+      }
+
+-- ---- the next child of the last pending split is begun
+
+module _ (b : List ℕ) (u : Question) (br : Branch) (s : Split) (ss : List Split) (ok : Ok b u br (s ∷ ss)) where
+  pub its-pends : Pends b u br s
+  unfolding AllPend
+  its-pends = ok .pend .0
+
+  others-pend : AllPend b u (take (s .mark) br) ss
+  unfolding AllPend
+  others-pend = ok .pend .1
+
+  pub length-cut : length (take (s .mark) br) ≡ s .mark
+  length-cut = length-take-le (s .mark) br (its-pends .behind)
+
+  abbrev cut : Branch
+  cut = take (s .mark) br
+
+  abbrev begun : List Fact
+  begun = childOn b u cut (s .at) (s .child)
+
+  few-begun : length (cut ++ begun) ≤ factLimit
+  few-begun = omega (arith, length-append cut begun, child-room (its-pends .splits) (s .child) (its-pends .some-begun) (its-pends .some-left))
+
+  small-begun : factsWithin (cut ++ begun) ≡ true
+  small-begun = within-append cut begun (within-take br (s .mark) (ok .small)) (child-within (its-pends .splits) (s .child) (its-pends .some-begun) (its-pends .some-left))
+
+  cut-again : take (s .mark) (cut ++ begun) ≡ cut
+  cut-again = take-at cut begun (s .mark) length-cut
+
+  pend-begun : (t : Bool) → ltb (s .child) (s .last) ≡ t → AllPend b u (cut ++ begun) (cond t (split (s .mark) (s .at) (s .child + 1) (s .last) ∷ ss) ss)
+  unfolding AllPend
+  pend-begun true e =
+      let more : s .child < s .last = ltb-true (s .child) (s .last) e in
+      let here : Pends b u (cut ++ begun) (split (s .mark) (s .at) (s .child + 1) (s .last)) = record {
+        behind = omega (arith, length-append cut begun, length-cut);
+        splits = subst (λ (l : Branch). Splits b u l (s .at) (s .last)) (sym cut-again) (its-pends .splits);
+        some-begun = omega arith;
+        some-left = omega arith;
+      } in
+      (here, subst (λ (l : Branch). AllPend b u l ss) (sym cut-again) others-pend)
+  pend-begun false e = pend-grown b u cut begun ss others-pend
+
+  few-left : (t : Bool) → length (cond t (split (s .mark) (s .at) (s .child + 1) (s .last) ∷ ss) ss) ≤ suc (length ss)
+  few-left true = omega arith
+  few-left false = omega arith
+
+  pub ok-begun : Ok b u (cut ++ begun) (begunOf (s ∷ ss))
+  unfolding begunOf
+  ok-begun = record {
+    few = few-begun;
+    small = small-begun;
+    few-pending = omega (arith, few-left (ltb (s .child) (s .last)), ok .few-pending);
+    pend = pend-begun (ltb (s .child) (s .last)) refl;
+  }

@@ -1,0 +1,3 @@
+pub mod State
+pub mod Ok
+pub mod Moves

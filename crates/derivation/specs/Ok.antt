@@ -1,0 +1,41 @@
+-- What holds of every state that the walk reaches.
+use Prim.Native.Nat.{ℕ, _+_, _≤_, _<_}
+use mathlib.Core.Path.{_≡_}
+use mathlib.Core.Bool.{true}
+use mathlib.Core.Option.{some}
+use mathlib.Core.List.{List, [], _∷_}
+use lib.ListN.{length, take}
+use Rattle.calculus.specs.Limits.{factLimit, pendingLimit}
+use Rattle.calculus.specs.Facts.{Question, Fact, Branch}
+use Rattle.format.specs.Records.{size}
+use Rattle.format.specs.Checking.{factsWithin, childrenWithin, roomForAll}
+use Rattle.steps.specs.Forms.{Formed}
+use Rattle.branch.specs.declared.Split.{Split}
+use Rattle.derivation.specs.State.{offeredIn}
+
+-- the step in the record at a position fits on a branch with n children, and each of them is within the limits
+pub record Splits (b : List ℕ) (u : Question) (br : Branch) (at n : ℕ) : Type 0 where
+  pub formed : Formed b u (at + 6) (size b at)
+  pub its-children : List (List Fact)
+  pub fit : offeredIn b u br at ≡ some its-children
+  pub number : length its-children ≡ n
+  pub within : childrenWithin its-children ≡ true
+  pub room : roomForAll (length br) its-children ≡ true
+
+-- a split is pending on a branch that has grown from its mark
+pub record Pends (b : List ℕ) (u : Question) (br : Branch) (s : Split) : Type 0 where
+  pub behind : s .mark ≤ length br
+  pub splits : Splits b u (take (s .mark) br) (s .at) (s .last)
+  pub some-begun : 1 ≤ s .child
+  pub some-left : s .child ≤ s .last
+
+-- each on the branch at the mark of the one after it: so the marks rise
+unfoldable pub AllPend : List ℕ → Question → Branch → List Split → Type 0
+AllPend b u br [] = Unit {0}
+AllPend b u br (s ∷ ss) = Pends b u br s × AllPend b u (take (s .mark) br) ss
+
+pub record Ok (b : List ℕ) (u : Question) (br : Branch) (ss : List Split) : Type 0 where
+  pub few : length br ≤ factLimit
+  pub small : factsWithin br ≡ true
+  pub few-pending : length ss ≤ pendingLimit
+  pub pend : AllPend b u br ss
