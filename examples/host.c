@@ -2,6 +2,7 @@
 
 #include <inttypes.h>
 #include <stdio.h>
+#include <stdlib.h>
 
 #include "nuldwich.h"
 
@@ -77,20 +78,28 @@ static void check_and_judge(const uint8_t *ticket, size_t ticket_len) {
     }
 }
 
+/* Reads a file into a buffer of exactly its size. Of a file that is too long for a ticket one byte too many is read, so that it is seen to be too long. */
+static uint8_t *read_ticket(const char *path, size_t *length) {
+    FILE *file = fopen(path, "rb");
+    uint8_t *ticket = malloc(NULDWICH_TICKET_BYTES + 1);
+    if (file == NULL || ticket == NULL) {
+        perror(path);
+        exit(2);
+    }
+    *length = fread(ticket, 1, NULDWICH_TICKET_BYTES + 1, file);
+    fclose(file);
+    uint8_t *exact = realloc(ticket, *length > 0 ? *length : 1);
+    return exact != NULL ? exact : ticket;
+}
+
 int main(int argc, char **argv) {
-    /* One byte more than a ticket may have, so that a longer file is seen to be too long. */
-    static uint8_t ticket[NULDWICH_TICKET_BYTES + 1];
     if (argc != 2) {
         fprintf(stderr, "usage: %s TICKET\n", argv[0]);
         return 2;
     }
-    FILE *file = fopen(argv[1], "rb");
-    if (file == NULL) {
-        perror(argv[1]);
-        return 2;
-    }
-    size_t ticket_len = fread(ticket, 1, sizeof ticket, file);
-    fclose(file);
+    size_t ticket_len;
+    uint8_t *ticket = read_ticket(argv[1], &ticket_len);
     check_and_judge(ticket, ticket_len);
+    free(ticket);
     return 0;
 }

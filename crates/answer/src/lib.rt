@@ -14,6 +14,11 @@ ghost use Rattle.format.specs.Places.{skip};
 ghost use Rattle.format.specs.Answer.{recordBytes, characterBytes, integerBytes, stringRecords, encode, answerForm, stringAt, allWithin, outside};
 ghost use Rattle.answer.specs.Table.{row, tableStrings, tableAnswer, Table, Integers};
 ghost use Rattle.answer.specs.Form.{recordIs, stringForm, asking, outsideOf, Placed, columnsAt};
+use limits::COLUMN_LIMIT;
+use limits::LENGTH_LIMIT;
+use limits::TEXT_BYTES;
+use limits::VALUE_LIMIT;
+use limits::VARIABLE_LIMIT;
 use question::all_characters;
 use records::Found;
 use records::bits_within;
@@ -81,7 +86,7 @@ fn put_row(buffer: &mut [u8], at: usize, characters: &[u32], x: usize, size: usi
     ensures { λ r. ⌜ r ≡ at + length (recordBytes 9 (characterBytes (row (now (characters .entry)) x size))) ⌝ }
     ensures { λ _. ⌜ now (buffer .exit) ≡ sets (now (buffer .entry)) at (recordBytes 9 (characterBytes (row (now (characters .entry)) x size))) ⌝ }
 {
-    let from = 64 * x;
+    let from = LENGTH_LIMIT * x;
     let to = from + size;
     put_string(buffer, at, &characters[from..to])
 }
@@ -175,7 +180,11 @@ fn string_formed(v: &[u8], at: usize) -> bool
             if kind != 9 {
                 return false;
             }
-            if size % 4 == 0 { size <= 256 } else { false }
+            if size % 4 == 0 {
+                size <= TEXT_BYTES
+            } else {
+                false
+            }
         }
         Found::Cut(_) => false,
         Found::Nothing => false,
@@ -223,7 +232,7 @@ fn integers_within(v: &[u8], at: usize, count: usize) -> bool
     let mut i = at;
     let mut left = count;
     while 0 < left {
-        if !bits_within(u32_at(v, i), 100000000) {
+        if !bits_within(u32_at(v, i), VALUE_LIMIT) {
             return false;
         }
         i += 4;
@@ -261,7 +270,7 @@ pub fn first_outside(v: &[u8], n: usize, p: usize, q: usize) -> Outside
 }
 
 // The positions of count records from a position on, and of what stands behind them.
-pub fn record_places(b: &[u8], from: usize, count: usize) -> [usize; 17]
+pub fn record_places(b: &[u8], from: usize, count: usize) -> [usize; VARIABLE_LIMIT + 1]
     requires { ⌜ (count ≤ variableLimit) × (skip (now b) count from ≤ length (now b)) ⌝ }
     ensures { λ r. ⌜ Placed (now (b .entry)) from count r ⌝ }
 {
@@ -305,11 +314,11 @@ fn column_value(v: &[u8], p: usize, q: usize, places: &[usize], j: usize) -> i64
 }
 
 // The columns' values.
-pub fn column_values(v: &[u8], p: usize, q: usize, places: &[usize]) -> [i64; 48]
+pub fn column_values(v: &[u8], p: usize, q: usize, places: &[usize]) -> [i64; COLUMN_LIMIT]
     requires { ⌜ (answerForm (now v) p q 0 ≡ true) × Placed (now v) 0 p (now places) × (p < length (now places)) × (p ≤ variableLimit) × (q ≤ variableLimit) ⌝ }
     ensures { λ r. ⌜ take (q + (p + p)) r ≡ columnsAt (now (v .entry)) p q ⌝ }
 {
-    let mut values = [0i64; 48];
+    let mut values = [0i64; COLUMN_LIMIT];
     let count = q + (p + p);
     let mut j = 0;
     while j < count {

@@ -4,6 +4,7 @@ ghost use mathlib.Core.List.{[], _∷_};
 ghost use Prim.Native.Nat.{_≤_, _<_};
 ghost use Rattle.calculus.specs.Limits.{ticketBytes, factLimit, pendingLimit};
 ghost use Rattle.branch.specs.Stack.{split, stack, latestOf, begunOf};
+use limits::PENDING_LIMIT;
 
 // A split with children pending, "that is, not yet begun": the number of facts before it, the position of its step's record, the number of
 // its next child, from 1, and that of its last.
@@ -18,7 +19,7 @@ pub struct Split {
 pub struct Branch {
     pub count: u8,
     pub depth: u8,
-    pub splits: [Split; 64],
+    pub splits: [Split; PENDING_LIMIT],
 }
 
 impl Branch {
@@ -36,7 +37,7 @@ impl Branch {
         Branch {
             count: count as u8,
             depth: 0,
-            splits: [none; 64],
+            splits: [none; PENDING_LIMIT],
         }
     }
 

@@ -6,13 +6,15 @@ ghost use Prim.Native.Nat.{ℕ, _+_, _*_, _≤_, _<_};
 ghost use lib.ListN.{length, getD};
 ghost use lib.Dec.{eqb};
 ghost use lib.IntN.{pos};
+ghost use Rattle.calculus.specs.Limits.{alphabetLimit, variableLimit, factLimit};
 ghost use Rattle.calculus.specs.Chains.{varNode, litNode};
 ghost use Rattle.calculus.specs.Classes as classes;
 ghost use Rattle.calculus.specs.Classes.{upFrom, joinNodes, joinFact, sameClass, lowest, anyBelow, apartMeet};
 ghost use Rattle.calculus.specs.Rules.{logUp};
 ghost use Rattle.calculus.specs.SaturationTest.{lowestVar};
-ghost use Rattle.rows.specs.Rows.{index, factOf, rowAt, branchOf};
+ghost use Rattle.rows.specs.Rows.{rowLength, index, factOf, rowAt, branchOf};
 ghost use Rattle.classes.specs.Classes.{literalOf, literalMeets, clash};
+use limits::ROW_LENGTH;
 
 // The lowest literal of a class, if it holds one.
 pub enum Lowest {
@@ -97,7 +99,7 @@ fn join(labels: [u8; 32], i: usize, j: usize) -> [u8; 32]
 fn operand(work: &[i64], at: usize) -> usize
     requires { ⌜ at < length (now work) ⌝ }
     ensures { λ r. ⌜ r ≡ index (getD (now (work .entry)) at (pos 0)) ⌝ }
-    ensures { λ r. ⌜ r < 16 ⌝ }
+    ensures { λ r. ⌜ r < variableLimit ⌝ }
 {
     let z = work[at];
     if z < 0 {
@@ -111,10 +113,10 @@ fn operand(work: &[i64], at: usize) -> usize
 
 // The labels once the fact of row k stands.
 fn join_row(work: &[i64], k: usize, labels: [u8; 32]) -> [u8; 32]
-    requires { ⌜ (k < 128) × (50 * k + 50 ≤ length (now work)) ⌝ }
+    requires { ⌜ (k < factLimit) × (rowLength * k + rowLength ≤ length (now work)) ⌝ }
     ensures { λ r. ⌜ r ≡ joinFact labels (factOf (rowAt (now (work .entry)) k)) ⌝ }
 {
-    let at = 50 * k;
+    let at = ROW_LENGTH * k;
     let tag = work[at];
     if tag == 3 {
         let a = operand(work, at + 1);
@@ -131,7 +133,7 @@ fn join_row(work: &[i64], k: usize, labels: [u8; 32]) -> [u8; 32]
 
 // The labels of a branch of `count` facts.
 pub fn labels(work: &[i64], count: usize) -> [u8; 32]
-    requires { ⌜ (count ≤ 128) × (50 * count ≤ length (now work)) ⌝ }
+    requires { ⌜ (count ≤ factLimit) × (rowLength * count ≤ length (now work)) ⌝ }
     ensures { λ r. ⌜ r ≡ classes.labels (branchOf (now (work .entry)) count) ⌝ }
 {
     let mut out = first_labels();
@@ -156,7 +158,7 @@ pub fn same_class(labels: [u8; 32], i: usize, j: usize) -> bool
 
 // The lowest of the first m literals in the class of variable x: "the lowest literal number counts".
 pub fn class_literal(labels: [u8; 32], m: usize, x: usize) -> Lowest
-    requires { ⌜ (m ≤ 16) × (x < 16) ⌝ }
+    requires { ⌜ (m ≤ variableLimit) × (x < variableLimit) ⌝ }
     ensures { λ r. ⌜ literalOf r ≡ lowest labels x 0 m ⌝ }
 {
     let mut l = 0;
@@ -173,7 +175,7 @@ pub fn class_literal(labels: [u8; 32], m: usize, x: usize) -> Lowest
 
 // The lowest variable in the class of variable x.
 pub fn lowest_var(labels: [u8; 32], x: usize) -> usize
-    requires { ⌜ x < 16 ⌝ }
+    requires { ⌜ x < variableLimit ⌝ }
     ensures { λ r. ⌜ r ≡ lowestVar labels x ⌝ }
 {
     let mut y = 0;
@@ -190,7 +192,7 @@ pub fn lowest_var(labels: [u8; 32], x: usize) -> usize
 
 // Does literal i share a class with a lower one?
 fn literal_meets(labels: [u8; 32], i: usize) -> bool
-    requires { ⌜ i < 16 ⌝ }
+    requires { ⌜ i < variableLimit ⌝ }
     ensures { λ r. ⌜ r ≡ literalMeets labels i ⌝ }
 {
     let mut j = 0;
@@ -205,7 +207,7 @@ fn literal_meets(labels: [u8; 32], i: usize) -> bool
 
 // "two different literals share a class", of the first m.
 fn literals_meet(labels: [u8; 32], m: usize) -> bool
-    requires { ⌜ m ≤ 16 ⌝ }
+    requires { ⌜ m ≤ variableLimit ⌝ }
     ensures { λ r. ⌜ r ≡ anyBelow m (literalMeets labels) ⌝ }
 {
     let mut i = 0;
@@ -220,10 +222,10 @@ fn literals_meet(labels: [u8; 32], m: usize) -> bool
 
 // Is row k a fact a ≉ b with both sides in one class?
 fn apart_row(work: &[i64], k: usize, labels: [u8; 32]) -> bool
-    requires { ⌜ (k < 128) × (50 * k + 50 ≤ length (now work)) ⌝ }
+    requires { ⌜ (k < factLimit) × (rowLength * k + rowLength ≤ length (now work)) ⌝ }
     ensures { λ r. ⌜ r ≡ apartMeet labels (factOf (rowAt (now (work .entry)) k) ∷ []) ⌝ }
 {
-    let at = 50 * k;
+    let at = ROW_LENGTH * k;
     let tag = work[at];
     if tag == 4 {
         let a = operand(work, at + 1);
@@ -235,7 +237,7 @@ fn apart_row(work: &[i64], k: usize, labels: [u8; 32]) -> bool
 
 // "a ≉ fact has both sides in one", among the first `count` facts.
 fn apart_meet(work: &[i64], count: usize, labels: [u8; 32]) -> bool
-    requires { ⌜ (count ≤ 128) × (50 * count ≤ length (now work)) ⌝ }
+    requires { ⌜ (count ≤ factLimit) × (rowLength * count ≤ length (now work)) ⌝ }
     ensures { λ r. ⌜ r ≡ apartMeet labels (branchOf (now (work .entry)) count) ⌝ }
 {
     let mut found = false;
@@ -250,7 +252,7 @@ fn apart_meet(work: &[i64], count: usize, labels: [u8; 32]) -> bool
 
 // Does S-Conf fit on a branch of `count` facts with these labels, where the question has m literals, the empty one included?
 pub fn conflict(work: &[i64], count: usize, labels: [u8; 32], m: usize) -> bool
-    requires { ⌜ (count ≤ 128) × (50 * count ≤ length (now work)) × (m ≤ 16) ⌝ }
+    requires { ⌜ (count ≤ factLimit) × (rowLength * count ≤ length (now work)) × (m ≤ variableLimit) ⌝ }
     ensures { λ r. ⌜ r ≡ clash m labels (branchOf (now (work .entry)) count) ⌝ }
 {
     if literals_meet(labels, m) {
@@ -261,7 +263,7 @@ pub fn conflict(work: &[i64], count: usize, labels: [u8; 32], m: usize) -> bool
 
 // Card's bound: "the smallest number such that n to the power L is at least m". The power stops once m is reached.
 pub fn log_up(n: usize, m: usize) -> usize
-    requires { ⌜ (n ≤ 196608) × (m ≤ 16) ⌝ }
+    requires { ⌜ (n ≤ alphabetLimit) × (m ≤ variableLimit) ⌝ }
     ensures { λ r. ⌜ r ≡ logUp m n m 0 ⌝ }
     ensures { λ r. ⌜ r ≤ m ⌝ }
 {

@@ -21,6 +21,8 @@ ghost use Rattle.rows.specs.Rows.{branchOf};
 ghost use Rattle.rows.specs.Work.{Fine};
 ghost use Rattle.conclusions.specs.Made.{isClosing, isConcluding, closingOf, madeOf, columnOf, literalChildren};
 use classes::Lowest;
+use limits::FACT_LIMIT;
+use limits::ROW_LENGTH;
 use question::Progress;
 use records::u16_at;
 use records::u32_at;
@@ -71,7 +73,7 @@ pub fn closes(
 // What a step gives: whether it fits, and then the row of the fact that it adds.
 pub struct Made {
     pub fits: bool,
-    pub row: [i64; 50],
+    pub row: [i64; ROW_LENGTH],
 }
 
 fn misfit() -> Made
@@ -79,7 +81,7 @@ fn misfit() -> Made
 {
     Made {
         fits: false,
-        row: [0; 50],
+        row: [0; ROW_LENGTH],
     }
 }
 
@@ -258,7 +260,7 @@ pub fn conclude(
     if !rows::fact_within(&row) {
         return 9;
     }
-    if 128 <= count {
+    if FACT_LIMIT <= count {
         return 10;
     }
     rows::put_row(work, count, row);

@@ -9,14 +9,15 @@ ghost use Rattle.format.specs.Fields.{pairsAt};
 ghost use Rattle.format.specs.Question.{rising, relationOf, formOf, constraintOf};
 ghost use Rattle.rows.specs.Rows.{factOf};
 ghost use Rattle.constraints.specs.Constraints.{constraintFault};
+use limits::ROW_LENGTH;
 
 // A form at a position, the constant and then pairs, related to 0: relation 0 is ≥, 1 is =, 2 is ≠.
-pub fn form_row(b: &[u8], relation: usize, at: usize, pairs: usize) -> [i64; 50]
+pub fn form_row(b: &[u8], relation: usize, at: usize, pairs: usize) -> [i64; ROW_LENGTH]
     requires { ⌜ (relation ≤ 2) × (at + 4 + 6 * pairs ≤ length (now b)) ⌝ }
     requires { ⌜ rising columnLimit 0 (pairsAt (now b) (at + 4) pairs) ≡ true ⌝ }
     ensures { λ r. ⌜ factOf r ≡ arithmetic (relationOf relation) (formOf (now (b .entry)) at pairs) ⌝ }
 {
-    let mut out = [0i64; 50];
+    let mut out = [0i64; ROW_LENGTH];
     out[0] = relation as i64;
     out[1] = records::i32_at(b, at);
     let mut i = 0;
@@ -31,7 +32,7 @@ pub fn form_row(b: &[u8], relation: usize, at: usize, pairs: usize) -> [i64; 50]
 }
 
 // The constraint of a record of kind 3 or 4, by its body.
-pub fn constraint_row(b: &[u8], kind: usize, at: usize, size: usize) -> [i64; 50]
+pub fn constraint_row(b: &[u8], kind: usize, at: usize, size: usize) -> [i64; ROW_LENGTH]
     requires { ⌜ (at + size ≤ length (now b)) × (constraintFault (now b) kind at size ≡ 0) ⌝ }
     ensures { λ r. ⌜ factOf r ≡ constraintOf (now (b .entry)) kind at size ⌝ }
 {

@@ -4,13 +4,12 @@ use mathlib.Core.Path.{_≡_}
 use mathlib.Core.List.{List, _++_}
 use lib.ListN.{length}
 use lib.IntN.{ℤ}
-use Rattle.calculus.specs.Limits.{ticketBytes, workNumbers}
+use Rattle.calculus.specs.Limits.{workNumbers}
 use Rattle.calculus.specs.Facts.{Question, Fact, Branch}
 use Rattle.calculus.specs.Walk.{Waiting, Walk, closed, enter}
 use Rattle.format.specs.Checking.{allTried}
 use Rattle.rows.specs.Rows.{branchOf}
-use Rattle.steps.specs.Offered.{asked}
-use Rattle.question.specs.Standing.{Stands}
+use Rattle.question.specs.Posed.{asked, Posed}
 use Rattle.question.specs.declared.Progress.{Progress}
 use Rattle.branch.specs.declared.Branch as code
 use Rattle.branch.specs.Stack.{stack}
@@ -44,8 +43,7 @@ steppedOf b u w r = verdictOf b u w (r .branch) (r .verdict)
 
 -- a question that stands in the ticket, and a state in order
 pub record Holds (b : List ℕ) (s : Progress) (w : List ℤ) (c : code.Branch) : Type 0 where
-  pub stands : (from : ℕ) × Stands b s from
-  pub short : length b ≤ ticketBytes
+  pub posed : Posed b s
   pub room : workNumbers ≤ length w
   pub ok : Ok b (asked b s) (branchOf w (c .count)) (stack c)
 

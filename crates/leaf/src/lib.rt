@@ -6,7 +6,7 @@ ghost use Prim.Native.Nat.{ℕ, suc, _+_, _*_, _≤_, _<_};
 ghost use lib.ListN.{length, getD};
 ghost use lib.Dec.{eqb, leb};
 ghost use lib.IntN.{ℤ, pos, natAbs};
-ghost use Rattle.calculus.specs.Limits.{variableLimit, factLimit};
+ghost use Rattle.calculus.specs.Limits.{alphabetLimit, variableLimit, literalLimit, factLimit};
 ghost use Rattle.calculus.specs.Rows.{eqℤ};
 ghost use Rattle.calculus.specs.Facts.{literal, codeOf, len, code};
 ghost use Rattle.calculus.specs.Classes as classes;
@@ -15,12 +15,13 @@ ghost use Rattle.calculus.specs.Model.{modelOf};
 ghost use Rattle.calculus.specs.SaturationTest as test;
 ghost use Rattle.calculus.specs.SaturationTest.{every, lowestVar, lowestOf, saturatedCard};
 ghost use Rattle.format.specs.Fields.{u32s};
-ghost use Rattle.format.specs.Places.{skip};
+ghost use Rattle.format.specs.Places.{skip, literalsFrom};
 ghost use Rattle.format.specs.Checking.{shortLengths};
 ghost use Rattle.rows.specs.Rows.{rowLength, branchOf};
 ghost use Rattle.leaf.specs.Leaf.{asked, Modelled, Ready};
 ghost use Rattle.leaf.specs.Values.{textFits, literalFits, lengthFits, codeFits, varFits, pairBy, pairFits, byValues};
 use classes::Lowest;
+use limits::LENGTH_LIMIT;
 
 // The question's numbers, its literals besides the empty one counted, and the labels of the leaf's nodes.
 pub struct Leaf {
@@ -97,7 +98,7 @@ fn fits_text(ticket: &[u8], at: usize, count: usize, len: i64, code: i64) -> boo
 
 // L-Intro and C-Collapse for variable x, whose length and code are given.
 fn literal_fits(ticket: &[u8], leaf: Leaf, x: usize, len: i64, code: i64) -> bool
-    requires { ⌜ (x < variableLimit) × (leaf .literals ≤ 15) × (skip (now ticket) (leaf .literals) 14 ≤ length (now ticket)) ⌝ }
+    requires { ⌜ (x < variableLimit) × (leaf .literals ≤ literalLimit) × (skip (now ticket) (leaf .literals) literalsFrom ≤ length (now ticket)) ⌝ }
     ensures { λ r. ⌜ r ≡ literalFits (asked (now (ticket .entry)) leaf) (lowest (leaf .labels) x 0 (suc (leaf .literals))) len code ⌝ }
 {
     let labels = leaf.labels;
@@ -173,7 +174,7 @@ fn classes_of(model: &[i64], leaf: Leaf, wanted: i64) -> usize
 
 // Card for the length of variable x.
 fn card_fits(model: &[i64], leaf: Leaf, x: usize) -> bool
-    requires { ⌜ Modelled (now model) leaf × (leaf .n ≤ 196608) × (x < leaf .p) ⌝ }
+    requires { ⌜ Modelled (now model) leaf × (leaf .n ≤ alphabetLimit) × (x < leaf .p) ⌝ }
     ensures { λ r. ⌜ r ≡ saturatedCard (asked [] leaf) (leaf .labels) (now (model .entry)) x ⌝ }
 {
     let len = len_of(model, leaf.q, x);
@@ -303,7 +304,7 @@ pub fn short_lengths(model: &[i64], leaf: Leaf) -> bool
     let mut x = 0;
     while x < leaf.p {
         let len = len_of(model, leaf.q, x);
-        if magnitude(len) > 64 {
+        if magnitude(len) > LENGTH_LIMIT {
             return false;
         }
         x += 1;

@@ -4,14 +4,22 @@ ghost use mathlib.Core.Path.{_≡_};
 ghost use mathlib.Core.List.{[], _∷_};
 ghost use Prim.Native.Nat.{ℕ, _+_, _*_, _<_, _≤_};
 ghost use lib.ListN.{length, getD};
+ghost use Rattle.calculus.specs.Limits.{variableLimit};
 ghost use Rattle.calculus.specs.Alphabet.{allCharacters};
 ghost use Rattle.calculus.specs.Strings.{eqString, given};
 ghost use Rattle.format.specs.Fields.{u16, u32, u32s, signed, pairsAt};
 ghost use Rattle.format.specs.Records.{kind as kindAt, size as sizeAt};
 ghost use Rattle.format.specs.Question.{headFault, textOf, literalFault, stringRange, stringFault, coefficientInRange, pairInRange, rising, formRange, arithmeticFault, kindInPlace, bodyFault, fault, advanced, ending, question};
-ghost use Rattle.format.specs.Places.{skip, texts};
+ghost use Rattle.format.specs.Places.{skip, texts, literalsFrom};
 ghost use Rattle.question.specs.Progress.{progressOf, readingOf};
 ghost use Rattle.question.specs.Standing.{Stands};
+use limits::ALPHABET_LIMIT;
+use limits::FACT_LIMIT;
+use limits::LITERAL_LIMIT;
+use limits::NUMBER_LIMIT;
+use limits::TEXT_BYTES;
+use limits::TICKET_BYTES;
+use limits::VARIABLE_LIMIT;
 use records::Found;
 use records::bits_within;
 use records::read_at;
@@ -34,13 +42,13 @@ fn head_fault(b: &[u8], at: usize, size: usize) -> usize
     if n < 1 {
         return 6;
     }
-    if 196608 < n {
+    if ALPHABET_LIMIT < n {
         return 6;
     }
-    if 16 < p {
+    if VARIABLE_LIMIT < p {
         return 6;
     }
-    if 16 < q {
+    if VARIABLE_LIMIT < q {
         return 6;
     }
     0
@@ -89,8 +97,8 @@ pub fn same_text(a: &[u8], x: usize, m: usize, b: &[u8], y: usize, k: usize) -> 
 
 // Whether the text of a body is one of those of the first k literals, which start at position 14.
 fn repeats(b: &[u8], k: usize, at: usize, size: usize) -> bool
-    requires { ⌜ (at + size ≤ length (now b)) × (skip (now b) k 14 ≤ length (now b)) ⌝ }
-    ensures { λ r. ⌜ r ≡ given (textOf (now (b .entry)) at size) (texts (now (b .entry)) k 14) ⌝ }
+    requires { ⌜ (at + size ≤ length (now b)) × (skip (now b) k literalsFrom ≤ length (now b)) ⌝ }
+    ensures { λ r. ⌜ r ≡ given (textOf (now (b .entry)) at size) (texts (now (b .entry)) k literalsFrom) ⌝ }
 {
     let mut j = 14;
     let mut left = k;
@@ -107,13 +115,13 @@ fn repeats(b: &[u8], k: usize, at: usize, size: usize) -> bool
 
 // "2 literal, 0 to 15 of them: 1 to 64 characters, u32 each, below n"; "7 when a literal repeats"
 fn literal_fault(b: &[u8], n: usize, k: usize, at: usize, size: usize) -> usize
-    requires { ⌜ (at + size ≤ length (now b)) × (skip (now b) k 14 ≤ length (now b)) ⌝ }
-    ensures { λ r. ⌜ r ≡ literalFault (now (b .entry)) n (texts (now (b .entry)) k 14) at size ⌝ }
+    requires { ⌜ (at + size ≤ length (now b)) × (skip (now b) k literalsFrom ≤ length (now b)) ⌝ }
+    ensures { λ r. ⌜ r ≡ literalFault (now (b .entry)) n (texts (now (b .entry)) k literalsFrom) at size ⌝ }
 {
     if size < 4 {
         return 5;
     }
-    if 256 < size {
+    if TEXT_BYTES < size {
         return 5;
     }
     if size % 4 != 0 {
@@ -171,7 +179,7 @@ fn coefficient_in_range(v: usize) -> bool
     if v == 0 {
         false
     } else {
-        bits_within(v, 1000000000)
+        bits_within(v, NUMBER_LIMIT)
     }
 }
 
@@ -216,7 +224,7 @@ pub fn form_in_range(b: &[u8], c: usize, at: usize, count: usize) -> bool
     ensures { λ r. ⌜ r ≡ formRange (now (b .entry)) c at count ⌝ }
 {
     let constant = u32_at(b, at);
-    if !bits_within(constant, 1000000000) {
+    if !bits_within(constant, NUMBER_LIMIT) {
         return false;
     }
     pairs_rise(b, c, at + 4, count)
@@ -282,12 +290,12 @@ fn in_place(last: usize, literals: usize, k: usize) -> bool
     if k != 2 {
         return true;
     }
-    literals < 15
+    literals < LITERAL_LIMIT
 }
 
 // The first of 5 to 7 that applies to a body of kind k.
 fn body_fault(b: &[u8], s: Progress, k: usize, at: usize, size: usize) -> usize
-    requires { ⌜ (at + size ≤ length (now b)) × (k ≡ 2 → skip (now b) (s .literals) 14 ≤ length (now b)) × (s .p ≤ 16) × (s .q ≤ 16) ⌝ }
+    requires { ⌜ (at + size ≤ length (now b)) × (k ≡ 2 → skip (now b) (s .literals) literalsFrom ≤ length (now b)) × (s .p ≤ variableLimit) × (s .q ≤ variableLimit) ⌝ }
     ensures { λ r. ⌜ r ≡ bodyFault (now (b .entry)) (progressOf (now (b .entry)) s .question) k at size ⌝ }
 {
     if k == 1 {
@@ -319,7 +327,7 @@ fn record_fault(b: &[u8], s: Progress, k: usize, at: usize, size: usize) -> usiz
         return 0;
     }
     let constraints = s.constraints;
-    if constraints < 128 { 0 } else { 10 }
+    if constraints < FACT_LIMIT { 0 } else { 10 }
 }
 
 // What was read after a record without fault.
@@ -385,7 +393,7 @@ fn ends_question(k: usize) -> bool
 pub fn read_question(b: &[u8]) -> Reading
     ensures { λ r. ⌜ readingOf (now (b .entry)) r ≡ question (now (b .entry)) ⌝ }
 {
-    if 32768 < b.len() {
+    if TICKET_BYTES < b.len() {
         return Reading::Stopped(2, 0);
     }
     let mut s = Progress {
@@ -428,8 +436,8 @@ pub fn read_question(b: &[u8]) -> Reading
 
 // The position behind l literals.
 pub fn behind_literals(b: &[u8], l: usize) -> usize
-    requires { ⌜ skip (now b) l 14 ≤ length (now b) ⌝ }
-    ensures { λ r. ⌜ r ≡ skip (now (b .entry)) l 14 ⌝ }
+    requires { ⌜ skip (now b) l literalsFrom ≤ length (now b) ⌝ }
+    ensures { λ r. ⌜ r ≡ skip (now (b .entry)) l literalsFrom ⌝ }
 {
     let mut j = 14;
     let mut left = l;
@@ -448,8 +456,8 @@ pub struct Text {
 
 // The text of literal l; "literal 0 is the empty string and is never written".
 pub fn literal_text(b: &[u8], l: usize) -> Text
-    requires { ⌜ skip (now b) l 14 ≤ length (now b) ⌝ }
-    ensures { λ r. ⌜ (r .at + 4 * r .count ≤ length (now (b .entry))) × ((k : ℕ) → l ≤ k → u32s (now (b .entry)) (r .at) (r .count) ≡ getD ([] ∷ texts (now (b .entry)) k 14) l []) ⌝ }
+    requires { ⌜ skip (now b) l literalsFrom ≤ length (now b) ⌝ }
+    ensures { λ r. ⌜ (r .at + 4 * r .count ≤ length (now (b .entry))) × ((k : ℕ) → l ≤ k → u32s (now (b .entry)) (r .at) (r .count) ≡ getD ([] ∷ texts (now (b .entry)) k literalsFrom) l []) ⌝ }
 {
     if l == 0 {
         return Text { at: 0, count: 0 };

@@ -16,6 +16,10 @@ ghost use Rattle.format.specs.Question.{stringFact, relationOf};
 ghost use Rattle.format.specs.Checking.{fits, rowWithin, factWithin, keepsFact, keeps};
 ghost use Rattle.rows.specs.Rows.{rowLength, factOf, rowAt, branchOf};
 ghost use Rattle.rows.specs.Work.{kindOf, Fine, Within, single, difference, statesEqual};
+use limits::COLUMN_LIMIT;
+use limits::NUMBER_MAX;
+use limits::NUMBER_MIN;
+use limits::ROW_LENGTH;
 
 // ---- rows in the work area
 
@@ -24,18 +28,18 @@ pub fn row_at(work: &[i64], k: usize) -> &[i64]
     requires { ⌜ (k < factLimit) × (workNumbers ≤ length (now work)) ⌝ }
     ensures { λ r. ⌜ now r ≡ rowAt (now (work .entry)) k ⌝ }
 {
-    let from = 50 * k;
-    let to = from + 50;
+    let from = ROW_LENGTH * k;
+    let to = from + ROW_LENGTH;
     &work[from..to]
 }
 
 // The row's own stretch is filled.
-fn fill(row: &mut [i64], from: [i64; 50])
+fn fill(row: &mut [i64], from: [i64; ROW_LENGTH])
     requires { ⌜ length (now row) ≡ rowLength ⌝ }
     ensures { λ _. ⌜ now (row .exit) ≡ from ⌝ }
 {
     let mut j = 0;
-    while j < 50 {
+    while j < ROW_LENGTH {
         let x = from[j];
         row[j] = x;
         j += 1;
@@ -43,12 +47,12 @@ fn fill(row: &mut [i64], from: [i64; 50])
 }
 
 // Row k becomes the given one, behind the facts before it.
-pub fn put_row(work: &mut [i64], k: usize, row: [i64; 50])
+pub fn put_row(work: &mut [i64], k: usize, row: [i64; ROW_LENGTH])
     requires { ⌜ (k < factLimit) × (workNumbers ≤ length (now work)) ⌝ }
     ensures { λ _. ⌜ branchOf (now (work .exit)) (k + 1) ≡ branchOf (now (work .entry)) k ++ (factOf row ∷ []) ⌝ }
 {
-    let from = 50 * k;
-    let to = from + 50;
+    let from = ROW_LENGTH * k;
+    let to = from + ROW_LENGTH;
     fill(&mut work[from..to], row);
 }
 
@@ -77,13 +81,13 @@ pub fn kind_of(row: &[i64]) -> usize
 }
 
 // A row's numbers by value.
-pub fn copy_of(row: &[i64]) -> [i64; 50]
+pub fn copy_of(row: &[i64]) -> [i64; ROW_LENGTH]
     requires { ⌜ length (now row) ≡ rowLength ⌝ }
     ensures { λ r. ⌜ r ≡ now (row .entry) ⌝ }
 {
-    let mut out = [0i64; 50];
+    let mut out = [0i64; ROW_LENGTH];
     let mut j = 0;
-    while j < 50 {
+    while j < ROW_LENGTH {
         let x = row[j];
         out[j] = x;
         j += 1;
@@ -94,11 +98,11 @@ pub fn copy_of(row: &[i64]) -> [i64; 50]
 // ---- new rows
 
 // A string fact: relation 0 is variable ≈ variable, 1 is ≉, 2 is variable ≈ literal.
-pub fn string_row(relation: usize, a: usize, b: usize) -> [i64; 50]
+pub fn string_row(relation: usize, a: usize, b: usize) -> [i64; ROW_LENGTH]
     requires { ⌜ (relation ≤ 2) × (a < variableLimit) × (b < variableLimit) ⌝ }
     ensures { λ r. ⌜ factOf r ≡ stringFact relation a b ⌝ }
 {
-    let mut out = [0i64; 50];
+    let mut out = [0i64; ROW_LENGTH];
     out[0] = (relation + 3) as i64;
     out[1] = a as i64;
     out[2] = b as i64;
@@ -106,11 +110,16 @@ pub fn string_row(relation: usize, a: usize, b: usize) -> [i64; 50]
 }
 
 // A constant and one coefficient related to 0: relation 0 is ≥, 1 is =, 2 is ≠.
-pub fn single_row(relation: usize, constant: i64, column: usize, coefficient: i64) -> [i64; 50]
+pub fn single_row(
+    relation: usize,
+    constant: i64,
+    column: usize,
+    coefficient: i64,
+) -> [i64; ROW_LENGTH]
     requires { ⌜ (relation ≤ 2) × (column < columnLimit) ⌝ }
     ensures { λ r. ⌜ factOf r ≡ arithmetic (relationOf relation) (single constant column coefficient) ⌝ }
 {
-    let mut out = [0i64; 50];
+    let mut out = [0i64; ROW_LENGTH];
     out[0] = relation as i64;
     out[1] = constant;
     out[column + 2] = coefficient;
@@ -118,11 +127,11 @@ pub fn single_row(relation: usize, constant: i64, column: usize, coefficient: i6
 }
 
 // The difference of two columns related to 0.
-pub fn difference_row(relation: usize, i: usize, j: usize) -> [i64; 50]
+pub fn difference_row(relation: usize, i: usize, j: usize) -> [i64; ROW_LENGTH]
     requires { ⌜ (relation ≤ 2) × (i < columnLimit) × (j < columnLimit) ⌝ }
     ensures { λ r. ⌜ factOf r ≡ arithmetic (relationOf relation) (difference i j) ⌝ }
 {
-    let mut out = [0i64; 50];
+    let mut out = [0i64; ROW_LENGTH];
     out[0] = relation as i64;
     out[i + 2] = 1;
     out[j + 2] = -1;
@@ -130,7 +139,7 @@ pub fn difference_row(relation: usize, i: usize, j: usize) -> [i64; 50]
 }
 
 // e − 1 ≥ 0, of the row of e.
-pub fn less_row(row: &[i64]) -> [i64; 50]
+pub fn less_row(row: &[i64]) -> [i64; ROW_LENGTH]
     requires { ⌜ length (now row) ≡ rowLength ⌝ }
     requires { ⌜ rowWithin (drop 1 (now row)) ≡ true ⌝ }
     ensures { λ r. ⌜ factOf r ≡ arithmetic ge (less (drop 1 (now (row .entry)))) ⌝ }
@@ -143,14 +152,14 @@ pub fn less_row(row: &[i64]) -> [i64; 50]
 }
 
 // −e behind the tag 0, of the row of e.
-fn negative(row: &[i64]) -> [i64; 50]
+fn negative(row: &[i64]) -> [i64; ROW_LENGTH]
     requires { ⌜ length (now row) ≡ rowLength ⌝ }
     requires { ⌜ rowWithin (drop 1 (now row)) ≡ true ⌝ }
     ensures { λ r. ⌜ r ≡ pos 0 ∷ scale (negsuc 0) (drop 1 (now (row .entry))) ⌝ }
 {
-    let mut out = [0i64; 50];
+    let mut out = [0i64; ROW_LENGTH];
     let mut j = 1;
-    while j < 50 {
+    while j < ROW_LENGTH {
         let x = row[j];
         out[j] = 0 - x;
         j += 1;
@@ -159,7 +168,7 @@ fn negative(row: &[i64]) -> [i64; 50]
 }
 
 // −e − 1 ≥ 0, of the row of e.
-pub fn below_row(row: &[i64]) -> [i64; 50]
+pub fn below_row(row: &[i64]) -> [i64; ROW_LENGTH]
     requires { ⌜ length (now row) ≡ rowLength ⌝ }
     requires { ⌜ rowWithin (drop 1 (now row)) ≡ true ⌝ }
     ensures { λ r. ⌜ factOf r ≡ arithmetic ge (below (drop 1 (now (row .entry)))) ⌝ }
@@ -171,7 +180,7 @@ pub fn below_row(row: &[i64]) -> [i64; 50]
 }
 
 // e = 0, of the row of e.
-pub fn equation_row(row: &[i64]) -> [i64; 50]
+pub fn equation_row(row: &[i64]) -> [i64; ROW_LENGTH]
     requires { ⌜ length (now row) ≡ rowLength ⌝ }
     ensures { λ r. ⌜ factOf r ≡ arithmetic eq (drop 1 (now (row .entry))) ⌝ }
 {
@@ -186,10 +195,10 @@ pub fn equation_row(row: &[i64]) -> [i64; 50]
 pub fn in_limit(x: i64) -> bool
     ensures { λ r. ⌜ r ≡ within numberLimit x ⌝ }
 {
-    if x < -1000000000 {
+    if x < NUMBER_MIN {
         return false;
     }
-    if x > 1000000000 {
+    if x > NUMBER_MAX {
         return false;
     }
     true
@@ -201,7 +210,7 @@ fn form_within(row: &[i64]) -> bool
     ensures { λ r. ⌜ r ≡ rowWithin (drop 1 (now (row .entry))) ⌝ }
 {
     let mut j = 1;
-    while j < 50 {
+    while j < ROW_LENGTH {
         let x = row[j];
         if !in_limit(x) {
             return false;
@@ -230,7 +239,7 @@ fn constant(row: &[i64]) -> bool
     ensures { λ r. ⌜ r ≡ allZero (drop 2 (now (row .entry))) ⌝ }
 {
     let mut j = 2;
-    while j < 50 {
+    while j < ROW_LENGTH {
         let x = row[j];
         if x != 0 {
             return false;
@@ -276,7 +285,7 @@ fn negates(row: &[i64], other: &[i64]) -> bool
     ensures { λ r. ⌜ r ≡ eqRow (scale (negsuc 0) (drop 1 (now (row .entry)))) (drop 1 (now (other .entry))) ⌝ }
 {
     let mut j = 1;
-    while j < 50 {
+    while j < ROW_LENGTH {
         let x = row[j];
         let y = other[j];
         if 0 - x != y {
@@ -308,7 +317,7 @@ fn same_row(row: &[i64], other: &[i64]) -> bool
     ensures { λ r. ⌜ r ≡ eqRow (now (row .entry)) (now (other .entry)) ⌝ }
 {
     let mut j = 0;
-    while j < 50 {
+    while j < ROW_LENGTH {
         let x = row[j];
         let y = other[j];
         if x != y {
@@ -359,7 +368,7 @@ pub fn row_value(row: &[i64], model: &[i64]) -> i64
 {
     let mut sum = row[1];
     let mut i = 0;
-    while i < 48 {
+    while i < COLUMN_LIMIT {
         let x = model[i];
         let c = row[i + 2];
         sum = sum + c * x;

@@ -18,6 +18,7 @@ ghost use Rattle.format.specs.Checking.{fits as fitting, orNone, factWithin, fa
 ghost use Rattle.rows.specs.Rows.{factOf, rowAt, branchOf};
 ghost use Rattle.rows.specs.Work.{kindOf, single};
 ghost use Rattle.splits.specs.Splits.{Ready, Numbered, asked, numbered, childOf};
+use limits::ROW_LENGTH;
 use question::Progress;
 use records::u16_at;
 
@@ -129,7 +130,7 @@ pub fn fits(ticket: &[u8], s: Progress, at: usize, size: usize, work: &[i64], co
 // ---- children with one fact
 
 // Branch: "Children e ≥ 0; −e−1 ≥ 0", of the form at a position.
-fn branch_row(b: &[u8], s: Progress, at: usize, count: usize, k: usize) -> [i64; 50]
+fn branch_row(b: &[u8], s: Progress, at: usize, count: usize, k: usize) -> [i64; ROW_LENGTH]
     requires { ⌜ (at + 4 + 6 * count ≤ length (now b)) × (s .p ≤ variableLimit) × (s .q ≤ variableLimit) × (1 ≤ k) × (k ≤ 2) ⌝ }
     requires { ⌜ formRange (now b) (s .q + (s .p + s .p)) at count ≡ true ⌝ }
     ensures { λ r. ⌜ factOf r ∷ [] ≡ childOf (some (splitChildren (formOf (now (b .entry)) at count))) k ⌝ }
@@ -142,7 +143,7 @@ fn branch_row(b: &[u8], s: Progress, at: usize, count: usize, k: usize) -> [i64;
 }
 
 // Apart: "Children e−1 ≥ 0; −e−1 ≥ 0".
-fn apart_row(work: &[i64], fact: usize, k: usize) -> [i64; 50]
+fn apart_row(work: &[i64], fact: usize, k: usize) -> [i64; ROW_LENGTH]
     requires { ⌜ (fact < factLimit) × (workNumbers ≤ length (now work)) × (1 ≤ k) × (k ≤ 2) ⌝ }
     requires { ⌜ (kindOf (factOf (rowAt (now work) fact)) ≡ 2) × (factWithin (factOf (rowAt (now work) fact)) ≡ true) ⌝ }
     ensures { λ r. ⌜ factOf r ∷ [] ≡ childOf (some (apartChildren (drop 1 (rowAt (now (work .entry)) fact)))) k ⌝ }
@@ -155,7 +156,7 @@ fn apart_row(work: &[i64], fact: usize, k: usize) -> [i64; 50]
 }
 
 // L-Valid: "Children x ≈ literal 0; len(x) − 1 ≥ 0".
-fn l_valid_row(s: Progress, x: usize, k: usize) -> [i64; 50]
+fn l_valid_row(s: Progress, x: usize, k: usize) -> [i64; ROW_LENGTH]
     requires { ⌜ (x < variableLimit) × (s .q ≤ variableLimit) × (1 ≤ k) × (k ≤ 2) ⌝ }
     ensures { λ r. ⌜ factOf r ∷ [] ≡ childOf (some (lValidChildren (numbered s) x)) k ⌝ }
 {
@@ -166,7 +167,7 @@ fn l_valid_row(s: Progress, x: usize, k: usize) -> [i64; 50]
 }
 
 // C-Inj: "Children code(x) = −1; code(x) − code(y) ≠ 0; x ≈ y".
-fn c_inj_row(s: Progress, x: usize, y: usize, k: usize) -> [i64; 50]
+fn c_inj_row(s: Progress, x: usize, y: usize, k: usize) -> [i64; ROW_LENGTH]
     requires { ⌜ (x < variableLimit) × (y < variableLimit) × (x ≢ y) × (s .p ≤ variableLimit) × (s .q ≤ variableLimit) × (1 ≤ k) × (k ≤ 3) ⌝ }
     ensures { λ r. ⌜ factOf r ∷ [] ≡ childOf (some (cInjChildren (numbered s) x y)) k ⌝ }
 {
@@ -181,7 +182,7 @@ fn c_inj_row(s: Progress, x: usize, y: usize, k: usize) -> [i64; 50]
 }
 
 // Card: "last, len(x_1) ≥ L", of m variables.
-fn bound_row(s: Progress, x: usize, m: usize) -> [i64; 50]
+fn bound_row(s: Progress, x: usize, m: usize) -> [i64; ROW_LENGTH]
     requires { ⌜ (x < variableLimit) × (m ≤ variableLimit) × (2 ≤ s .n) × (s .n ≤ alphabetLimit) × (s .q ≤ variableLimit) ⌝ }
     ensures { λ r. ⌜ (factOf r ∷ []) ∷ [] ≡ lastChild (numbered s) x m ⌝ }
 {
@@ -190,7 +191,7 @@ fn bound_row(s: Progress, x: usize, m: usize) -> [i64; 50]
 }
 
 // Card: "Children, for each pair i < j in lexicographic order, x_i ≈ x_j; last, len(x_1) ≥ L", of the m variables from a position.
-fn card_row(b: &[u8], s: Progress, at: usize, m: usize, k: usize) -> [i64; 50]
+fn card_row(b: &[u8], s: Progress, at: usize, m: usize, k: usize) -> [i64; ROW_LENGTH]
     requires { ⌜ (2 ≤ m) × (m ≤ variableLimit) × (at + 2 * m ≤ length (now b)) × (allBelow (s .p) (u16s (now b) at m) ≡ true) ⌝ }
     requires { ⌜ (s .p ≤ variableLimit) × (s .q ≤ variableLimit) × (1 ≤ s .n) × (s .n ≤ alphabetLimit) ⌝ }
     requires { ⌜ (1 ≤ k) × (k ≤ length (pairs (u16s (now b) at m) (lastChild (numbered s) (u16 (now b) at) m))) ⌝ }
@@ -223,7 +224,7 @@ fn child_row(
     work: &[i64],
     count: usize,
     k: usize,
-) -> [i64; 50]
+) -> [i64; ROW_LENGTH]
     requires { ⌜ Ready (now ticket) s at size (now work) count ⌝ }
     requires { ⌜ u16 (now ticket) at ≢ 10 ⌝ }
     requires { ⌜ Numbered (children (asked (now ticket) s) (branchOf (now work) count) (stepAt (now ticket) at size)) k ⌝ }

@@ -1,4 +1,4 @@
--- The question that was read and the children that a step's body offers on a branch, each under one name: contracts that cite them stay small.
+-- The children that a step's body offers on a branch, under one name: contracts that cite them stay small.
 use Prim.Native.Nat.{ℕ}
 use mathlib.Core.Option.{Option}
 use mathlib.Core.List.{List}
@@ -6,11 +6,6 @@ use Rattle.calculus.specs.Facts.{Question, Fact, Branch}
 use Rattle.calculus.specs.Rules.{children}
 use Rattle.format.specs.StepForms.{stepAt}
 use Rattle.format.specs.Checking.{orNone, nth}
-use Rattle.question.specs.Progress.{progressOf}
-use Rattle.question.specs.declared.Progress.{Progress}
-
-unfoldable pub asked : List ℕ → Progress → Question
-asked b s = progressOf b s .question
 
 -- the children, none where the step does not fit
 unfoldable pub offered : List ℕ → Question → Branch → ℕ → ℕ → Option (List (List Fact))

@@ -13,6 +13,11 @@ ghost use Rattle.format.specs.StepForms.{sum, sProp, ruleOf, formFor, fitsForm,
 ghost use Rattle.format.specs.Reading.{stepFault};
 ghost use Rattle.question.specs.Progress.{progressOf};
 ghost use Rattle.steps.specs.Forms.{formOf};
+use limits::COLUMN_LIMIT;
+use limits::NUMBER_LIMIT;
+use limits::SUMMAND_LIMIT;
+use limits::TICKET_BYTES;
+use limits::VARIABLE_LIMIT;
 use question::Progress;
 use question::form_in_range;
 use records::bits_within;
@@ -26,11 +31,11 @@ pub struct Form(pub usize, pub usize, pub usize);
 
 // By rule number. 0 is for no rule: "for an unknown rule, only when under 4 bytes".
 const FORMS: [Form; 14] = [
-    Form(4, 1, 32768),
+    Form(4, 1, TICKET_BYTES),
     // Sum
-    Form(14, 6, 7),
+    Form(14, 6, SUMMAND_LIMIT - 1),
     // Branch
-    Form(8, 6, 48),
+    Form(8, 6, COLUMN_LIMIT),
     // Apart
     Form(6, 1, 0),
     // A-Conf
@@ -50,7 +55,7 @@ const FORMS: [Form; 14] = [
     // C-Inj
     Form(8, 1, 0),
     // Card
-    Form(8, 2, 14),
+    Form(8, 2, VARIABLE_LIMIT - 2),
     // Join
     Form(8, 1, 0),
 ];
@@ -101,7 +106,7 @@ fn multipliers_within(b: &[u8], at: usize, count: usize) -> bool
     let mut left = count;
     while 0 < left {
         let v = u32_at(b, i + 2);
-        if !bits_within(v, 1000000000) {
+        if !bits_within(v, NUMBER_LIMIT) {
             return false;
         }
         i += 6;

@@ -6,7 +6,7 @@ ghost use mathlib.Core.List.{[]};
 ghost use Prim.Native.Nat.{ℕ, _+_, _*_, _≤_, _<_};
 ghost use lib.ListN.{length, getD, take, drop};
 ghost use lib.IntN.{pos, natAbs};
-ghost use Rattle.calculus.specs.Limits.{alphabetLimit, lengthLimit, valueLimit};
+ghost use Rattle.calculus.specs.Limits.{alphabetLimit, variableLimit, lengthLimit, valueLimit};
 ghost use Rattle.calculus.specs.Rows.{eqℤ};
 ghost use Rattle.calculus.specs.Facts.{Branch, len};
 ghost use Rattle.calculus.specs.Classes.{labels};
@@ -21,19 +21,24 @@ ghost use Rattle.leaf.specs.Leaf.{asked, Modelled, Ready};
 ghost use Rattle.strings.specs.Filling.{sized, givenOf, entry, storedAs, givenStrings, isIt, fixedAt, completed, ShortLiterals};
 use classes::Lowest;
 use leaf::Leaf;
+use limits::LENGTH_LIMIT;
+use limits::VARIABLE_LIMIT;
+
+// The size of a variable that has no string yet.
+const NOT_GIVEN: usize = LENGTH_LIMIT + 1;
 
 // What a variable is given: a string of at most 64 characters; a size past 64 says that there is none.
 pub struct Given {
     pub size: usize,
-    pub characters: [u32; 64],
+    pub characters: [u32; LENGTH_LIMIT],
 }
 
 // The k-th string of m of n characters, filled from the right.
-fn word(n: usize, m: usize, k: usize) -> [u32; 64]
-    requires { ⌜ (1 ≤ n) × (n ≤ 196608) × (m ≤ 64) × (k ≤ 16) ⌝ }
+fn word(n: usize, m: usize, k: usize) -> [u32; LENGTH_LIMIT]
+    requires { ⌜ (1 ≤ n) × (n ≤ alphabetLimit) × (m ≤ lengthLimit) × (k ≤ variableLimit) ⌝ }
     ensures { λ r. ⌜ take m r ≡ calculus.word n m k ⌝ }
 {
-    let mut out = [0u32; 64];
+    let mut out = [0u32; LENGTH_LIMIT];
     if m == 0 {
         return out;
     }
@@ -68,20 +73,20 @@ fn same_string(s: &[u32], t: &[u32]) -> bool
 
 // Is w the string of variable y in the table, where it has `size` characters?
 fn is_row(characters: &[u32], y: usize, size: usize, w: &[u32]) -> bool
-    requires { ⌜ (y < 16) × (64 * y + 64 ≤ length (now characters)) ⌝ }
-    ensures { λ r. ⌜ r ≡ isIt (sized size (drop (64 * y) (now (characters .entry)))) (now (w .entry)) ⌝ }
+    requires { ⌜ (y < variableLimit) × (lengthLimit * y + lengthLimit ≤ length (now characters)) ⌝ }
+    ensures { λ r. ⌜ r ≡ isIt (sized size (drop (lengthLimit * y) (now (characters .entry)))) (now (w .entry)) ⌝ }
 {
-    if size > 64 {
+    if size > LENGTH_LIMIT {
         return false;
     }
-    let from = 64 * y;
+    let from = LENGTH_LIMIT * y;
     let to = from + size;
     same_string(w, &characters[from..to])
 }
 
 // Is w a string of the table?
-fn is_given(characters: &[u32], sizes: [usize; 16], p: usize, w: &[u32]) -> bool
-    requires { ⌜ (p ≤ 16) × (64 * p ≤ length (now characters)) ⌝ }
+fn is_given(characters: &[u32], sizes: [usize; VARIABLE_LIMIT], p: usize, w: &[u32]) -> bool
+    requires { ⌜ (p ≤ variableLimit) × (lengthLimit * p ≤ length (now characters)) ⌝ }
     ensures { λ r. ⌜ r ≡ given (now (w .entry)) (givenStrings (now (characters .entry)) sizes p) ⌝ }
 {
     let mut y = 0;
@@ -96,8 +101,14 @@ fn is_given(characters: &[u32], sizes: [usize; 16], p: usize, w: &[u32]) -> bool
 }
 
 // "the smallest string of its length, by code points, not yet given".
-fn fresh(characters: &[u32], sizes: [usize; 16], p: usize, n: usize, m: usize) -> [u32; 64]
-    requires { ⌜ (p ≤ 16) × (m ≤ 64) × (64 * p ≤ length (now characters)) × (1 ≤ n) × (n ≤ 196608) ⌝ }
+fn fresh(
+    characters: &[u32],
+    sizes: [usize; VARIABLE_LIMIT],
+    p: usize,
+    n: usize,
+    m: usize,
+) -> [u32; LENGTH_LIMIT]
+    requires { ⌜ (p ≤ variableLimit) × (m ≤ lengthLimit) × (lengthLimit * p ≤ length (now characters)) × (1 ≤ n) × (n ≤ alphabetLimit) ⌝ }
     ensures { λ r. ⌜ take m r ≡ freshFrom p n m (givenStrings (now (characters .entry)) sizes p) 0 ⌝ }
 {
     let mut k = 0;
@@ -112,11 +123,11 @@ fn fresh(characters: &[u32], sizes: [usize; 16], p: usize, n: usize, m: usize) -
 }
 
 // A text of the ticket.
-fn text(ticket: &[u8], at: usize, count: usize) -> [u32; 64]
-    requires { ⌜ (at + 4 * count ≤ length (now ticket)) × (count ≤ 64) ⌝ }
+fn text(ticket: &[u8], at: usize, count: usize) -> [u32; LENGTH_LIMIT]
+    requires { ⌜ (at + 4 * count ≤ length (now ticket)) × (count ≤ lengthLimit) ⌝ }
     ensures { λ r. ⌜ take count r ≡ u32s (now (ticket .entry)) at count ⌝ }
 {
-    let mut out = [0u32; 64];
+    let mut out = [0u32; LENGTH_LIMIT];
     let mut i = 0;
     while i < count {
         let c = records::u32_at(ticket, at + 4 * i);
@@ -127,12 +138,12 @@ fn text(ticket: &[u8], at: usize, count: usize) -> [u32; 64]
 }
 
 // The first m characters of variable y's row.
-fn row_of(characters: &[u32], y: usize, m: usize) -> [u32; 64]
-    requires { ⌜ (y < 16) × (m ≤ 64) × (64 * y + 64 ≤ length (now characters)) ⌝ }
+fn row_of(characters: &[u32], y: usize, m: usize) -> [u32; LENGTH_LIMIT]
+    requires { ⌜ (y < variableLimit) × (m ≤ lengthLimit) × (lengthLimit * y + lengthLimit ≤ length (now characters)) ⌝ }
     ensures { λ r. ⌜ take m r ≡ row (now (characters .entry)) y m ⌝ }
 {
-    let from = 64 * y;
-    let mut out = [0u32; 64];
+    let from = LENGTH_LIMIT * y;
+    let mut out = [0u32; LENGTH_LIMIT];
     let mut i = 0;
     while i < m {
         let c = characters[from + i];
@@ -143,14 +154,14 @@ fn row_of(characters: &[u32], y: usize, m: usize) -> [u32; 64]
 }
 
 // The string of variable x becomes the first `size` characters of w; a size past 64 says that there is none.
-fn store(characters: &mut [u32], x: usize, w: [u32; 64], size: usize)
-    requires { ⌜ (x < 16) × (64 * x + 64 ≤ length (now characters)) ⌝ }
+fn store(characters: &mut [u32], x: usize, w: [u32; LENGTH_LIMIT], size: usize)
+    requires { ⌜ (x < variableLimit) × (lengthLimit * x + lengthLimit ≤ length (now characters)) ⌝ }
     ensures { λ _. ⌜ now (characters .exit) ≡ storedAs (sized size w) (now (characters .entry)) x ⌝ }
 {
-    if size > 64 {
+    if size > LENGTH_LIMIT {
         return;
     }
-    let from = 64 * x;
+    let from = LENGTH_LIMIT * x;
     let mut i = 0;
     while i < size {
         let c = w[i];
@@ -167,7 +178,7 @@ fn one_character(len: i64, code: i64) -> Given
     ensures { λ r. ⌜ givenOf r ≡ oneChar (eqℤ len (pos 1)) code ⌝ }
     ensures { λ r. ⌜ length (r .characters) ≡ lengthLimit ⌝ }
 {
-    let mut out = [0u32; 64];
+    let mut out = [0u32; LENGTH_LIMIT];
     if leaf::equal(len, 1) {
         let c = leaf::magnitude(code);
         out[0] = c as u32;
@@ -177,7 +188,7 @@ fn one_character(len: i64, code: i64) -> Given
         };
     }
     Given {
-        size: 65,
+        size: NOT_GIVEN,
         characters: out,
     }
 }
@@ -209,12 +220,17 @@ fn fixed(ticket: &[u8], model: &[i64], leaf: Leaf, x: usize) -> Given
 }
 
 // The first two rounds for every variable; answers the sizes, 65 for none.
-fn give_fixed(ticket: &[u8], model: &[i64], leaf: Leaf, characters: &mut [u32]) -> [usize; 16]
+fn give_fixed(
+    ticket: &[u8],
+    model: &[i64],
+    leaf: Leaf,
+    characters: &mut [u32],
+) -> [usize; VARIABLE_LIMIT]
     requires { ⌜ Ready (now ticket) (now model) leaf × (lengthLimit * leaf .p ≤ length (now characters)) ⌝ }
     requires { ⌜ Within valueLimit (now model) × ShortLiterals (now ticket) (leaf .literals) ⌝ }
     ensures { λ r. ⌜ ((y : ℕ) → y < leaf .p → entry (now (characters .exit)) r y ≡ fixedAt (asked (now (ticket .entry)) leaf) (leaf .labels) (now (model .entry)) y) ⌝ }
 {
-    let mut sizes = [65usize; 16];
+    let mut sizes = [NOT_GIVEN; VARIABLE_LIMIT];
     let mut x = 0;
     while x < leaf.p {
         let s = fixed(ticket, model, leaf, x);
@@ -227,7 +243,13 @@ fn give_fixed(ticket: &[u8], model: &[i64], leaf: Leaf, characters: &mut [u32]) 
 }
 
 // The string of variable x: its own from the first two rounds, that of the lowest variable of its class, or the first that is not given.
-fn string_of(model: &[i64], leaf: Leaf, characters: &[u32], sizes: [usize; 16], x: usize) -> Given
+fn string_of(
+    model: &[i64],
+    leaf: Leaf,
+    characters: &[u32],
+    sizes: [usize; VARIABLE_LIMIT],
+    x: usize,
+) -> Given
     requires { ⌜ Modelled (now model) leaf × (1 ≤ leaf .n) × (leaf .n ≤ alphabetLimit) × (x < leaf .p) × (lengthLimit * leaf .p ≤ length (now characters)) ⌝ }
     requires { ⌜ natAbs (modelOf (asked [] leaf) (now model) len x) ≤ lengthLimit ⌝ }
     requires { ⌜ ((y : ℕ) → y < x → getD sizes y 0 ≤ lengthLimit) ⌝ }
@@ -235,7 +257,7 @@ fn string_of(model: &[i64], leaf: Leaf, characters: &[u32], sizes: [usize; 16], 
     ensures { λ r. ⌜ length (r .characters) ≡ lengthLimit ⌝ }
 {
     let own = sizes[x];
-    if own <= 64 {
+    if own <= LENGTH_LIMIT {
         let w = row_of(characters, x, own);
         return Given {
             size: own,
@@ -263,7 +285,12 @@ fn string_of(model: &[i64], leaf: Leaf, characters: &[u32], sizes: [usize; 16], 
 
 // "a class with a literal gets it; a class of length 1 gets the character of its code; then each other class, by lowest variable, gets the smallest string of
 // its length, by code points, not yet given". Fills the table with the strings and answers their sizes.
-pub fn give_strings(ticket: &[u8], model: &[i64], leaf: Leaf, characters: &mut [u32]) -> [usize; 16]
+pub fn give_strings(
+    ticket: &[u8],
+    model: &[i64],
+    leaf: Leaf,
+    characters: &mut [u32],
+) -> [usize; VARIABLE_LIMIT]
     requires { ⌜ Ready (now ticket) (now model) leaf × (lengthLimit * leaf .p ≤ length (now characters)) ⌝ }
     requires { ⌜ Within valueLimit (now model) × ShortLiterals (now ticket) (leaf .literals) ⌝ }
     requires { ⌜ shortLengths (asked [] leaf) (now model) ≡ true ⌝ }

@@ -15,11 +15,12 @@ ghost use Rattle.format.specs.Checking.{fits, rowWithin};
 ghost use Rattle.rows.specs.Rows.{rowLength, factOf, branchOf};
 ghost use Rattle.rows.specs.Work.{Within, Fine};
 ghost use Rattle.sums.specs.Sums.{added, geRow, rowIn, factIn, sumFact};
+use limits::ROW_LENGTH;
 
 // A new row, where the step fits.
 pub struct Summed {
     pub fits: bool,
-    pub row: [i64; 50],
+    pub row: [i64; ROW_LENGTH],
 }
 
 // Does a fact take the multiplier: at least 1 on a ≥ fact, nonzero on an equation?
@@ -38,14 +39,14 @@ fn takes(row: &[i64], multiplier: i64) -> bool
 }
 
 // A row times a multiplier is added to the sum.
-fn add_multiple(sum: &mut [i64; 50], row: &[i64], multiplier: i64)
+fn add_multiple(sum: &mut [i64; ROW_LENGTH], row: &[i64], multiplier: i64)
     requires { ⌜ (length (now row) ≡ rowLength) × (rowWithin (drop 1 (now row)) ≡ true) ⌝ }
     requires { ⌜ natAbs multiplier ≤ numberLimit ⌝ }
     requires { ⌜ (length (now sum) ≡ rowLength) × Within 7000000000000000000 (now sum) ⌝ }
     ensures { λ _. ⌜ now (sum .exit) ≡ added (now (sum .entry)) multiplier (now (row .entry)) ⌝ }
 {
     let mut j = 1;
-    while j < 50 {
+    while j < ROW_LENGTH {
         let s = sum[j];
         let x = row[j];
         sum[j] = s + multiplier * x;
@@ -60,7 +61,7 @@ fn sum_of(b: &[u8], at: usize, pairs: usize, work: &[i64], count: usize) -> Summ
     requires { ⌜ Fine (now work) count ⌝ }
     ensures { λ r. ⌜ rowIn r ≡ geRow (sumOf (branchOf (now (work .entry)) count) (pairsAt (now (b .entry)) at pairs)) ⌝ }
 {
-    let mut sum = [0i64; 50];
+    let mut sum = [0i64; ROW_LENGTH];
     let mut i = 0;
     while i < pairs {
         let place = at + 6 * i;
@@ -97,18 +98,18 @@ fn floor_div(c: i64, d: i64) -> i64
 }
 
 // A sum divided: columns exactly, the constant rounding down.
-fn divided_row(row: [i64; 50], d: i64) -> Summed
+fn divided_row(row: [i64; ROW_LENGTH], d: i64) -> Summed
     requires { ⌜ (pos 1 ≤ℤ d) × (getD row 0 (pos 0) ≡ pos 0) ⌝ }
     ensures { λ r. ⌜ rowIn r ≡ geRow (divided (natAbs d) (drop 1 row)) ⌝ }
 {
     if d == 1 {
         return Summed { fits: true, row };
     }
-    let mut out = [0i64; 50];
+    let mut out = [0i64; ROW_LENGTH];
     let c = row[1];
     out[1] = floor_div(c, d);
     let mut j = 2;
-    while j < 50 {
+    while j < ROW_LENGTH {
         let x = row[j];
         let q = x / d;
         if q * d != x {

@@ -1,4 +1,4 @@
-//! Measures the time per check and prints it as a table: the library beside a plain implementation.
+//! Measures the time per check and prints it as a table: the library beside a plain implementation and the reference.
 
 mod plain;
 mod tickets;
@@ -22,7 +22,10 @@ const LIBRARY: Option<Check> = None;
 
 fn main() {
     check_plain();
-    println!("{:<28} {:>6} {:>6} {:>12} {:>12} {:>7}", "ticket", "steps", "bytes", "library µs", "plain µs", "ratio");
+    println!(
+        "{:<28} {:>6} {:>6} {:>11} {:>9} {:>6} {:>13} {:>6}",
+        "ticket", "steps", "bytes", "library µs", "plain µs", "ratio", "reference µs", "ratio"
+    );
     print_row("400 small steps", &tickets::small_steps(400));
     print_row("8-pair Sums over 48 columns", &tickets::most_wide_sums());
     print_row("strings, 16 variables", &tickets::strings());
@@ -62,15 +65,20 @@ fn print_row(name: &str, ticket: &[u8]) {
     let expected = run(reference_check, ticket);
     assert_eq!(run(plain::check, ticket), expected, "{name}");
     let plain = microseconds(plain::check, ticket);
-    let (library, ratio) = match LIBRARY {
-        Some(check) => {
-            assert_eq!(run(check, ticket), expected, "{name}");
-            let library = microseconds(check, ticket);
-            (format!("{library:.2}"), format!("{:.2}", library / plain))
-        }
-        None => ("-".to_string(), "-".to_string()),
-    };
-    println!("{name:<28} {:>6} {:>6} {library:>12} {plain:>12.2} {ratio:>7}", steps_of(ticket), ticket.len());
+    let reference = microseconds(reference_check, ticket);
+    let library = LIBRARY.map(|check| {
+        assert_eq!(run(check, ticket), expected, "{name}");
+        microseconds(check, ticket)
+    });
+    let shown = |value: Option<f64>| value.map_or("-".to_string(), |number| format!("{number:.2}"));
+    println!(
+        "{name:<28} {:>6} {:>6} {:>11} {plain:>9.2} {:>6} {reference:>13.2} {:>6}",
+        steps_of(ticket),
+        ticket.len(),
+        shown(library),
+        shown(library.map(|time| time / plain)),
+        shown(library.map(|time| time / reference)),
+    );
 }
 
 /// How many steps a ticket has.

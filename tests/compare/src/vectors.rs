@@ -71,6 +71,15 @@ pub fn judgements(directory: &Path) -> Vec<JudgeVector> {
     table(&directory.join("expected.tsv")).into_iter().map(vector).collect()
 }
 
+/// The ticket files of a directory, by name.
+pub fn examples(directory: &Path) -> Vec<(String, Vec<u8>)> {
+    let entries = fs::read_dir(directory).unwrap_or_else(|error| panic!("{}: {error}", directory.display()));
+    let mut paths: Vec<PathBuf> = entries.map(|entry| entry.expect("an entry of the directory").path()).collect();
+    paths.sort();
+    let tickets = paths.iter().filter(|path| path.extension().is_some_and(|ending| ending == "ticket"));
+    tickets.map(|path| (path.display().to_string(), read(path))).collect()
+}
+
 /// The lines of a file, each cut at its tabs.
 fn table(path: &Path) -> Vec<Vec<String>> {
     let text = String::from_utf8(read(path)).expect("a table is text");

@@ -1,0 +1,20 @@
+-- A question that was read whole and may be worked on.
+use Prim.Native.Nat.{ℕ, _≤_}
+use mathlib.Core.List.{List}
+use lib.ListN.{length}
+use Rattle.calculus.specs.Limits.{ticketBytes}
+use Rattle.question.specs.declared.Progress.{Progress}
+use Rattle.calculus.specs.Facts.{Question}
+use Rattle.question.specs.Progress.{progressOf}
+use Rattle.question.specs.Standing.{Stands}
+
+-- the question of a ticket's bytes, by the numbers read of it
+unfoldable pub asked : List ℕ → Progress → Question
+asked b s = progressOf b s .question
+
+-- it stands, with its head, in a ticket that is not too long
+pub record Posed (b : List ℕ) (s : Progress) : Type 0 where
+  pub to : ℕ
+  pub stands : Stands b s to
+  pub head : 1 ≤ s .last
+  pub short : length b ≤ ticketBytes
