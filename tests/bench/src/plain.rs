@@ -1,4 +1,5 @@
-//! A plain checker written for speed: fixed arrays, one pass over the bytes, classes only where a rule asks for them.
+//! A plain checker written for speed: one pass over the bytes, each fact's row in its own stretch of the work area, classes only where a rule asks for
+//! them. As document 01 has it, the work area has 6,400 signed 64-bit numbers and is zero after every call.
 
 use compare::library::Reply;
 
@@ -7,25 +8,20 @@ const MOST_FACTS: usize = 128;
 const MOST_PENDING: usize = 64;
 const COLUMNS: usize = 48;
 
+/// A row's numbers: what the fact says, its constant and a coefficient for each column; of a string fact a and b behind what it says.
+const ROW: usize = 50;
+type Row = [i64; ROW];
+const SAYS: usize = 0;
+const CONSTANT: usize = 1;
+const FIRST: usize = 2;
+
 /// What a fact says: the three relations of rows, then the three of strings.
-const AT_LEAST: u8 = 0;
-const EQUAL: u8 = 1;
-const NOT_EQUAL: u8 = 2;
-const SAME: u8 = 3;
-const DIFFER: u8 = 4;
-const IS_LITERAL: u8 = 5;
-
-/// One fact: a row, or a string fact on a and b.
-#[derive(Clone, Copy)]
-struct Fact {
-    says: u8,
-    a: u8,
-    b: u8,
-    constant: i32,
-    row: [i32; COLUMNS],
-}
-
-const NO_FACT: Fact = Fact { says: AT_LEAST, a: 0, b: 0, constant: 0, row: [0; COLUMNS] };
+const AT_LEAST: i64 = 0;
+const EQUAL: i64 = 1;
+const NOT_EQUAL: i64 = 2;
+const SAME: i64 = 3;
+const DIFFER: i64 = 4;
+const IS_LITERAL: i64 = 5;
 
 /// A split whose child `next` has not begun: its step's body and its mark.
 #[derive(Clone, Copy)]
@@ -80,7 +76,7 @@ struct Checker<'a> {
     columns: usize,
     literals: [Text; 16],
     literal_count: usize,
-    facts: [Fact; MOST_FACTS],
+    facts: &'a mut [Row; MOST_FACTS],
     count: usize,
     pending: [Split; MOST_PENDING],
     pending_count: usize,
@@ -91,13 +87,25 @@ struct Checker<'a> {
 
 /// Checks a ticket; the same outcomes as the reference.
 pub fn check(ticket: &[u8], answer: &mut [u8]) -> Reply {
+    let mut work = [[0; ROW]; MOST_FACTS];
+    check_in(ticket, &mut work, answer)
+}
+
+/// The same with a lent work area.
+fn check_in(ticket: &[u8], work: &mut [Row; MOST_FACTS], answer: &mut [u8]) -> Reply {
     if answer.len() < 4_268 {
         return Reply { number: 1, record: 0 };
     }
+    let reply = check_records(ticket, work, answer);
+    work.fill([0; ROW]);
+    reply
+}
+
+fn check_records(ticket: &[u8], work: &mut [Row; MOST_FACTS], answer: &mut [u8]) -> Reply {
     if ticket.len() > 32_768 {
         return Reply { number: 2, record: 0 };
     }
-    let mut checker = Checker::new(ticket);
+    let mut checker = Checker::new(ticket, work);
     let mut start = 0;
     let mut record = 0;
     loop {
@@ -138,7 +146,7 @@ fn small(number: i64) -> bool {
 }
 
 impl<'a> Checker<'a> {
-    fn new(ticket: &'a [u8]) -> Checker<'a> {
+    fn new(ticket: &'a [u8], work: &'a mut [Row; MOST_FACTS]) -> Checker<'a> {
         Checker {
             ticket,
             last: 0,
@@ -149,7 +157,7 @@ impl<'a> Checker<'a> {
             columns: 0,
             literals: [Text { start: 0, length: 0 }; 16],
             literal_count: 1,
-            facts: [NO_FACT; MOST_FACTS],
+            facts: work,
             count: 0,
             pending: [NO_SPLIT; MOST_PENDING],
             pending_count: 0,
@@ -235,7 +243,7 @@ impl<'a> Checker<'a> {
         let choices = if relation == 2 { self.literal_count } else { self.p };
         demand(relation <= 2 && a < self.p && b < choices, 6)?;
         demand(self.count < MOST_FACTS, 10)?;
-        self.push_string(SAME + relation as u8, a, b);
+        self.push_string(SAME + relation as i64, a, b);
         Ok(())
     }
 
@@ -246,7 +254,7 @@ impl<'a> Checker<'a> {
         demand(relation <= 2, 6)?;
         self.check_form(start + 2, end)?;
         demand(self.count < MOST_FACTS, 10)?;
-        self.push_form(relation as u8, start + 2, end, 1, 0);
+        self.push_form(relation as i64, start + 2, end, 1, 0);
         Ok(())
     }
 
@@ -265,44 +273,41 @@ impl<'a> Checker<'a> {
 
     /// An empty row at the end of the branch.
     #[inline]
-    fn push_row(&mut self, says: u8, constant: i64) -> &mut [i32; COLUMNS] {
+    fn push_row(&mut self, says: i64, constant: i64) -> &mut Row {
         let fact = &mut self.facts[self.count];
         self.count += 1;
-        fact.says = says;
-        fact.constant = constant as i32;
-        fact.row[..self.columns].fill(0);
-        &mut fact.row
+        fact.fill(0);
+        fact[SAYS] = says;
+        fact[CONSTANT] = constant;
+        fact
     }
 
     /// The row of sign · form + raise.
-    fn push_form(&mut self, says: u8, start: usize, end: usize, sign: i32, raise: i64) {
-        let constant = i64::from(sign * self.i32(start)) + raise;
+    fn push_form(&mut self, says: i64, start: usize, end: usize, sign: i64, raise: i64) {
+        let constant = sign * i64::from(self.i32(start)) + raise;
         let ticket = self.ticket;
         let row = self.push_row(says, constant);
         for pair in ticket[start + 4..end].chunks_exact(6) {
             let column = usize::from(u16::from_le_bytes([pair[0], pair[1]]));
-            row[column] = sign * i32::from_le_bytes([pair[2], pair[3], pair[4], pair[5]]);
+            row[FIRST + column] = sign * i64::from(i32::from_le_bytes([pair[2], pair[3], pair[4], pair[5]]));
         }
     }
 
-    fn push_string(&mut self, says: u8, a: usize, b: usize) {
-        let fact = &mut self.facts[self.count];
-        self.count += 1;
-        fact.says = says;
-        fact.a = a as u8;
-        fact.b = b as u8;
+    fn push_string(&mut self, says: i64, a: usize, b: usize) {
+        let row = self.push_row(says, a as i64);
+        row[FIRST] = b as i64;
     }
 
     /// A row with one coefficient.
-    fn push_one(&mut self, says: u8, column: usize, coefficient: i32, constant: i64) {
-        self.push_row(says, constant)[column] = coefficient;
+    fn push_one(&mut self, says: i64, column: usize, coefficient: i64, constant: i64) {
+        self.push_row(says, constant)[FIRST + column] = coefficient;
     }
 
     /// A row with 1 in one column and −1 in another.
-    fn push_difference(&mut self, says: u8, x: usize, y: usize) {
+    fn push_difference(&mut self, says: i64, x: usize, y: usize) {
         let row = self.push_row(says, 0);
-        row[x] = 1;
-        row[y] = -1;
+        row[FIRST + x] = 1;
+        row[FIRST + y] = -1;
     }
 
     fn take_claim(&mut self, start: usize, end: usize) -> Checked {
@@ -368,46 +373,28 @@ impl<'a> Checker<'a> {
 
     fn sum(&mut self, start: usize, end: usize) -> Checked {
         let divisor = i64::from(self.i32(start));
-        let (mut numbers, mut multipliers, mut count) = ([0; 8], [0; 8], 0);
+        let mut sums = [0; ROW];
         for at in (start + 4..end).step_by(6) {
             let (number, multiplier) = (self.u16(at), i64::from(self.i32(at + 2)));
             demand(number < self.count, 8)?;
-            let says = self.facts[number].says;
+            let fact = &self.facts[number];
+            let says = fact[SAYS];
             demand((says == AT_LEAST && multiplier >= 1) || (says == EQUAL && multiplier != 0), 8)?;
-            numbers[count] = number;
-            multipliers[count] = multiplier;
-            count += 1;
+            sums.iter_mut().zip(fact).for_each(|(sum, coefficient)| *sum += multiplier * coefficient);
         }
-        let mut sums = [0; COLUMNS];
-        let mut constant = match count {
-            1 | 2 => self.add_rows::<2>(&numbers, &multipliers, &mut sums),
-            _ => self.add_rows::<8>(&numbers, &multipliers, &mut sums),
-        };
-        let sums = &mut sums[..self.columns];
         if divisor > 1 {
-            for sum in sums.iter_mut().filter(|sum| **sum != 0) {
+            for sum in sums[FIRST..].iter_mut().filter(|sum| **sum != 0) {
                 demand(*sum % divisor == 0, 8)?;
                 *sum /= divisor;
             }
-            constant = constant.div_euclid(divisor);
+            sums[CONSTANT] = sums[CONSTANT].div_euclid(divisor);
         }
-        demand(sums.iter().fold(small(constant), |within, sum| within & small(*sum)), 9)?;
+        demand(sums[CONSTANT..].iter().fold(true, |within, sum| within & small(*sum)), 9)?;
         demand(self.count < MOST_FACTS, 10)?;
-        let fact = &mut self.facts[self.count];
+        sums[SAYS] = AT_LEAST;
+        self.facts[self.count] = sums;
         self.count += 1;
-        fact.says = AT_LEAST;
-        fact.constant = constant as i32;
-        fact.row.iter_mut().zip(sums).for_each(|(coefficient, sum)| *coefficient = *sum as i32);
         Ok(())
-    }
-
-    /// The column sums of `N` facts, some of them times 0; returns the constants' sum.
-    fn add_rows<const N: usize>(&self, numbers: &[usize; 8], multipliers: &[i64; 8], sums: &mut [i64; COLUMNS]) -> i64 {
-        let facts: [&Fact; N] = std::array::from_fn(|pair| &self.facts[numbers[pair]]);
-        for (column, sum) in sums[..self.columns].iter_mut().enumerate() {
-            *sum = (0..N).map(|pair| multipliers[pair] * i64::from(facts[pair].row[column])).sum();
-        }
-        (0..N).map(|pair| multipliers[pair] * i64::from(facts[pair].constant)).sum()
     }
 
     fn close(&mut self, rule: usize, start: usize) -> Checked {
@@ -433,25 +420,25 @@ impl<'a> Checker<'a> {
             return false;
         }
         let fact = &self.facts[number];
-        let holds = match fact.says {
-            AT_LEAST => fact.constant >= 0,
-            EQUAL => fact.constant == 0,
-            NOT_EQUAL => fact.constant != 0,
+        let holds = match fact[SAYS] {
+            AT_LEAST => fact[CONSTANT] >= 0,
+            EQUAL => fact[CONSTANT] == 0,
+            NOT_EQUAL => fact[CONSTANT] != 0,
             _ => true,
         };
-        !holds && fact.row[..self.columns].iter().all(|coefficient| *coefficient == 0)
+        !holds && fact[FIRST..].iter().all(|coefficient| *coefficient == 0)
     }
 
     /// Joins along the ≈ facts.
     fn find_labels(&self) -> Labels {
         let mut labels: Labels = std::array::from_fn(|node| node as u8);
         for fact in &self.facts[..self.count] {
-            let other = match fact.says {
-                SAME => fact.b,
-                IS_LITERAL => 16 + fact.b,
+            let other = match fact[SAYS] {
+                SAME => fact[FIRST],
+                IS_LITERAL => 16 + fact[FIRST],
                 _ => continue,
             };
-            let (from, to) = (labels[usize::from(other)], labels[usize::from(fact.a)]);
+            let (from, to) = (labels[other as usize], labels[fact[CONSTANT] as usize]);
             if from != to {
                 labels.iter_mut().filter(|label| **label == from).for_each(|label| *label = to);
             }
@@ -466,7 +453,8 @@ impl<'a> Checker<'a> {
             seen |= 1 << label;
             again
         });
-        let apart = |fact: &Fact| fact.says == DIFFER && labels[usize::from(fact.a)] == labels[usize::from(fact.b)];
+        let apart =
+            |fact: &Row| fact[SAYS] == DIFFER && labels[fact[CONSTANT] as usize] == labels[fact[FIRST] as usize];
         clash || self.facts[..self.count].iter().any(apart)
     }
 
@@ -489,7 +477,8 @@ impl<'a> Checker<'a> {
             let (first, second) = (self.u16(start), self.u16(start + 2));
             demand(self.are_opposite(first, second), 8)?;
             room?;
-            self.facts[self.count] = Fact { says: EQUAL, ..self.facts[first] };
+            self.facts[self.count] = self.facts[first];
+            self.facts[self.count][SAYS] = EQUAL;
             self.count += 1;
             return Ok(());
         }
@@ -520,11 +509,8 @@ impl<'a> Checker<'a> {
             return false;
         }
         let (one, other) = (&self.facts[first], &self.facts[second]);
-        let mut pairs = one.row[..self.columns].iter().zip(&other.row[..self.columns]);
-        one.says == AT_LEAST
-            && other.says == AT_LEAST
-            && one.constant == -other.constant
-            && pairs.all(|(mine, theirs)| *mine == -*theirs)
+        let mut pairs = one[CONSTANT..].iter().zip(&other[CONSTANT..]);
+        one[SAYS] == AT_LEAST && other[SAYS] == AT_LEAST && pairs.all(|(mine, theirs)| *mine == -*theirs)
     }
 
     fn split(&mut self, start: usize, end: usize, children: usize, child: usize) -> Checked {
@@ -555,7 +541,7 @@ impl<'a> Checker<'a> {
         match rule {
             3 => {
                 let number = self.u16(start);
-                number < self.count && self.facts[number].says == NOT_EQUAL
+                number < self.count && self.facts[number][SAYS] == NOT_EQUAL
             }
             11 => self.u16(start) != self.u16(start + 2),
             12 => self.card_fits(start, end),
@@ -566,7 +552,7 @@ impl<'a> Checker<'a> {
     fn split_within_limit(&self, rule: usize, start: usize, first: bool, second: bool) -> bool {
         let (constant, below) = match rule {
             2 => (i64::from(self.i32(start)), 0),
-            3 => (i64::from(self.facts[self.u16(start)].constant), -1),
+            3 => (self.facts[self.u16(start)][CONSTANT], -1),
             _ => return true,
         };
         (!first || small(constant + below)) && (!second || small(-constant - 1))
@@ -585,13 +571,13 @@ impl<'a> Checker<'a> {
     }
 
     fn lengths_equal(&self, x: usize, y: usize) -> bool {
-        let (x, y) = (self.len(x), self.len(y));
+        let (x, y) = (FIRST + self.len(x), FIRST + self.len(y));
         self.facts[..self.count].iter().any(|fact| {
-            fact.says == EQUAL
-                && fact.constant == 0
-                && fact.row[x].abs() == 1
-                && fact.row[x] == -fact.row[y]
-                && fact.row[..self.columns].iter().filter(|coefficient| **coefficient != 0).count() == 2
+            fact[SAYS] == EQUAL
+                && fact[CONSTANT] == 0
+                && fact[x].abs() == 1
+                && fact[x] == -fact[y]
+                && fact[FIRST..].iter().filter(|coefficient| **coefficient != 0).count() == 2
         })
     }
 
@@ -625,9 +611,9 @@ impl<'a> Checker<'a> {
     fn begin_apart(&mut self, number: usize, child: usize) {
         let sign = if child == 0 { 1 } else { -1 };
         let mut fact = self.facts[number];
-        fact.says = AT_LEAST;
-        fact.constant = sign * fact.constant - 1;
-        fact.row[..self.columns].iter_mut().for_each(|coefficient| *coefficient *= sign);
+        fact.iter_mut().for_each(|coefficient| *coefficient *= sign);
+        fact[SAYS] = AT_LEAST;
+        fact[CONSTANT] -= 1;
         self.facts[self.count] = fact;
         self.count += 1;
     }
@@ -660,15 +646,14 @@ impl<'a> Checker<'a> {
         demand(self.model[self.q..self.q + self.p].iter().all(|length| *length <= 64), 14)
     }
 
-    fn meets(&self, fact: &Fact) -> bool {
-        if fact.says > NOT_EQUAL {
+    fn meets(&self, fact: &Row) -> bool {
+        if fact[SAYS] > NOT_EQUAL {
             return true;
         }
-        let products = fact.row[..self.columns].iter().zip(&self.model[..self.columns]);
-        let value = products.fold(i64::from(fact.constant), |value, (coefficient, column)| {
-            value + i64::from(*coefficient) * i64::from(*column)
-        });
-        match fact.says {
+        let products = fact[FIRST..].iter().zip(&self.model);
+        let value =
+            products.fold(fact[CONSTANT], |value, (coefficient, column)| value + coefficient * i64::from(*column));
+        match fact[SAYS] {
             AT_LEAST => value >= 0,
             EQUAL => value == 0,
             _ => value != 0,
