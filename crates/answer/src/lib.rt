@@ -225,7 +225,7 @@ pub fn answer_formed(v: &[u8], p: usize, q: usize) -> bool
 }
 
 // Whether the count integers from a position lie within ±100,000,000.
-fn integers_within(v: &[u8], at: usize, count: usize) -> bool
+pub fn integers_within(v: &[u8], at: usize, count: usize) -> bool
     requires { ⌜ at + 4 * count ≤ length (now v) ⌝ }
     ensures { λ r. ⌜ r ≡ allWithin (i32s (now (v .entry)) at count) ⌝ }
 {

@@ -7,18 +7,18 @@ use mathlib.Core.Path.{_≡_, refl, sym, _∙_, ap, ap₂}
 use mathlib.Core.Bool.{Bool, true, false, _&&_}
 use mathlib.Core.List.{List, [], _∷_}
 use borrow.Author.Tests.{eqb-true, leb-true, ltb-true, eq-eqb, ne-eqb, le-leb, lt-ltb}
-use lib.ListN.{length, set}
+use lib.ListN.{set}
 use lib.Dec.{eqb, leb, ltb}
 use lib.IntN.{ℤ, natAbs}
 use Rattle.calculus.specs.Limits.{variableLimit, literalLimit, columnLimit, numberLimit}
 use Rattle.calculus.specs.Rows.{zeros}
-use Rattle.calculus.specs.Facts.{Question}
 use Rattle.format.specs.Fields.{pick, u16, i32, pairsAt, within}
-use Rattle.format.specs.Records.{need}
-use Rattle.format.specs.Question.{stringRange, stringFact, stringFault, columnCount, coefficientInRange, pairInRange, rising, formRange, fillRow, formOf, arithmeticFault, constraintOf, bodyFault}
+use Rattle.format.specs.Records.{size, kind, need}
+use Rattle.format.specs.Question.{stringRange, stringFact, stringFault, coefficientInRange, pairInRange, rising, formRange, fillRow, formOf, arithmeticFault, constraintOf}
 use Rattle.format.specs.Checking.{rowWithin, factWithin}
 use Rattle.format.proofs.Faults.{none-applies, passed, and-true}
 use Rattle.format.proofs.Sums.{ranged}
+use Rattle.question.specs.Standing.{ConstraintAt}
 use Rattle.constraints.specs.Constraints.{constraintFault}
 
 -- ---- a string constraint
@@ -168,13 +168,12 @@ form-more b c at m h f =
     let new : (leb (u16 b at) 2 && formRange b columnLimit (at + 2) (m / 6 - 1)) ≡ true = ap₂ _&&_ r (ap₂ _&&_ z (form-rises b c (at + 2) (m / 6 - 1) h form)) in
     passed 5 long (need 6 (leb (u16 b at) 2 && formRange b columnLimit (at + 2) (m / 6 - 1)) 0) size ∙ passed 6 (leb (u16 b at) 2 && formRange b columnLimit (at + 2) (m / 6 - 1)) 0 new
 
--- a constraint that the question's reader passed
-pub constraint-no-fault : (b : List ℕ) (u : Question) (k at m : ℕ) → u .p ≤ variableLimit → u .q ≤ variableLimit → length (u .literals) ≤ literalLimit → 3 ≤ k → k ≤ 4
-    → bodyFault b u k at m ≡ 0 → constraintFault b k at m ≡ 0
+-- a constraint of a question that stands
+pub constraint-formed : (b : List ℕ) (p q l at : ℕ) → p ≤ variableLimit → q ≤ variableLimit → l ≤ literalLimit → ConstraintAt b p q l at
+    → constraintFault b (kind b at) (at + 6) (size b at) ≡ 0
 unfolding constraintFault
-constraint-no-fault b u zero at m hp hq hl h g f = absurd (omega arith)
-constraint-no-fault b u (suc zero) at m hp hq hl h g f = absurd (omega arith)
-constraint-no-fault b u (suc (suc zero)) at m hp hq hl h g f = absurd (omega arith)
-constraint-no-fault b u (suc (suc (suc zero))) at m hp hq hl h g f = string-more b (u .p) (length (u .literals)) at m hl hp f
-constraint-no-fault b u (suc (suc (suc (suc zero)))) at m hp hq hl h g f = form-more b (columnCount u) at m (omega arith) f
-constraint-no-fault b u (suc (suc (suc (suc (suc k))))) at m hp hq hl h g f = absurd (omega arith)
+constraint-formed b p q l at hp hq hl c = go (ℕ-discrete (kind b at) 3)
+  where
+    go : Dec (kind b at ≡ 3) → constraintFault b (kind b at) (at + 6) (size b at) ≡ 0
+    go (yes e) = rw (eq-eqb _ _ e) (string-more b p l (at + 6) (size b at) hl hp (c .string-formed e))
+    go (no e) = rw (ne-eqb _ _ e) (form-more b (q + (p + p)) (at + 6) (size b at) (omega arith) (c .arithmetic-formed (omega (arith, c .at-least, c .at-most))))

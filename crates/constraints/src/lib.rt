@@ -3,13 +3,16 @@ ghost use mathlib.Core.Path.{_≡_};
 ghost use mathlib.Core.Bool.{true};
 ghost use Prim.Native.Nat.{_+_, _*_, _≤_, _<_};
 ghost use lib.ListN.{length};
-ghost use Rattle.calculus.specs.Limits.{columnLimit};
+ghost use Rattle.calculus.specs.Limits.{columnLimit, workNumbers};
 ghost use Rattle.calculus.specs.Facts.{arithmetic};
 ghost use Rattle.format.specs.Fields.{pairsAt};
 ghost use Rattle.format.specs.Question.{rising, relationOf, formOf, constraintOf};
-ghost use Rattle.rows.specs.Rows.{factOf};
+ghost use Rattle.rows.specs.Rows.{factOf, branchOf};
+ghost use Rattle.rows.specs.Work.{Fine};
+ghost use Rattle.question.specs.Posed.{asked, Posed};
 ghost use Rattle.constraints.specs.Constraints.{constraintFault};
 use limits::ROW_LENGTH;
+use question::Progress;
 
 // A form at a position, the constant and then pairs, related to 0: relation 0 is ≥, 1 is =, 2 is ≠.
 pub fn form_row(b: &[u8], relation: usize, at: usize, pairs: usize) -> [i64; ROW_LENGTH]
@@ -43,4 +46,23 @@ pub fn constraint_row(b: &[u8], kind: usize, at: usize, size: usize) -> [i64; RO
         return rows::string_row(relation, x, y);
     }
     form_row(b, relation, at + 2, size / 6 - 1)
+}
+
+// "Its constraints are facts 0, 1 and on": each goes into its row, in the order of the records.
+pub fn load(ticket: &[u8], s: Progress, work: &mut [i64])
+    requires { ⌜ Posed (now ticket) s × (workNumbers ≤ length (now work)) ⌝ }
+    ensures loaded { λ _. ⌜ branchOf (now (work .exit)) (s .constraints) ≡ asked (now (ticket .entry)) s .constraints ⌝ }
+    ensures fine { λ _. ⌜ Fine (now (work .exit)) (s .constraints) ⌝ }
+{
+    let count = s.constraints;
+    let mut at = question::behind_literals(ticket, s.literals);
+    let mut k = 0;
+    while k < count {
+        let size = records::u32_at(ticket, at);
+        let kind = records::u16_at(ticket, at + 4);
+        let row = constraint_row(ticket, kind, at + 6, size);
+        rows::put_row(work, k, row);
+        at = at + 6 + size;
+        k += 1;
+    }
 }

@@ -1,18 +1,19 @@
 -- The children of a step that splits a branch: each is there and within the limits.
-use Prim.Native.Nat.{ℕ, zero, suc, _+_, _-_, _≤_, _<_}
+use Prim.Native.Nat.{ℕ, zero, suc, _+_, _≤_, _<_}
 use native.Mathlib.Omega.{arith}
-use mathlib.Core.Path.{_≡_, refl, sym, _∙_, ap}
+use mathlib.Core.Path.{_≡_, refl, sym, _∙_, ap, ap₂}
 use mathlib.Core.Bool.{Bool, true, _&&_}
-use mathlib.Core.Option.{Option, some}
+use mathlib.Core.Option.{some}
 use mathlib.Core.List.{List, [], _∷_}
 use lib.ListN.{length, drop, getElem?}
-use borrow.Author.Tests.{leb-true}
+use borrow.Author.Tests.{leb-true, le-leb}
 use Rattle.lists.proofs.Options.{none-some}
 use Rattle.lists.proofs.Every.{every-at}
 use Rattle.calculus.specs.Limits.{factLimit}
 use Rattle.calculus.specs.Facts.{Question, Fact, Branch}
 use Rattle.calculus.specs.Children.{childAt}
-use Rattle.format.specs.Checking.{orNone, factsWithin, childrenWithin, room, roomForAll, nth}
+use Rattle.format.specs.Records.{need}
+use Rattle.format.specs.Checking.{orNone, factsWithin, childrenWithin, room, roomForAll, nth, takenTried}
 use Rattle.derivation.specs.State.{offeredIn, childrenOn, childOn}
 use Rattle.derivation.specs.Ok.{Splits}
 
@@ -62,3 +63,9 @@ module _ {b : List ℕ} {u : Question} {br : Branch} {at n : ℕ} (sp : Splits b
   pub child-room : (k : ℕ) → 1 ≤ k → k ≤ n → length br + length (childOn b u br at k) ≤ factLimit
   unfolding roomForAll
   child-room k l h = leb-true _ factLimit (at-passes (room (length br)) (roomForAll (length br)) refl (λ c cs. refl) (sp .its-children) k (childOn b u br at k) (sp .room) (child-at k l h))
+
+  -- so none of the numbers 8 to 10 applies to it
+  pub none-of-these : (k : ℕ) → 1 ≤ k → k ≤ n → takenTried br (nth (offeredIn b u br at) k) ≡ 0
+  none-of-these k l h =
+      ap (takenTried br) (taken-there k l h)
+      ∙ ap₂ (λ (t r : Bool). need 9 t (need 10 r 0)) (child-within k l h) (le-leb (length br + length (childOn b u br at k)) factLimit (child-room k l h))

@@ -1,18 +1,19 @@
 -- Pending splits: rows at or above a mark do not touch what is below it, so the splits pend as before on a branch that grows.
-use Prim.Native.Nat.{ℕ, zero, suc, _+_, _-_, _≤_, _<_}
+use Prim.Native.Nat.{ℕ, suc, _+_, _≤_, _<_}
 use native.Mathlib.Omega.{arith}
-use native.Mathlib.Numerals.{add-one}
 use mathlib.Core.Path.{_≡_, refl, sym, _∙_, ap, ap₂, subst}
 use mathlib.Core.Bool.{Bool, true, false, _&&_, cond}
 use mathlib.Core.List.{List, [], _∷_, _++_}
-use lib.ListN.{length, take, drop, length-append}
+use lib.ListN.{length, take, length-append}
 use lib.Seq.{take-append-le, take-append-seam, take-at, length-take-le}
 use lib.Dec.{ltb}
 use borrow.Author.Tests.{ltb-true}
 use Rattle.lists.proofs.Every.{every-append, every-take}
 use Rattle.calculus.specs.Limits.{factLimit, pendingLimit}
 use Rattle.calculus.specs.Facts.{Question, Fact, Branch}
+use Rattle.format.specs.StepForms.{rule}
 use Rattle.format.specs.Checking.{factWithin, factsWithin}
+use Rattle.splits.specs.Splits.{isSplit}
 use Rattle.branch.specs.declared.Split.{Split}
 use Rattle.branch.specs.Stack.{split, begunOf}
 use Rattle.derivation.specs.State.{childOn, waitingOn, waitings}
@@ -29,6 +30,7 @@ module _ (b : List ℕ) (u : Question) where
       let e : take (s .mark) (br ++ c) ≡ take (s .mark) br = take-append-le (s .mark) br c (h .0 .behind) in
       let here : Pends b u (br ++ c) s = record {
         behind = omega (arith, h .0 .behind, length-append br c);
+        several = h .0 .several;
         splits = subst (λ (l : Branch). Splits b u l (s .at) (s .last)) (sym e) (h .0 .splits);
         some-begun = h .0 .some-begun;
         some-left = h .0 .some-left;
@@ -75,13 +77,14 @@ module _ (b : List ℕ) (u : Question) (br : Branch) (ss : List Split) (at n : �
   }
 
   -- the split is pending
-  pub ok-split : 2 ≤ n → length ss < pendingLimit → Ok b u (br ++ childOn b u br at 1) (split (length br) at 2 n ∷ ss)
+  pub ok-split : isSplit (rule b (at + 6)) ≡ true → 2 ≤ n → length ss < pendingLimit → Ok b u (br ++ childOn b u br at 1) (split (length br) at 2 n ∷ ss)
   unfolding AllPend
-  ok-split h g =
+  ok-split r h g =
       let c : List Fact = childOn b u br at 1 in
       let e : take (length br) (br ++ c) ≡ br = take-append-seam br c in
       let here : Pends b u (br ++ c) (split (length br) at 2 n) = record {
         behind = omega (arith, length-append br c);
+        several = r;
         splits = subst (λ (l : Branch). Splits b u l at n) (sym e) sp;
         some-begun = omega arith;
         some-left = h;
@@ -128,6 +131,7 @@ module _ (b : List ℕ) (u : Question) (br : Branch) (s : Split) (ss : List Spli
       let more : s .child < s .last = ltb-true (s .child) (s .last) e in
       let here : Pends b u (cut ++ begun) (split (s .mark) (s .at) (s .child + 1) (s .last)) = record {
         behind = omega (arith, length-append cut begun, length-cut);
+        several = its-pends .several;
         splits = subst (λ (l : Branch). Splits b u l (s .at) (s .last)) (sym cut-again) (its-pends .splits);
         some-begun = omega arith;
         some-left = omega arith;

@@ -1,8 +1,8 @@
 -- The code's moves are the walk's: entering a split, and cutting back to the last pending one.
-use Prim.Native.Nat.{ℕ, zero, suc, _+_, _-_, _≤_, _<_}
+use Prim.Native.Nat.{ℕ, _+_, _≤_, _<_}
 use native.Mathlib.Omega.{arith}
 use native.Mathlib.Numerals.{add-one}
-use mathlib.Core.Path.{_≡_, refl, sym, _∙_, ap, ap₂, subst}
+use mathlib.Core.Path.{_≡_, refl, sym, _∙_, ap, ap₂}
 use mathlib.Core.Bool.{Bool, true, false, cond}
 use mathlib.Core.List.{List, [], _∷_, _++_}
 use lib.ListN.{length, take, drop, drop-of-length-le}
@@ -11,12 +11,12 @@ use lib.Dec.{ltb}
 use borrow.Author.Tests.{ltb-true, ltb-false}
 use Rattle.calculus.specs.Facts.{Question, Fact, Branch}
 use Rattle.calculus.specs.Children.{childAt}
-use Rattle.calculus.specs.Walk.{Waiting, Walk, working, wait, cutBack, enter}
+use Rattle.calculus.specs.Walk.{Walk, working, wait, cutBack, enter}
 use Rattle.format.specs.Checking.{orNone}
 use Rattle.branch.specs.declared.Split.{Split}
 use Rattle.branch.specs.Stack.{split, begunOf}
 use Rattle.derivation.specs.State.{childrenOn, childOn, waitingOn, waitings, walkOf}
-use Rattle.derivation.specs.Ok.{Splits, Pends, AllPend, Ok}
+use Rattle.derivation.specs.Ok.{Splits, AllPend, Ok}
 use Rattle.derivation.proofs.Children.{next-child, its-all, child-of}
 use Rattle.derivation.proofs.Pending.{waitings-grown, its-pends, length-cut}
 

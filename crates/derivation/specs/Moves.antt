@@ -1,6 +1,5 @@
 -- What a step comes to, in the definitions and as the code says it.
-use Prim.Native.Nat.{ℕ, zero, suc, _+_, _≤_}
-use mathlib.Core.Path.{_≡_}
+use Prim.Native.Nat.{ℕ, zero, suc, _≤_}
 use mathlib.Core.List.{List, _++_}
 use lib.ListN.{length}
 use lib.IntN.{ℤ}
@@ -13,7 +12,7 @@ use Rattle.question.specs.Posed.{asked, Posed}
 use Rattle.question.specs.declared.Progress.{Progress}
 use Rattle.branch.specs.declared.Branch as code
 use Rattle.branch.specs.Stack.{stack}
-use Rattle.derivation.specs.State.{offeredIn, childrenOn, waitings, stateOf}
+use Rattle.derivation.specs.State.{offeredIn, childrenOn, stateOf}
 use Rattle.derivation.specs.Ok.{Ok}
 use Rattle.derivation.specs.declared.Verdict.{Verdict}
 use Rattle.derivation.specs.declared.Verdict.the-variants.{Next, Closed, Refused}

@@ -1,5 +1,5 @@
 -- What holds of every state that the walk reaches.
-use Prim.Native.Nat.{ℕ, _+_, _≤_, _<_}
+use Prim.Native.Nat.{ℕ, _+_, _≤_}
 use mathlib.Core.Path.{_≡_}
 use mathlib.Core.Bool.{true}
 use mathlib.Core.Option.{some}
@@ -8,8 +8,10 @@ use lib.ListN.{length, take}
 use Rattle.calculus.specs.Limits.{factLimit, pendingLimit}
 use Rattle.calculus.specs.Facts.{Question, Fact, Branch}
 use Rattle.format.specs.Records.{size}
+use Rattle.format.specs.StepForms.{rule}
 use Rattle.format.specs.Checking.{factsWithin, childrenWithin, roomForAll}
 use Rattle.steps.specs.Forms.{Formed}
+use Rattle.splits.specs.Splits.{isSplit}
 use Rattle.branch.specs.declared.Split.{Split}
 use Rattle.derivation.specs.State.{offeredIn}
 
@@ -22,9 +24,10 @@ pub record Splits (b : List ℕ) (u : Question) (br : Branch) (at n : ℕ) : Typ
   pub within : childrenWithin its-children ≡ true
   pub room : roomForAll (length br) its-children ≡ true
 
--- a split is pending on a branch that has grown from its mark
+-- a split, by a rule with several conclusions, is pending on a branch that has grown from its mark
 pub record Pends (b : List ℕ) (u : Question) (br : Branch) (s : Split) : Type 0 where
   pub behind : s .mark ≤ length br
+  pub several : isSplit (rule b (s .at + 6)) ≡ true
   pub splits : Splits b u (take (s .mark) br) (s .at) (s .last)
   pub some-begun : 1 ≤ s .child
   pub some-left : s .child ≤ s .last

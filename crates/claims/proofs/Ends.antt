@@ -1,0 +1,92 @@
+-- The model's record and the end.
+use Prim.Native.Nat.{ℕ, suc, _+_, _≤_, _<_}
+use native.Mathlib.Omega.{arith}
+use mathlib.Core.Path.{_≡_, refl, sym, _∙_, ap}
+use mathlib.Core.Bool.{Bool, true, false}
+use mathlib.Core.List.{List}
+use lib.ListN.{length}
+use lib.Dec.{leb, eqb}
+use lib.IntN.{ℤ}
+use borrow.Author.Tests.{leb-true, leb-false, le-leb, lt-leb}
+use Rattle.calculus.specs.Facts.{Question, Fact, Branch}
+use Rattle.calculus.specs.Walk.{closed}
+use Rattle.format.specs.Fields.{pick}
+use Rattle.format.specs.Records.{size, kind, next, whole, need}
+use Rattle.format.specs.Reading.{State, proving, taking, modelled, modelAt, modelFault, lastFault, bodyFault, fault, advanced, Faulty, Done}
+use Rattle.format.specs.Checking.{leafFault, checker}
+use Rattle.format.proofs.Faults.{none-applies}
+use Rattle.format.proofs.StepTurns.{stepsOn, steps-none, steps-faulty, steps-done, steps-more}
+use Rattle.claims.specs.Numbers.{lastNumber, endNumber}
+
+-- ---- the model's record, whole
+
+module _ (b : List ℕ) (u : Question) (br : Branch) (r at : ℕ) (k : kind b at ≡ 7) (h : next b at ≤ length b) where
+  abbrev itsFault : ℕ
+  itsFault = modelFault b u (leafFault u br (modelAt b u (at + 6))) (at + 6) (size b at)
+
+  by-model : fault (checker u) b u (taking br) at ≡ itsFault
+  unfolding fault
+  by-model =
+      rw (le-leb (next b at) (length b) h)
+      (ap (λ j. pick (eqb j 8) (lastFault (checker u) b (taking br) at) (bodyFault (checker u) b u (taking br) j (at + 6) (size b at))) k)
+
+  on-model : advanced (checker u) b u (taking br) at ≡ modelled br (modelAt b u (at + 6))
+  unfolding advanced
+  on-model = rw k
+
+  pub model-refused : (c : ℕ) → itsFault ≡ suc c → stepsOn (checker u) b u (taking br) r at ≡ Faulty (suc c) r
+  model-refused c e = steps-faulty (checker u) b u (taking br) r at c (omega arith) (by-model ∙ e)
+
+  pub model-taken : itsFault ≡ 0 → stepsOn (checker u) b u (taking br) r at ≡ stepsOn (checker u) b u (modelled br (modelAt b u (at + 6))) (suc r) (next b at)
+  model-taken e =
+      steps-more (checker u) b u (taking br) r at (omega arith) (by-model ∙ e) (ap (λ j. eqb j 8) k)
+      ∙ ap (λ (st : State Branch (List Fact)). stepsOn (checker u) b u st (suc r) (next b at)) on-model
+
+-- ---- the record that must be the end
+
+must-end : (x : Bool) (last : ℕ) → pick x last 4 ≡ need 4 x last
+must-end true last = refl
+must-end false last = refl
+
+-- a state with nothing left to read but the end
+module _ (b : List ℕ) (u : Question) (st : State Branch (List Fact)) (r at : ℕ) (same : fault (checker u) b u st at ≡ endNumber b at) where
+  end-refused : (c : ℕ) → endNumber b at ≡ suc c → stepsOn (checker u) b u st r at ≡ Faulty (suc c) r
+  unfolding endNumber
+  end-refused c e = go (leb (at + 6) (length b)) refl
+    where
+      go : (t : Bool) → leb (at + 6) (length b) ≡ t → stepsOn (checker u) b u st r at ≡ Faulty (suc c) r
+      go true h = steps-faulty (checker u) b u st r at c (leb-true _ _ h) (same ∙ e)
+      go false h =
+          let short : length b < at + 6 = leb-false _ _ h in
+          let three : 3 ≡ suc c = sym (rw (lt-leb (next b at) (length b) (omega arith))) ∙ e in
+          steps-none (checker u) b u st r at short ∙ ap (λ n. Faulty n r) three
+
+  end-done : endNumber b at ≡ 0 → stepsOn (checker u) b u st r at ≡ Done u st
+  unfolding endNumber
+  end-done e =
+      let a3 = none-applies 2 (whole b at) (need 4 (eqb (kind b at) 8) (lastNumber (length b) (next b at) (size b at) 0)) e in
+      let h : next b at ≤ length b = leb-true _ _ (a3 .0) in
+      steps-done (checker u) b u st r at (omega arith) (same ∙ e) (none-applies 3 (eqb (kind b at) 8) _ (a3 .1) .0)
+
+module _ (b : List ℕ) (u : Question) (r at : ℕ) where
+  at-end-closed : fault (checker u) b u (proving closed) at ≡ endNumber b at
+  unfolding fault endNumber
+  at-end-closed = ap (need 3 (whole b at)) (must-end (eqb (kind b at) 8) _)
+
+  at-end-modelled : (br : Branch) (m : List ℤ) → fault (checker u) b u (modelled br m) at ≡ endNumber b at
+  unfolding fault endNumber
+  at-end-modelled br m = ap (need 3 (whole b at)) (must-end (eqb (kind b at) 8) _)
+
+  -- claim 1: every branch is closed
+  pub closed-refused : (c : ℕ) → endNumber b at ≡ suc c → stepsOn (checker u) b u (proving closed) r at ≡ Faulty (suc c) r
+  closed-refused c e = end-refused b u (proving closed) r at at-end-closed c e
+
+  pub closed-done : endNumber b at ≡ 0 → stepsOn (checker u) b u (proving closed) r at ≡ Done u (proving closed)
+  closed-done e = end-done b u (proving closed) r at at-end-closed e
+
+  -- claim 2: behind the model
+  pub modelled-refused : (br : Branch) (m : List ℤ) (c : ℕ) → endNumber b at ≡ suc c → stepsOn (checker u) b u (modelled br m) r at ≡ Faulty (suc c) r
+  modelled-refused br m c e = end-refused b u (modelled br m) r at (at-end-modelled br m) c e
+
+  pub modelled-done : (br : Branch) (m : List ℤ) → endNumber b at ≡ 0 → stepsOn (checker u) b u (modelled br m) r at ≡ Done u (modelled br m)
+  modelled-done br m e = end-done b u (modelled br m) r at (at-end-modelled br m) e

@@ -1,0 +1,115 @@
+-- The numbers of a record behind the claim, from what its kind and its place say.
+use Prim.Native.Nat.{ℕ, _+_, _≤_}
+use native.Mathlib.Omega.{arith}
+use mathlib.Core.Path.{_≡_, refl, sym, _∙_, ap}
+use mathlib.Core.Bool.{Bool, true, false}
+use mathlib.Core.List.{List}
+use lib.ListN.{length}
+use lib.Dec.{eqb}
+use borrow.Author.Tests.{le-leb, ne-eqb, eqb-true}
+use Rattle.calculus.specs.Facts.{Question, Fact, Branch}
+use Rattle.calculus.specs.Walk.{Waiting, working}
+use Rattle.format.specs.Fields.{pick}
+use Rattle.format.specs.Records.{size, kind, next, need}
+use Rattle.format.specs.StepForms.{child, stepAt, childInRange}
+use Rattle.format.specs.Reading.{proving, taking, stepFault, fault}
+use Rattle.format.specs.Checking.{nth, allTried, takenTried, checker}
+use Rattle.steps.specs.Offered.{offered}
+use Rattle.steps.proofs.Faults.{applies, neither-applies}
+use Rattle.derivation.specs.State.{offeredIn}
+use Rattle.claims.specs.Numbers.{lastNumber, openNumber}
+
+-- ---- where a branch is open
+
+-- a number at a record that is no step stands whatever a step comes to
+open-other : (x y : Bool) (f last step : ℕ) → f ≡ pick x last (need 4 y 0) → (f ≡ 0 → ⊥) → f ≡ pick x last (need 4 y step)
+open-other true y f last step e n = e
+open-other false true f last step e n = absurd (n e)
+open-other false false f last step e n = e
+
+end-some : (x y : Bool) → need 4 x (need 5 y 11) ≡ 0 → ⊥
+end-some true true e = omega arith
+end-some true false e = omega arith
+end-some false y e = omega arith
+
+-- no number: a step
+pub open-step : (n to k m step : ℕ) → openNumber n to k m step ≡ 0 → k ≡ 6
+open-step n to k m step e = go (eqb k 8) (eqb k 6) refl e
+  where
+    go : (x y : Bool) → eqb k 6 ≡ y → pick x (lastNumber n to m 11) (need 4 y step) ≡ 0 → k ≡ 6
+    go true y h e = absurd (end-some (eqb to n) (eqb m 0) e)
+    go false true h e = eqb-true k 6 h
+    go false false h e = absurd (omega arith)
+
+at-step : (n to k m step : ℕ) → k ≡ 6 → openNumber n to k m step ≡ step
+at-step n to k m step e = rw e
+
+-- ---- claim 1, at a whole record
+
+module _ (b : List ℕ) (u : Question) (br : Branch) (ss : List (Waiting Branch (List Fact))) (at : ℕ) (h : next b at ≤ length b) where
+  abbrev walkFault : ℕ
+  walkFault = fault (checker u) b u (proving (working br ss)) at
+
+  abbrev formOne : ℕ → ℕ
+  formOne later = stepFault b u (eqb (child b (at + 6)) 0) later (at + 6) (size b at)
+
+  walk-fault : walkFault ≡ openNumber (length b) (next b at) (kind b at) (size b at) (formOne (allTried br (length ss) (offeredIn b u br at)))
+  unfolding fault offered
+  walk-fault = rw (le-leb (next b at) (length b) h)
+
+  -- no number: a step
+  pub walk-kind : walkFault ≡ 0 → kind b at ≡ 6
+  walk-kind e = open-step (length b) (next b at) (kind b at) (size b at) _ (sym walk-fault ∙ e)
+
+  pub walk-place : (f : ℕ) → f ≡ openNumber (length b) (next b at) (kind b at) (size b at) 0 → (f ≡ 0 → ⊥) → f ≡ walkFault
+  walk-place f e n = open-other (eqb (kind b at) 8) (eqb (kind b at) 6) f _ _ e n ∙ sym walk-fault
+
+  module _ (k : kind b at ≡ 6) where
+    walk-formed : walkFault ≡ formOne (allTried br (length ss) (offeredIn b u br at))
+    walk-formed = walk-fault ∙ at-step (length b) (next b at) (kind b at) (size b at) _ k
+
+    pub walk-form : (f : ℕ) → f ≡ formOne 0 → (f ≡ 0 → ⊥) → f ≡ walkFault
+    walk-form f e n = applies b u (eqb (child b (at + 6)) 0) (at + 6) (size b at) f _ e n ∙ sym walk-formed
+
+    pub walk-step : 0 ≡ formOne 0 → allTried br (length ss) (offeredIn b u br at) ≡ walkFault
+    walk-step e = neither-applies b u (eqb (child b (at + 6)) 0) (at + 6) (size b at) _ e ∙ sym walk-formed
+
+-- ---- claim 2, at a whole record that is no model
+
+module _ (b : List ℕ) (u : Question) (br : Branch) (at : ℕ) (h : next b at ≤ length b) (k7 : kind b at ≡ 7 → ⊥) where
+  abbrev pathFault : ℕ
+  pathFault = fault (checker u) b u (taking br) at
+
+  abbrev itsChild : Bool
+  itsChild = childInRange (u .n) (stepAt b (at + 6) (size b at)) (child b (at + 6))
+
+  abbrev formTwo : ℕ → ℕ
+  formTwo later = stepFault b u itsChild later (at + 6) (size b at)
+
+  abbrev tried : ℕ
+  tried = takenTried br (nth (offered b u br (at + 6) (size b at)) (child b (at + 6)))
+
+  no-model : (y : Bool) (step later : ℕ) → pick y step (need 4 false later) ≡ need 4 y step
+  no-model true step later = refl
+  no-model false step later = refl
+
+  path-fault : pathFault ≡ openNumber (length b) (next b at) (kind b at) (size b at) (formTwo tried)
+  unfolding fault offered
+  path-fault = rw (le-leb (next b at) (length b) h, ne-eqb (kind b at) 7 k7) (ap (λ f. pick (eqb (kind b at) 8) (lastNumber (length b) (next b at) (size b at) 11) f) (no-model (eqb (kind b at) 6) _ 0))
+
+  -- no number: a step
+  pub path-kind : pathFault ≡ 0 → kind b at ≡ 6
+  path-kind e = open-step (length b) (next b at) (kind b at) (size b at) _ (sym path-fault ∙ e)
+
+  pub path-place : (f : ℕ) → f ≡ openNumber (length b) (next b at) (kind b at) (size b at) 0 → (f ≡ 0 → ⊥) → f ≡ pathFault
+  path-place f e n = open-other (eqb (kind b at) 8) (eqb (kind b at) 6) f _ _ e n ∙ sym path-fault
+
+  module _ (k : kind b at ≡ 6) where
+    path-formed : pathFault ≡ formTwo tried
+    path-formed = path-fault ∙ at-step (length b) (next b at) (kind b at) (size b at) _ k
+
+    pub path-form : (f : ℕ) → f ≡ formTwo 0 → (f ≡ 0 → ⊥) → f ≡ pathFault
+    path-form f e n = applies b u itsChild (at + 6) (size b at) f _ e n ∙ sym path-formed
+
+    pub path-step : 0 ≡ formTwo 0 → tried ≡ pathFault
+    path-step e = neither-applies b u itsChild (at + 6) (size b at) _ e ∙ sym path-formed

@@ -1,0 +1,95 @@
+-- One whole record on an open branch, of a kind k and with a body of m bytes: what its tests say.
+use Prim.Native.Nat.{ℕ, zero, suc, _+_, _≤_}
+use mathlib.Core.Path.{_≡_, refl, sym, _∙_, ap, ap₂}
+use mathlib.Core.Bool.{Bool, true}
+use mathlib.Core.List.{List, _++_}
+use lib.ListN.{length}
+use lib.Dec.{eqb}
+use Rattle.calculus.specs.Facts.{Question, Fact, Branch}
+use Rattle.calculus.specs.Walk.{Waiting, Walk, enter}
+use Rattle.format.specs.Records.{size, kind}
+use Rattle.format.specs.StepForms.{child, stepAt, childInRange}
+use Rattle.format.specs.Reading.{taking, stepFault, fault}
+use Rattle.format.specs.Checking.{nth, takenTried, checker}
+use Rattle.steps.specs.Forms.{Formed}
+use Rattle.steps.specs.Offered.{offered}
+use Rattle.steps.proofs.Faults.{formed, child-passed}
+use Rattle.derivation.specs.State.{childrenOn}
+use Rattle.derivation.specs.Moves.{refused, movedBy, stepOn}
+use Rattle.claims.specs.Numbers.{openNumber}
+use Rattle.claims.specs.Outcomes.{recordOn}
+use Rattle.claims.proofs.Found.{all-there}
+use Rattle.claims.proofs.Numbers.{open-step, walk-place, walk-form, walk-step, path-place, path-form, path-step}
+
+by-number : (f g : ℕ) (w : Walk Branch (List Fact)) → f ≡ g → (f ≡ 0 → ⊥) → refused f ≡ movedBy g w
+by-number zero g w e n = absurd (n refl)
+by-number (suc f) g w e n = ap (λ c. movedBy c w) e
+
+module _ (b : List ℕ) (u : Question) (at k m : ℕ) (w : (k ≡ kind b at) × (m ≡ size b at) × (at + 6 + m ≤ length b)) where
+  abbrev placeOf : ℕ
+  placeOf = openNumber (length b) (at + 6 + m) k m 0
+
+  by-record : placeOf ≡ openNumber (length b) (at + 6 + size b at) (kind b at) (size b at) 0
+  by-record = ap₂ (λ j n. openNumber (length b) (at + 6 + n) j n 0) (w .0) (w .1)
+
+  is-step : 0 ≡ placeOf → kind b at ≡ 6
+  is-step e = sym (w .0) ∙ open-step (length b) (at + 6 + m) k m 0 (sym e)
+
+  module _ (ok : Bool) where
+    -- the step's form is proper
+    pub its-form : 0 ≡ stepFault b u ok 0 (at + 6) m → Formed b u (at + 6) m
+    its-form e = formed b u ok (at + 6) m (w .2) e
+
+  -- ---- claim 1
+
+  abbrev formOne : ℕ
+  formOne = stepFault b u (eqb (child b (at + 6)) 0) 0 (at + 6) m
+
+  one-same : formOne ≡ stepFault b u (eqb (child b (at + 6)) 0) 0 (at + 6) (size b at)
+  one-same = ap (stepFault b u (eqb (child b (at + 6)) 0) 0 (at + 6)) (w .1)
+
+  module _ (br : Branch) (ss : List (Waiting Branch (List Fact))) where
+    pub record-place : (f : ℕ) → f ≡ placeOf → (f ≡ 0 → ⊥) → refused f ≡ recordOn b u br ss at
+    unfolding recordOn
+    record-place f e n = by-number f _ _ (walk-place b u br ss at (all-there b at k m w) f (e ∙ by-record) n) n
+
+    pub record-form : 0 ≡ placeOf → (f : ℕ) → f ≡ formOne → (f ≡ 0 → ⊥) → refused f ≡ recordOn b u br ss at
+    unfolding recordOn
+    record-form p f e n = by-number f _ _ (walk-form b u br ss at (all-there b at k m w) (is-step p) f (e ∙ one-same) n) n
+
+    pub record-step : 0 ≡ placeOf → 0 ≡ formOne → stepOn b u br ss at ≡ recordOn b u br ss at
+    unfolding recordOn stepOn
+    record-step p e = ap (λ f. movedBy f (enter _++_ br (childrenOn b u br at) ss)) (walk-step b u br ss at (all-there b at k m w) (is-step p) (e ∙ one-same))
+
+  -- ---- claim 2, at no model
+
+  abbrev childOk : Bool
+  childOk = childInRange (u .n) (stepAt b (at + 6) m) (child b (at + 6))
+
+  abbrev formTwo : ℕ
+  formTwo = stepFault b u childOk 0 (at + 6) m
+
+  two-same : formTwo ≡ stepFault b u (childInRange (u .n) (stepAt b (at + 6) (size b at)) (child b (at + 6))) 0 (at + 6) (size b at)
+  two-same = ap (λ n. stepFault b u (childInRange (u .n) (stepAt b (at + 6) n) (child b (at + 6))) 0 (at + 6) n) (w .1)
+
+  -- its child is in range
+  pub its-child : 0 ≡ formTwo → childOk ≡ true
+  its-child e = child-passed b u childOk (at + 6) m e
+
+  module _ (br : Branch) (k7 : k ≡ 7 → ⊥) where
+    abbrev pathFault : ℕ
+    pathFault = fault (checker u) b u (taking br) at
+
+    no-model : kind b at ≡ 7 → ⊥
+    no-model e = k7 (w .0 ∙ e)
+
+    pub taken-place : (f : ℕ) → f ≡ placeOf → (f ≡ 0 → ⊥) → f ≡ pathFault
+    taken-place f e n = path-place b u br at (all-there b at k m w) no-model f (e ∙ by-record) n
+
+    pub taken-form : 0 ≡ placeOf → (f : ℕ) → f ≡ formTwo → (f ≡ 0 → ⊥) → f ≡ pathFault
+    taken-form p f e n = path-form b u br at (all-there b at k m w) no-model (is-step p) f (e ∙ two-same) n
+
+    pub taken-step : 0 ≡ placeOf → 0 ≡ formTwo → takenTried br (nth (offered b u br (at + 6) m) (child b (at + 6))) ≡ pathFault
+    taken-step p e =
+        ap (λ n. takenTried br (nth (offered b u br (at + 6) n) (child b (at + 6)))) (w .1)
+        ∙ path-step b u br at (all-there b at k m w) no-model (is-step p) (e ∙ two-same)

@@ -1,0 +1,48 @@
+-- What the code says of the records behind the claim, in the definitions of the format.
+use Prim.Native.Nat.{ℕ, _≤_}
+use mathlib.Core.Path.{_≡_}
+use mathlib.Core.List.{List, _++_}
+use lib.ListN.{length}
+use lib.IntN.{ℤ}
+use Rattle.calculus.specs.Facts.{Question, Fact, Branch}
+use Rattle.calculus.specs.Walk.{Waiting, working, closed, enter}
+use Rattle.format.specs.Records.{kind, next, records}
+use Rattle.format.specs.Reading.{proving, taking, fault, Ticket, Faulty, readSteps}
+use Rattle.format.specs.Checking.{checker}
+use Rattle.rows.specs.Rows.{branchOf}
+use Rattle.rows.specs.Work.{Fine}
+use Rattle.derivation.specs.State.{childrenOn}
+use Rattle.derivation.specs.Moves.{Moved, movedBy}
+use Rattle.claims.specs.declared.Walked as walked
+use Rattle.claims.specs.declared.Walked.{Walked}
+use Rattle.claims.specs.declared.Followed as followed
+use Rattle.claims.specs.declared.Followed.{Followed}
+
+-- ---- claim 1
+
+-- the record at a position on an open branch with its pending splits
+unfoldable pub recordOn : List ℕ → Question → Branch → List (Waiting Branch (List Fact)) → ℕ → Moved
+recordOn b u br ss at = movedBy (fault (checker u) b u (proving (working br ss)) at) (enter _++_ br (childrenOn b u br at) ss)
+
+-- refused, or every branch is closed and reading goes on at a position and record
+unfoldable pub walkedOf : List ℕ → Question → Walked → Ticket Branch (List Fact)
+walkedOf b u (walked.the-variants.Refused c r) = Faulty c r
+walkedOf b u (walked.the-variants.Closed at r) = readSteps (checker u) b u (proving closed) r (records b at)
+
+-- ---- claim 2
+
+-- refused, or reading goes on at the model's record, on the branch of the first count rows
+unfoldable pub followedOf : List ℕ → Question → List ℤ → Followed → Ticket Branch (List Fact)
+followedOf b u w (followed.the-variants.Refused c r) = Faulty c r
+followedOf b u w (followed.the-variants.Model at r count) = readSteps (checker u) b u (taking (branchOf w count)) r (records b at)
+
+-- the model's record is all there, and the rows are in order
+pub record Modelled (b : List ℕ) (w : List ℤ) (at r count : ℕ) : Type 0 where
+  pub model : kind b at ≡ 7
+  pub whole : next b at ≤ length b
+  pub fine : Fine w count
+  pub low : r ≤ at
+
+unfoldable pub LeafAt : List ℕ → List ℤ → Followed → Type 0
+LeafAt b w (followed.the-variants.Refused c r) = Unit {0}
+LeafAt b w (followed.the-variants.Model at r count) = Modelled b w at r count

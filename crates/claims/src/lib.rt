@@ -1,0 +1,235 @@
+// The records behind the question: the claim, claim 1's walk over every branch, claim 2's path to its leaf, and the end.
+ghost use mathlib.Core.Path.{_≡_};
+ghost use mathlib.Core.List.{[], _++_};
+ghost use Prim.Native.Nat.{_+_, _≤_};
+ghost use lib.ListN.{length};
+ghost use Rattle.calculus.specs.Walk.{working};
+ghost use Rattle.format.specs.Records.{size as sizeAt, kind as kindAt, records};
+ghost use Rattle.format.specs.StepForms.{child};
+ghost use Rattle.format.specs.Reading.{proving, taking, fault, readSteps, claimFault};
+ghost use Rattle.format.specs.Checking.{checker};
+ghost use Rattle.rows.specs.Rows.{branchOf};
+ghost use Rattle.rows.specs.Work.{Fine};
+ghost use Rattle.question.specs.Progress.{progressOf};
+ghost use Rattle.question.specs.Posed.{asked, Posed};
+ghost use Rattle.steps.specs.Offered.{offeredChild};
+ghost use Rattle.branch.specs.Stack.{stack};
+ghost use Rattle.derivation.specs.State.{waitings};
+ghost use Rattle.derivation.specs.Moves.{Holds, steppedOf, OkStepped};
+ghost use Rattle.claims.specs.Numbers.{lastNumber, openNumber, endNumber};
+ghost use Rattle.claims.specs.Outcomes.{recordOn, walkedOf, followedOf, LeafAt};
+use branch::Branch;
+use derivation::Stepped;
+use derivation::Verdict;
+use derivation::take_step;
+use question::Progress;
+use records::Found;
+use records::read_at;
+use records::u16_at;
+use rules::Taken;
+use rules::take_child;
+use steps::step_fault_one;
+use steps::step_fault_two;
+
+// ---- the claim
+
+// "5 claim, once: u16, 1 for no solution, 2 for strings"
+pub fn claim_fault(ticket: &[u8], s: Progress, at: usize) -> usize
+    ensures { λ r. ⌜ r ≡ claimFault (now (ticket .entry)) (progressOf (now (ticket .entry)) s) at ⌝ }
+{
+    let Found::Whole(kind, size) = read_at(ticket, at) else {
+        return 3;
+    };
+    if s.last < 1 {
+        return 4;
+    }
+    if kind != 5 {
+        return 4;
+    }
+    if size != 2 {
+        return 5;
+    }
+    let claim = u16_at(ticket, at + 6);
+    if claim < 1 {
+        return 6;
+    }
+    if 2 < claim {
+        return 6;
+    }
+    0
+}
+
+// ---- the end
+
+// An end record that ends at a position, in a ticket of so many bytes: "a byte follows the end record, counted at that end record".
+fn last_fault(length: usize, to: usize, size: usize, later: usize) -> usize
+    ensures { λ r. ⌜ r ≡ lastNumber length to size later ⌝ }
+{
+    if to != length {
+        return 4;
+    }
+    if size != 0 {
+        return 5;
+    }
+    later
+}
+
+// The number at the record that must be the end, behind the last closed branch or a model; 0 for none.
+pub fn end_number(ticket: &[u8], at: usize) -> usize
+    ensures { λ r. ⌜ r ≡ endNumber (now (ticket .entry)) at ⌝ }
+{
+    let Found::Whole(kind, size) = read_at(ticket, at) else {
+        return 3;
+    };
+    if kind != 8 {
+        return 4;
+    }
+    last_fault(ticket.len(), at + 6 + size, size, 0)
+}
+
+// A record where a branch is open, 0 at a step: "11 when the end comes before every branch closed, or before a model".
+fn open_fault(length: usize, to: usize, kind: usize, size: usize) -> usize
+    ensures { λ r. ⌜ r ≡ openNumber length to kind size 0 ⌝ }
+{
+    if kind == 8 {
+        return last_fault(length, to, size, 11);
+    }
+    if kind == 6 { 0 } else { 4 }
+}
+
+// ---- claim 1: every branch is walked until it closes
+
+// One whole record on an open branch.
+fn walk_record(
+    ticket: &[u8],
+    s: Progress,
+    at: usize,
+    kind: usize,
+    size: usize,
+    work: &mut [i64],
+    b: Branch,
+) -> Stepped
+    requires { ⌜ Holds (now ticket) s (now work) b ⌝ }
+    requires { ⌜ (kind ≡ kindAt (now ticket) at) × (size ≡ sizeAt (now ticket) at) × (at + 6 + size ≤ length (now ticket)) ⌝ }
+    ensures stepped { λ r. ⌜ steppedOf (now (ticket .entry)) (asked (now (ticket .entry)) s) (now (work .exit)) r ≡ recordOn (now (ticket .entry)) (asked (now (ticket .entry)) s) (branchOf (now (work .entry)) (b .count)) (waitings (now (ticket .entry)) (asked (now (ticket .entry)) s) (branchOf (now (work .entry)) (b .count)) (stack b)) at ⌝ }
+    ensures ok { λ r. ⌜ OkStepped (now (ticket .entry)) (asked (now (ticket .entry)) s) (now (work .exit)) r ⌝ }
+{
+    let place = open_fault(ticket.len(), at + 6 + size, kind, size);
+    if place != 0 {
+        return Stepped {
+            verdict: Verdict::Refused(place),
+            branch: b,
+        };
+    }
+    let form = step_fault_one(ticket, s, at + 6, size);
+    if form != 0 {
+        return Stepped {
+            verdict: Verdict::Refused(form),
+            branch: b,
+        };
+    }
+    take_step(ticket, s, at, size, work, b)
+}
+
+// Refused: the number and the record. Closed: every branch is closed; the position and the number of the record behind.
+pub enum Walked {
+    Refused(usize, usize),
+    Closed(usize, usize),
+}
+
+// The records from the one behind the claim, record r at a position, on the question's constraints.
+pub fn walk(ticket: &[u8], s: Progress, at: usize, r: usize, work: &mut [i64]) -> Walked
+    requires { ⌜ Posed (now ticket) s ⌝ }
+    requires { ⌜ Fine (now work) (s .constraints) × (branchOf (now work) (s .constraints) ≡ asked (now ticket) s .constraints) ⌝ }
+    requires { ⌜ r ≤ at ⌝ }
+    ensures { λ x. ⌜ walkedOf (now (ticket .entry)) (asked (now (ticket .entry)) s) x ≡ readSteps (checker (asked (now (ticket .entry)) s)) (now (ticket .entry)) (asked (now (ticket .entry)) s) (proving (working (asked (now (ticket .entry)) s .constraints) [])) r (records (now (ticket .entry)) at) ⌝ }
+{
+    let mut b = Branch::new(s.constraints);
+    let mut i = at;
+    let mut k = r;
+    loop {
+        let Found::Whole(kind, size) = read_at(ticket, i) else {
+            return Walked::Refused(3, k);
+        };
+        let done = walk_record(ticket, s, i, kind, size, work, b);
+        let verdict = done.verdict;
+        let next = done.branch;
+        i = i + 6 + size;
+        match verdict {
+            Verdict::Refused(c) => return Walked::Refused(c, k),
+            Verdict::Closed => return Walked::Closed(i, k + 1),
+            Verdict::Next => {
+                b = next;
+                k += 1;
+            }
+        }
+    }
+}
+
+// ---- claim 2: the branch of the children taken
+
+// One whole record, no model, on the branch of the first rows.
+fn follow_record(
+    ticket: &[u8],
+    s: Progress,
+    at: usize,
+    kind: usize,
+    size: usize,
+    work: &mut [i64],
+    count: usize,
+) -> Taken
+    requires { ⌜ Posed (now ticket) s ⌝ }
+    requires { ⌜ Fine (now work) count ⌝ }
+    requires { ⌜ (kind ≡ kindAt (now ticket) at) × (size ≡ sizeAt (now ticket) at) × (at + 6 + size ≤ length (now ticket)) × (kind ≡ 7 → ⊥) ⌝ }
+    ensures fault { λ r. ⌜ r .fault ≡ fault (checker (asked (now (ticket .entry)) s)) (now (ticket .entry)) (asked (now (ticket .entry)) s) (taking (branchOf (now (work .entry)) count)) at ⌝ }
+    ensures added { λ r. ⌜ (r .fault ≡ 0 → branchOf (now (work .exit)) (r .count) ≡ branchOf (now (work .entry)) count ++ offeredChild (now (ticket .entry)) (asked (now (ticket .entry)) s) (branchOf (now (work .entry)) count) (at + 6) size (child (now (ticket .entry)) (at + 6))) ⌝ }
+    ensures fine { λ r. ⌜ (r .fault ≡ 0 → Fine (now (work .exit)) (r .count)) ⌝ }
+{
+    let place = open_fault(ticket.len(), at + 6 + size, kind, size);
+    if place != 0 {
+        return Taken {
+            fault: place,
+            count,
+        };
+    }
+    let form = step_fault_two(ticket, s, at + 6, size);
+    if form != 0 {
+        return Taken { fault: form, count };
+    }
+    take_child(ticket, s, at + 6, size, work, count)
+}
+
+// Refused: the number and the record. Model: the position and the number of the model's record, and how many facts stand on the branch.
+pub enum Followed {
+    Refused(usize, usize),
+    Model(usize, usize, usize),
+}
+
+// The records from the one behind the claim, record r at a position, on the question's constraints, up to a whole model's record.
+pub fn follow(ticket: &[u8], s: Progress, at: usize, r: usize, work: &mut [i64]) -> Followed
+    requires { ⌜ Posed (now ticket) s ⌝ }
+    requires { ⌜ Fine (now work) (s .constraints) × (branchOf (now work) (s .constraints) ≡ asked (now ticket) s .constraints) ⌝ }
+    requires { ⌜ r ≤ at ⌝ }
+    ensures followed { λ x. ⌜ followedOf (now (ticket .entry)) (asked (now (ticket .entry)) s) (now (work .exit)) x ≡ readSteps (checker (asked (now (ticket .entry)) s)) (now (ticket .entry)) (asked (now (ticket .entry)) s) (taking (asked (now (ticket .entry)) s .constraints)) r (records (now (ticket .entry)) at) ⌝ }
+    ensures leaf { λ x. ⌜ LeafAt (now (ticket .entry)) (now (work .exit)) x ⌝ }
+{
+    let mut count = s.constraints;
+    let mut i = at;
+    let mut k = r;
+    loop {
+        let Found::Whole(kind, size) = read_at(ticket, i) else {
+            return Followed::Refused(3, k);
+        };
+        if kind == 7 {
+            return Followed::Model(i, k, count);
+        }
+        let taken = follow_record(ticket, s, i, kind, size, work, count);
+        let fault = taken.fault;
+        if fault != 0 {
+            return Followed::Refused(fault, k);
+        }
+        count = taken.count;
+        i = i + 6 + size;
+        k += 1;
+    }
+}

@@ -1,0 +1,20 @@
+-- The constraints go into their rows one by one: those loaded and those left are the question's.
+use Prim.Native.Nat.{ℕ, zero, suc, _+_, _-_, _≤_, _<_}
+use native.Mathlib.Omega.{arith}
+use mathlib.Core.Path.{_≡_}
+use mathlib.Core.List.{List, [], _∷_, _++_, append-assoc, append-nil}
+use Rattle.calculus.specs.Facts.{Branch}
+use Rattle.format.specs.Records.{size, kind, next}
+use Rattle.format.specs.Question.{constraintOf}
+use Rattle.format.specs.Places.{constraintsAt}
+
+pub loaded-more : (b : List ℕ) (at left : ℕ) (br : Branch) → 0 < left
+    → (br ++ (constraintOf b (kind b at) (at + 6) (size b at) ∷ [])) ++ constraintsAt b (left - 1) (next b at) ≡ br ++ constraintsAt b left at
+unfolding constraintsAt
+loaded-more b at zero br h = absurd (omega arith)
+loaded-more b at (suc left) br h = let e : suc left - 1 ≡ left = omega arith in rw (append-assoc, e)
+
+pub loaded-all : (b : List ℕ) (at left : ℕ) (br : Branch) → left ≤ 0 → br ++ constraintsAt b left at ≡ br
+unfolding constraintsAt
+loaded-all b at zero br h = append-nil br
+loaded-all b at (suc left) br h = absurd (omega arith)

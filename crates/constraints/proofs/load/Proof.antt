@@ -1,0 +1,151 @@
+-- `constraints::load` meets its contract. What is loaded and what is left are the question's constraints.
+use Prim.Native.Nat.{ℕ, _+_, _-_, _≤_}
+use borrow.Author.Needs.{needs}
+use denote.Ref.{now}
+use lib.IntN.{ℤ}
+use lib.ListN.{length}
+use mathlib.Core.List.{List, [], _∷_, _++_}
+use mathlib.Core.Path.{_∙_, _≡_, ap, ap₂, refl, sym, subst}
+use native.Mathlib.Numerals.{add-one}
+use native.Mathlib.Omega.{arith}
+use Rattle.calculus.specs.Facts.{Fact}
+use Rattle.format.proofs.Places.{skip-snoc}
+use Rattle.format.specs.Places.{constraintsAt, skip}
+use Rattle.format.specs.Question.{constraintOf}
+use Rattle.format.specs.Records.{kind, next, size}
+use Rattle.question.proofs.Standing.{literals-within}
+use Rattle.question.specs.Posed.{asked}
+use Rattle.question.specs.Standing.{ConstraintAt}
+use Rattle.rows.proofs.Small.{fine-put, fine-start}
+use Rattle.rows.specs.Rows.{branchOf, factOf}
+use Rattle.rows.specs.Work.{Fine}
+use Rattle.constraints.specs.Constraints.{constraintFault}
+use Rattle.constraints.proofs.Loading.{loaded-all, loaded-more}
+use Rattle.constraints.proofs.Ranges.{constraint-formed, constraint-within}
+use Rattle.constraints.proofs.load.Statement.{statement}
+use Rattle.constraints.proofs.load.Tie as tie
+
+abbrev Inv-loop : tie.InvT-loop
+Inv-loop ticket work₀ count at₀ k₀ work at k =
+    (k ≤ count) × (at ≡ skip ticket k at₀) × (length work ≡ length work₀) × Fine work k
+    × (branchOf work k ++ constraintsAt ticket (count - k) at ≡ constraintsAt ticket count at₀)
+
+abbrev μ-loop : tie.MeasureT-loop
+μ-loop ticket work₀ count at₀ k₀ work at k = count - k
+
+behind-literals-requires : tie.Need-behind-literals-requires Inv-loop μ-loop
+behind-literals-requires c κs =
+    let s = c .before in
+    literals-within (now (s .args .ticket)) (s .args .s) (s .pre .0 .to) (s .args .s .literals) (s .pre .0 .stands) (s .pre .0 .head) (omega arith)
+
+loop-holds : tie.Need-loop-holds Inv-loop μ-loop
+unfolding skip branchOf
+loop-holds c =
+    let s = c .before .before in
+    let e : s .args .s .constraints - 0 ≡ s .args .s .constraints = omega arith in
+    (omega arith, refl, refl, fine-start (now (s .args .work)) (s .pre .1), rw e)
+
+-- the record in turn
+stands : (c : tie.In-loop Inv-loop μ-loop) → ConstraintAt (now (c .before .before .before .before .args .ticket)) (c .before .before .before .before .args .s .p) (c .before .before .before .before .args .s .q) (c .before .before .before .before .args .s .literals) (c .before .loop .at)
+stands c =
+    let s = c .before .before .before .before in
+    rw (c .before .loop .inv .1, c .before .before .behind-literals .ensures) (s .pre .0 .stands .constraints-stand (c .before .loop .k) (omega arith))
+
+formed : (c : tie.In-loop Inv-loop μ-loop) → constraintFault (now (c .before .before .before .before .args .ticket)) (kind (now (c .before .before .before .before .args .ticket)) (c .before .loop .at)) (c .before .loop .at + 6) (size (now (c .before .before .before .before .args .ticket)) (c .before .loop .at)) ≡ 0
+formed c =
+    let s = c .before .before .before .before in
+    let h = s .pre .0 .stands in
+    constraint-formed (now (s .args .ticket)) (s .args .s .p) (s .args .s .q) (s .args .s .literals) (c .before .loop .at) (h .few-strings) (h .few-integers) (h .few-literals) (stands c)
+
+u32-at-requires : tie.Need-u32-at-requires Inv-loop μ-loop
+u32-at-requires c κs = omega (arith, stands c .whole)
+
+add-u16-at : tie.Need-add-u16-at Inv-loop μ-loop
+add-u16-at c = omega (arith, stands (c .before) .whole)
+
+u16-at-requires : tie.Need-u16-at-requires Inv-loop μ-loop
+u16-at-requires c κs = omega (arith, stands (c .before) .whole)
+
+add-constraint-row : tie.Need-add-constraint-row Inv-loop μ-loop
+add-constraint-row c = omega (arith, stands (c .before .before) .whole)
+
+constraint-row-requires : tie.Need-constraint-row-requires Inv-loop μ-loop
+constraint-row-requires c κs =
+    rw (c .u16-at .ensures .0, c .before .u32-at .ensures .0) (omega (arith, stands (c .before .before) .whole), formed (c .before .before))
+
+put-row-requires : tie.Need-put-row-requires Inv-loop μ-loop
+put-row-requires c κs =
+    let l = c .before .before .before .before .before .loop in
+    let s = c .before .before .before .before .before .before .before .before in
+    (omega (arith, s .pre .0 .stands .few-constraints), l .inv .3 .room)
+
+add-at : tie.Need-add-at Inv-loop μ-loop
+add-at c = omega (arith, stands (c .before .before .before .before .before .before) .whole)
+
+add-at-2 : tie.Need-add-at-2 Inv-loop μ-loop
+add-at-2 c = omega (arith, stands (c .before .before .before .before .before .before) .whole, c .before .before .before .before .before .u32-at .ensures .0)
+
+add-k : tie.Need-add-k Inv-loop μ-loop
+add-k c = search needs
+
+loop-less : tie.Need-loop-less Inv-loop μ-loop
+loop-less c = search needs
+
+loop-again : tie.Need-loop-again Inv-loop μ-loop
+loop-again c =
+    let l = c .before .before .before .before .before .before .before .loop in
+    let s = c .before .before .before .before .before .before .before .before .before .before in
+    let b : List ℕ = now (s .args .ticket) in
+    let from : ℕ = c .before .before .before .before .before .before .before .before .behind-literals .result in
+    let v : List ℤ = c .before .put-row .last .0 in
+    let f : Fact = constraintOf b (kind b (l .at)) (l .at + 6) (size b (l .at)) in
+    let size-is : c .before .before .before .before .before .u32-at .result ≡ size b (l .at) = c .before .before .before .before .before .u32-at .ensures .0 in
+    let fact-is : factOf (c .before .before .before .constraint-row .result) ≡ f =
+    c .before .before .before .constraint-row .ensures ∙ ap₂ (λ (k m : ℕ). constraintOf b k (l .at + 6) m) (c .before .before .before .before .u16-at .ensures .0) size-is in
+    let put : branchOf v (l .k + 1) ≡ branchOf (l .work) (l .k) ++ (f ∷ []) = c .before .put-row .ensures ∙ ap (λ (x : Fact). branchOf (l .work) (l .k) ++ (x ∷ [])) fact-is in
+    let kept : length v ≡ length (l .work) = c .before .put-row .kept .0 in
+    let less : s .args .s .constraints - l .k - 1 ≡ s .args .s .constraints - (l .k + 1) = omega arith in
+    let few = s .pre .0 .stands .few-constraints in
+    rw size-is (
+      omega arith,
+      ap (next b) (l .inv .1) ∙ sym (skip-snoc b (l .k) from) ∙ ap (λ (k : ℕ). skip b k from) (sym (add-one (l .k))),
+      kept ∙ l .inv .2,
+      fine-put (l .work) v (l .k) f (l .inv .3) (omega arith) kept put (constraint-within b (kind b (l .at)) (l .at + 6) (size b (l .at)) (formed (c .before .before .before .before .before .before))),
+      rw (put, ← less) (loaded-more b (l .at) (s .args .s .constraints - l .k) (branchOf (l .work) (l .k)) (omega arith)) ∙ l .inv .4,
+    )
+
+same-length : tie.Need-same-length Inv-loop μ-loop
+same-length c = c .before .loop .inv .2
+
+returns : tie.Need-returns Inv-loop μ-loop
+unfolding asked
+returns c =
+    let l = c .before .loop in
+    let s = c .before .before .before .before .args in
+    let e : l .k ≡ s .s .constraints = omega arith in
+    let all : branchOf (l .work) (l .k) ≡ constraintsAt (now (s .ticket)) (s .s .constraints) (c .before .before .behind-literals .result) = sym (loaded-all (now (s .ticket)) (l .at) (s .s .constraints - l .k) (branchOf (l .work) (l .k)) (omega arith)) ∙ l .inv .4 in (
+      ap (branchOf (l .work)) (sym e) ∙ all ∙ ap (constraintsAt (now (s .ticket)) (s .s .constraints)) (c .before .before .behind-literals .ensures),
+      subst (Fine (l .work)) e (l .inv .3),
+    )
+
+pub load-spec : {M : Type 1} → statement M
+load-spec =
+    tie.close
+    (tie.spec
+    Inv-loop
+    μ-loop
+    behind-literals-requires
+    loop-holds
+    u32-at-requires
+    add-u16-at
+    u16-at-requires
+    add-constraint-row
+    constraint-row-requires
+    put-row-requires
+    add-at
+    add-at-2
+    add-k
+    loop-less
+    loop-again
+    same-length
+    returns)

@@ -1,0 +1,99 @@
+-- A closed branch in the work area: "cut back to the mark of its last pending split", whose next child begins.
+use Prim.Native.Nat.{ℕ, _+_, _-_, _≤_, _<_}
+use native.Mathlib.Omega.{arith}
+use mathlib.Core.Path.{_≡_, sym, _∙_, ap, ap₂, subst}
+use mathlib.Core.List.{List, _∷_, _++_}
+use lib.ListN.{length, take}
+use lib.IntN.{ℤ}
+use Rattle.calculus.specs.Facts.{Branch}
+use Rattle.calculus.specs.Walk.{closed, cutBack}
+use Rattle.format.specs.Records.{size}
+use Rattle.rows.specs.Rows.{branchOf}
+use Rattle.rows.specs.Work.{Fine}
+use Rattle.rows.proofs.Branches.{length-branch, branch-take}
+use Rattle.question.specs.declared.Progress.{Progress}
+use Rattle.question.specs.Posed.{asked}
+use Rattle.steps.specs.Offered.{offeredChild}
+use Rattle.branch.specs.declared.Split.{Split}
+use Rattle.branch.specs.declared.Branch as code
+use Rattle.branch.specs.Stack.{lastFirst, stack, latestOf, begunOf}
+use Rattle.branch.proofs.Stacks.{stack-top, length-stack}
+use Rattle.derivation.specs.State.{childOn, waitings, walkOf, stateOf}
+use Rattle.derivation.specs.Ok.{Splits, Pends, Ok}
+use Rattle.derivation.specs.Moves.{moved, Holds}
+use Rattle.derivation.proofs.Pending.{its-pends, within-take, ok-begun}
+use Rattle.derivation.proofs.Walks.{cut-back}
+use Rattle.derivation.proofs.Holding.{few-facts, Puts, puts}
+
+-- with none pending, the last branch is closed
+pub none-left : (b : List ℕ) (s : Progress) (w : List ℤ) (c : code.Branch) → c .depth ≡ 0 → moved closed ≡ moved (cutBack _++_ (waitings b (asked b s) (branchOf w (c .count)) (stack c)))
+unfolding stack lastFirst waitings
+none-left b s w c e = ap (λ (d : ℕ). moved (cutBack _++_ (waitings b (asked b s) (branchOf w (c .count)) (lastFirst d (c .splits))))) (sym e)
+
+pub open-depth : (c : code.Branch) → (c .depth ≡ 0 → ⊥) → 0 < c .depth
+open-depth c n = omega arith
+
+-- the branch cut back has the same splits
+pub cut-depth : (c r : code.Branch) → stack r ≡ stack c → r .depth ≡ c .depth
+cut-depth c r q = sym (length-stack r) ∙ ap length q ∙ length-stack c
+
+module _ {b : List ℕ} {s : Progress} {w : List ℤ} {c : code.Branch} (h : Holds b s w c) (d : 0 < c .depth) (t : Split) (e : t ≡ latestOf (stack c)) where
+  abbrev br : Branch
+  br = branchOf w (c .count)
+
+  abbrev others : List Split
+  others = lastFirst (c .depth - 1) (c .splits)
+
+  on-top : stack c ≡ t ∷ others
+  unfolding stack latestOf
+  on-top = let q = stack-top (c .depth) (c .splits) d in q ∙ ap (λ (x : Split). x ∷ others) (sym (e ∙ ap latestOf q))
+
+  ok-top : Ok b (asked b s) br (t ∷ others)
+  ok-top = subst (λ (l : List Split). Ok b (asked b s) br l) on-top (h .ok)
+
+  pends : Pends b (asked b s) br t
+  pends = its-pends b (asked b s) br t others ok-top
+
+  mark-behind : t .mark ≤ c .count
+  mark-behind = omega (arith, pends .behind, length-branch w (c .count))
+
+  cut-rows : take (t .mark) br ≡ branchOf w (t .mark)
+  cut-rows = branch-take w (c .count) (t .mark) mark-behind
+
+  cut-splits : Splits b (asked b s) (branchOf w (t .mark)) (t .at) (t .last)
+  cut-splits = subst (λ (l : Branch). Splits b (asked b s) l (t .at) (t .last)) cut-rows (pends .splits)
+
+  cut-fine : Fine w (t .mark)
+  cut-fine = record {
+    few = omega (arith, mark-behind, few-facts h);
+    room = h .room;
+    small = rw cut-rows at (within-take br (t .mark) (h .ok .small));
+  }
+
+  -- its record stands in the ticket
+  pub record-stands : t .at + 4 ≤ length b
+  record-stands = omega (arith, pends .splits .formed .within)
+
+  -- its next child can be put
+  pub puts-next : (m count : ℕ) → m ≡ size b (t .at) → count ≡ latestOf (stack c) .mark → Puts b s (t .at + 6) m w count (t .child)
+  puts-next m count em ec =
+      puts b s w (t .at) (t .last) (t .child) m count (t .mark) (h .posed) cut-splits (pends .several) cut-fine (pends .some-begun) (pends .some-left) em (ec ∙ sym (ap (λ (x : Split). x .mark) e))
+
+  -- and then the walk is the one cut back
+  pub next-begins : (v : List ℤ) (r : code.Branch) (m count : ℕ) → m ≡ size b (t .at) → count ≡ latestOf (stack c) .mark
+      → branchOf v (r .count) ≡ branchOf w count ++ offeredChild b (asked b s) (branchOf w count) (t .at + 6) m (t .child) → stack r ≡ begunOf (stack c)
+      → (moved (stateOf b (asked b s) v r) ≡ moved (cutBack _++_ (waitings b (asked b s) br (stack c)))) × Ok b (asked b s) (branchOf v (r .count)) (stack r)
+  unfolding stateOf
+  next-begins v r m count em ec er es =
+      let u = asked b s in
+      let kept : branchOf w count ≡ take (t .mark) br = ap (branchOf w) (ec ∙ sym (ap (λ (x : Split). x .mark) e)) ∙ sym cut-rows in
+      let rows : branchOf v (r .count) ≡ take (t .mark) br ++ childOn b u (take (t .mark) br) (t .at) (t .child) =
+      er ∙ ap₂ (λ (l : Branch) (i : ℕ). l ++ offeredChild b u l (t .at + 6) i (t .child)) kept em in
+      let begun : stack r ≡ begunOf (t ∷ others) = es ∙ ap begunOf on-top in (
+        ap moved
+            (ap₂ (walkOf b u) rows begun
+            ∙ cut-back b u br t others ok-top
+            ∙ ap (λ (l : List Split). cutBack _++_ (waitings b u br l)) (sym on-top)),
+        subst (λ (l : Branch). Ok b u l (stack r)) (sym rows)
+            (subst (λ (l : List Split). Ok b u (take (t .mark) br ++ childOn b u (take (t .mark) br) (t .at) (t .child)) l) (sym begun) (ok-begun b u br t others ok-top)),
+      )

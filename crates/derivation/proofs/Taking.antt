@@ -1,0 +1,119 @@
+-- A step by its rule's kind: closing, with one conclusion, or with several. Its body has m bytes, as its record says.
+use Prim.Native.Nat.{ℕ, zero, suc, _+_, _≤_, _<_}
+use native.Mathlib.Omega.{arith}
+use mathlib.Core.Path.{_≡_, refl, sym, _∙_, ap, ap₂, subst}
+use mathlib.Core.Logic.{inl, inr}
+use mathlib.Core.Bool.{Bool, true, false, _||_}
+use mathlib.Core.Option.{Option, none, some}
+use mathlib.Core.List.{List, _++_}
+use lib.ListN.{length, length-map}
+use lib.Dec.{leb, ltb}
+use borrow.Author.Tests.{ltb-true, lt-leb}
+use Rattle.lists.proofs.Options.{some-none}
+use Rattle.calculus.specs.Limits.{pendingLimit}
+use Rattle.calculus.specs.Facts.{Question, Fact, Branch}
+use Rattle.calculus.specs.Steps.{shape}
+use Rattle.calculus.specs.Walk.{Waiting, cutBack, enter}
+use Rattle.calculus.proofs.Shapes.{children-shape}
+use Rattle.format.specs.Records.{size}
+use Rattle.format.specs.StepForms.{rule, stepAt}
+use Rattle.format.specs.Checking.{fits, orNone, childrenWithin, roomForAll, roomToPend, allTried, takenTried, nth}
+use Rattle.format.proofs.Faults.{none-applies, and-true, not-both}
+use Rattle.steps.specs.Forms.{Formed}
+use Rattle.steps.specs.Offered.{offered}
+use Rattle.conclusions.specs.Made.{isConcluding, closingOf}
+use Rattle.conclusions.proofs.Tried.{Single, one-conclusion, tried-once}
+use Rattle.derivation.specs.State.{childrenOn}
+use Rattle.derivation.specs.Ok.{Splits}
+use Rattle.derivation.specs.Moves.{moved, refused, movedBy, stepOn}
+
+-- ---- refused, or not, with so many splits pending
+
+module _ (b : List ℕ) (u : Question) (br : Branch) (ss : List (Waiting Branch (List Fact))) (at m pending : ℕ) (em : m ≡ size b at) (ep : length ss ≡ pending) where
+  abbrev given : Option (List (List Fact))
+  given = offered b u br (at + 6) m
+
+  by-number : (f : ℕ) → f ≡ allTried br pending given → movedBy f (enter _++_ br (orNone given) ss) ≡ stepOn b u br ss at
+  unfolding stepOn
+  by-number f e =
+      ap (λ (i : ℕ). movedBy i (enter _++_ br (orNone given) ss)) e
+      ∙ ap₂ (λ (p i : ℕ). movedBy (allTried br p (offered b u br (at + 6) i)) (enter _++_ br (orNone (offered b u br (at + 6) i)) ss)) (sym ep) em
+
+  pub step-refused : (f : ℕ) → (f ≡ 0 → ⊥) → f ≡ allTried br pending given → refused f ≡ stepOn b u br ss at
+  step-refused zero n e = absurd (n refl)
+  step-refused (suc f) n e = by-number (suc f) e
+
+  pub step-moved : 0 ≡ allTried br pending given → moved (enter _++_ br (childrenOn b u br at) ss) ≡ stepOn b u br ss at
+  step-moved e = ap (λ (i : ℕ). moved (enter _++_ br (orNone (offered b u br (at + 6) i)) ss)) (sym em) ∙ by-number 0 e
+
+  -- a rule that closes
+  pub step-open : closingOf false ≡ given → refused 8 ≡ stepOn b u br ss at
+  unfolding closingOf
+  step-open e = by-number 8 (ap (λ (o : Option (List (List Fact))). allTried br pending o) e)
+
+  pub step-closes : closingOf true ≡ given → moved (cutBack _++_ ss) ≡ stepOn b u br ss at
+  unfolding closingOf childrenWithin roomForAll
+  step-closes e =
+      ap (λ (o : Option (List (List Fact))). moved (enter _++_ br (orNone o) ss)) e
+      ∙ by-number 0 (ap (λ (o : Option (List (List Fact))). allTried br pending o) e)
+
+  -- a rule with one conclusion: "all children" are the one
+  pub one-tried : isConcluding (rule b (at + 6)) ≡ true → takenTried br (nth given 1) ≡ allTried br pending given
+  unfolding offered
+  one-tried c = sym (tried-once br pending given (one-conclusion u br b (at + 6) m c))
+
+-- ---- a step to which none of 8 to 10 applies
+
+fitting : {A : Type 0} (o : Option A) → fits o ≡ true → (a : A) × (o ≡ some a)
+fitting none e = absurd (not-both false e refl)
+fitting (some a) e = (a, refl)
+
+more-pending : (t : Bool) (pending : ℕ) → (t || ltb pending pendingLimit) ≡ true → t ≡ false → pending < pendingLimit
+more-pending true pending p n = absurd (not-both true refl n)
+more-pending false pending p n = ltb-true pending pendingLimit p
+
+module _ (b : List ℕ) (u : Question) (br : Branch) (at m pending : ℕ) (em : m ≡ size b at) (f : Formed b u (at + 6) m) (e : allTried br pending (offered b u br (at + 6) m) ≡ 0) where
+  abbrev its : Option (List (List Fact))
+  its = offered b u br (at + 6) m
+
+  passed : (cs : List (List Fact)) → its ≡ some cs → (childrenWithin cs ≡ true) × (roomForAll (length br) cs ≡ true) × (roomToPend pending cs ≡ true)
+  passed cs q =
+      let z : allTried br pending (some cs) ≡ 0 = ap (λ (o : Option (List (List Fact))). allTried br pending o) (sym q) ∙ e in
+      let (within, later) = none-applies 8 (childrenWithin cs) _ z in
+      let (rooms, _) = none-applies 9 _ 0 later in
+      let (room, pend) = and-true (roomForAll (length br) cs) (roomToPend pending cs) rooms in
+      (within, room, pend)
+
+  splits-by : (cs : List (List Fact)) → its ≡ some cs → Splits b u br at (length cs)
+  splits-by cs q = record {
+    formed = subst (λ (i : ℕ). Formed b u (at + 6) i) em f;
+    its-children = cs;
+    fit = ap (λ (i : ℕ). offered b u br (at + 6) i) (sym em) ∙ q;
+    number = refl;
+    within = passed cs q .0;
+    room = passed cs q .1;
+  }
+
+  found : (cs : List (List Fact)) × (its ≡ some cs)
+  found = fitting its (none-applies 7 (fits its) _ e .0)
+
+  -- one conclusion
+  pub one-child : isConcluding (rule b (at + 6)) ≡ true → Splits b u br at 1
+  unfolding offered
+  one-child c = go (one-conclusion u br b (at + 6) m c)
+    where
+      go : Single its → Splits b u br at 1
+      go (inl n) = absurd (some-none (sym (found .1) ∙ n))
+      go (inr (x, q)) = splits-by _ q
+
+  shaped : length (found .0) ≡ length (shape (u .n) (stepAt b (at + 6) m))
+  unfolding offered
+  shaped = sym (length-map (found .0) length) ∙ ap length (children-shape u br (stepAt b (at + 6) m) (found .0) (found .1))
+
+  -- several, as many as the form shows
+  pub its-splits : Splits b u br at (length (shape (u .n) (stepAt b (at + 6) m)))
+  its-splits = subst (λ (n : ℕ). Splits b u br at n) shaped (splits-by (found .0) (found .1))
+
+  -- with two or more there is room to pend
+  pub room-to-pend : 2 ≤ length (shape (u .n) (stepAt b (at + 6) m)) → pending < pendingLimit
+  room-to-pend h = more-pending (leb (length (found .0)) 1) pending (passed (found .0) (found .1) .2) (lt-leb (length (found .0)) 1 (omega (arith, shaped)))

@@ -1,0 +1,104 @@
+-- `model::settle` meets its contract.
+use borrow.Author.Needs.{needs}
+use borrow.Author.Tests.{eq-eqb, ne-eqb, not-false, not-true}
+use denote.Ref.{now}
+use Prim.Native.Nat.{_+_, _*_}
+use mathlib.Core.Bool.{true, false}
+use mathlib.Core.Path.{_∙_, _≡_, refl, sym}
+use native.Mathlib.Omega.{arith}
+use Rattle.format.specs.Answer.{allWithin}
+use Rattle.format.specs.Checking.{leafFault}
+use Rattle.format.specs.Fields.{i32s}
+use Rattle.format.specs.Reading.{modelAt}
+use Rattle.question.specs.Posed.{asked}
+use Rattle.rows.specs.Rows.{branchOf}
+use Rattle.model.proofs.Settling.{held-filled, held-ready, settled-answers, settled-fault}
+use Rattle.model.proofs.Tested.{model-tests}
+use Rattle.model.proofs.settle.Statement.{statement}
+use Rattle.model.proofs.settle.Tie as tie
+
+labels-requires : tie.Need-labels-requires
+labels-requires c κs = search needs
+
+add-columns : tie.Need-add-columns
+add-columns c = search needs
+
+add-columns-2 : tie.Need-add-columns-2
+add-columns-2 c = search needs
+
+mul-if1 : tie.Need-mul-if1
+mul-if1 c = search needs
+
+returns : tie.Need-returns
+unfolding asked
+returns c =
+    let s = c .before .before .before .before .before .args in
+    let b = now (s .ticket) in
+    let u = asked b (s .s) in
+    (model-tests b u (leafFault u (branchOf (now (s .work)) (s .count)) (modelAt b u (s .at))) (s .at) (s .size) false _ (ne-eqb _ _ (c .if1 .taken)) refl, λ z. absurd (omega arith))
+
+integers-within-requires : tie.Need-integers-within-requires
+integers-within-requires c κs = search needs
+
+-- the body has a number for each column
+fits : (c : tie.Else1) → c .before .before .before .before .before .args .size ≡ 4 * (c .before .before .before .before .before .args .s .q + (c .before .before .before .before .before .args .s .p + c .before .before .before .before .before .args .s .p))
+fits c = omega arith
+
+returns-2 : tie.Need-returns-2
+unfolding asked
+returns-2 c =
+    let s = c .before .before .before .before .before .before .before .args in
+    let b = now (s .ticket) in
+    let u = asked b (s .s) in
+    (model-tests b u (leafFault u (branchOf (now (s .work)) (s .count)) (modelAt b u (s .at))) (s .at) (s .size) true false (eq-eqb _ _ (fits (c .before .before))) (sym (c .before .integers-within .ensures) ∙ not-true _ (c .if2 .taken)), λ z. absurd (omega arith))
+
+read-model-requires : tie.Need-read-model-requires
+read-model-requires c κs = search needs
+
+slice-aggregate-leaf-fault : tie.Need-slice-aggregate-leaf-fault
+slice-aggregate-leaf-fault c = search needs
+
+-- the model's numbers are small
+small : (c : tie.Else2) → allWithin (i32s (now (c .before .before .before .before .before .before .before .args .ticket)) (c .before .before .before .before .before .before .before .args .at) (c .before .before .before .before .before .before .before .args .s .q + (c .before .before .before .before .before .before .before .args .s .p + c .before .before .before .before .before .before .before .args .s .p))) ≡ true
+small c = sym (c .before .integers-within .ensures) ∙ not-false _ (c .if2 .left)
+
+leaf-fault-requires : tie.Need-leaf-fault-requires
+leaf-fault-requires c κs =
+    let s = c .before .before .before .before .before .before .before .before .before in
+    let ls = c .before .before .before .before .before .before .before .labels .result in
+    let held = c .before .read-model .result in
+    let e = c .before .read-model .ensures in
+    let i = small (c .before .before) in (
+      (s .pre .2, c .before .before .before .before .before .before .before .labels .ensures),
+      (held-filled (now (s .args .ticket)) (s .args .s) (s .pre .0) (s .args .at) ls held i e, held-ready (now (s .args .ticket)) (s .args .s) (s .pre .0) (s .args .at) ls held i e),
+    )
+
+returns-3 : tie.Need-returns-3
+returns-3 c =
+    let s = c .before .before .before .before .before .before .before .before .before .before in
+    let b = now (s .args .ticket) in
+    let br = branchOf (now (s .args .work)) (s .args .count) in
+    let ls = c .before .before .before .before .before .before .before .before .labels .result in
+    let held = c .before .before .read-model .result in
+    let e = c .before .before .read-model .ensures in
+    let i = small (c .before .before .before) in
+    let n : s .args .size ≡ 4 * (s .args .s .q + (s .args .s .p + s .args .s .p)) = fits (c .before .before .before .before .before) in (
+      settled-fault b (s .args .s) (s .pre .0) (s .args .at) ls held i e br (s .args .size) (c .leaf-fault .result) n (c .before .before .before .before .before .before .before .before .labels .ensures) (c .leaf-fault .ensures),
+      settled-answers b (s .args .s) (s .pre .0) (s .args .at) ls held i e br (s .args .size) (c .leaf-fault .result) n (c .before .before .before .before .before .before .before .before .labels .ensures) (c .leaf-fault .ensures),
+    )
+
+pub settle-spec : {M : Type 1} → statement M
+settle-spec =
+    tie.close
+    (tie.spec
+    labels-requires
+    add-columns
+    add-columns-2
+    mul-if1
+    returns
+    integers-within-requires
+    returns-2
+    read-model-requires
+    slice-aggregate-leaf-fault
+    leaf-fault-requires
+    returns-3)

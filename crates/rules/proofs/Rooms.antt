@@ -1,0 +1,106 @@
+-- Room for the children of a split, by its shape.
+use Prim.Native.Nat.{ℕ, zero, suc, _+_, _-_, _/_, _≤_, _<_}
+use native.Mathlib.Omega.{arith}
+use mathlib.Core.Path.{_≡_, refl, sym, _∙_, ap, ap₂, subst}
+use mathlib.Core.Logic.{_⊎_, inl, inr}
+use mathlib.Core.Bool.{Bool, true, false, _&&_, _||_, and-true, and-false, and-self}
+use mathlib.Core.List.{List, [], _∷_, map}
+use lib.ListN.{length, length-map}
+use lib.Dec.{leb, ltb}
+use borrow.Author.Tests.{le-leb, lt-leb, leb-true}
+use Rattle.lists.specs.Lists.{All}
+use Rattle.calculus.specs.Limits.{factLimit, pendingLimit}
+use Rattle.calculus.specs.Facts.{Fact}
+use Rattle.calculus.specs.Steps.{shape, pairCount}
+use Rattle.format.specs.Fields.{u16}
+use Rattle.format.specs.StepForms.{Rule, sum, branch, apart, aConf, sConf, sProp, lIntro, lValid, cCollapse, cValid, cInj, card, join, unknown, ruleOf, formFor, fitsForm, rule, lengthFits, stepOf, stepAt}
+use Rattle.format.specs.Checking.{roomForAll, roomToPend}
+use Rattle.format.proofs.Faults.{not-both}
+use Rattle.steps.proofs.Table.{at-least}
+use Rattle.steps.proofs.Children.{one-each, card-count}
+use Rattle.splits.specs.Splits.{isSplit}
+
+-- ---- room for the facts of every child
+
+-- each child has one fact
+ones : (count : ℕ) (cs : List (List Fact)) → All (λ x. x ≡ 1) (map length cs) → 1 ≤ length cs → leb (count + 1) factLimit ≡ roomForAll count cs
+unfolding roomForAll
+ones count [] h l = absurd (omega arith)
+ones count (c ∷ []) h l = sym (and-true (leb (count + 1) factLimit)) ∙ ap (λ n. leb (count + n) factLimit && true) (sym (h .0))
+ones count (c ∷ d ∷ cs) h l =
+    sym (and-self (leb (count + 1) factLimit)) ∙ ap₂ (λ n t. leb (count + n) factLimit && t) (sym (h .0)) (ones count (d ∷ cs) (h .1) (omega arith))
+
+-- the first child has two facts, the second three
+two-three : (count : ℕ) (cs : List (List Fact)) → map length cs ≡ 2 ∷ 3 ∷ [] → leb (count + 3) factLimit ≡ roomForAll count cs
+unfolding roomForAll
+two-three count [] e = absurd (let z : _≡_ {A = ℕ} 0 1 = cc in omega arith)
+two-three count (c ∷ []) e = absurd (let z : _≡_ {A = ℕ} 0 1 = cc in omega arith)
+two-three count (c ∷ d ∷ f ∷ cs) e = absurd (let z : _≡_ {A = ℕ} 0 1 = cc in omega arith)
+two-three count (c ∷ d ∷ []) e =
+    let two : length c ≡ 2 = cc in
+    let three : length d ≡ 3 = cc in
+    go (leb (count + 3) factLimit) refl ∙ ap₂ (λ n k. leb (count + n) factLimit && (leb (count + k) factLimit && true)) (sym two) (sym three)
+  where
+    go : (t : Bool) → leb (count + 3) factLimit ≡ t → leb (count + 3) factLimit ≡ (leb (count + 2) factLimit && (leb (count + 3) factLimit && true))
+    go true g = let l : count + 3 ≤ factLimit = leb-true _ _ g in rw (g, le-leb (count + 2) factLimit (omega arith))
+    go false g = rw g (sym (and-false (leb (count + 2) factLimit)))
+
+-- ---- the shape of a split
+
+some-pair : (k : ℕ) → 2 ≤ k → 1 ≤ pairCount k
+some-pair zero h = absurd (omega arith)
+some-pair (suc zero) h = absurd (omega arith)
+some-pair (suc (suc k)) h = omega arith
+
+module _ (b : List ℕ) (n at m : ℕ) where
+  -- it has a child
+  pub some-child : lengthFits b at m ≡ true → isSplit (rule b at) ≡ true → 1 ≤ length (shape n (stepAt b at m))
+  unfolding shape stepOf
+  some-child f e = go (rule b at) f e
+    where
+      go : (r : Rule) → fitsForm (formFor r) m ≡ true → isSplit r ≡ true → 1 ≤ length (shape n (stepOf b r at m))
+      go sum f e = omega arith
+      go branch f e = omega arith
+      go apart f e = omega arith
+      go aConf f e = absurd (not-both false e refl)
+      go sConf f e = absurd (not-both false e refl)
+      go sProp f e = omega arith
+      go lIntro f e = omega arith
+      go lValid f e = omega arith
+      go cCollapse f e = omega arith
+      go cValid f e = omega arith
+      go cInj f e = omega arith
+      go card f e =
+          let long = at-least (formFor card) m f in
+          omega (arith, card-count b n at m, some-pair ((m - 4) / 2) (omega arith))
+      go join f e = omega arith
+      go unknown f e = absurd (not-both false e refl)
+
+  c-valid-shape : 10 ≡ u16 b at → shape n (stepAt b at m) ≡ 2 ∷ 3 ∷ []
+  unfolding shape stepOf
+  c-valid-shape e = sym (ap (λ i. shape n (stepOf b (ruleOf i) at m)) e)
+
+  module _ (count : ℕ) (cs : List (List Fact)) (e : map length cs ≡ shape n (stepAt b at m)) where
+    -- C-Valid
+    pub room-three : 10 ≡ u16 b at → leb (count + 3) factLimit ≡ roomForAll count cs
+    room-three t = two-three count cs (e ∙ c-valid-shape t)
+
+    -- any other rule
+    pub room-one : (10 ≡ u16 b at → ⊥) → lengthFits b at m ≡ true → isSplit (rule b at) ≡ true → leb (count + 1) factLimit ≡ roomForAll count cs
+    room-one x f s = go (one-each b n at m (u16 b at))
+      where
+        go : (u16 b at ≡ 10) ⊎ All (λ x. x ≡ 1) (shape n (stepAt b at m)) → leb (count + 1) factLimit ≡ roomForAll count cs
+        go (inl t) = absurd (x (sym t))
+        go (inr a) = ones count cs (subst (All (λ x. x ≡ 1)) (sym e) a) (omega (arith, some-child f s, length-map cs length, ap length e))
+
+  -- ---- room among the pending splits
+
+  module _ (pending : ℕ) (cs : List (List Fact)) (e : map length cs ≡ shape n (stepAt b at m)) (k : ℕ) (h : k ≡ length (shape n (stepAt b at m))) where
+    its-number : k ≡ length cs
+    its-number = h ∙ sym (ap length e) ∙ length-map cs length
+
+    pub never-pending : k ≤ 1 → true ≡ roomToPend pending cs
+    never-pending l = sym (ap (λ t. t || ltb pending pendingLimit) (le-leb (length cs) 1 (omega (arith, its-number))))
+
+    pub pending-room : 1 < k → ltb pending pendingLimit ≡ roomToPend pending cs
+    pending-room l = sym (ap (λ t. t || ltb pending pendingLimit) (lt-leb (length cs) 1 (omega (arith, its-number))))
