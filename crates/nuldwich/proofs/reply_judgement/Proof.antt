@@ -1,8 +1,8 @@
 -- `nuldwich::reply_judgement` meets its contract.
 use borrow.Author.Needs.{needs}
 use mathlib.Core.Path.{ap, sym}
-use Rattle.judging.specs.declared.Judgement.{Judgement}
 use Rattle.judging.specs.Judgements.{judgementOf}
+use Rattle.judging.specs.declared.Judgement.{Judgement}
 use Rattle.nuldwich.specs.Replies.{judgeReply}
 use Rattle.nuldwich.proofs.reply_judgement.Statement.{statement}
 use Rattle.nuldwich.proofs.reply_judgement.Tie as tie

@@ -1,0 +1,111 @@
+-- Where the question was read and the claim is good, the ticket's steps may be worked on.
+use Prim.Native.Nat.{ℕ, zero, suc, _+_, _≤_}
+use native.Mathlib.Omega.{arith}
+use native.Mathlib.Numerals.{add-one}
+use mathlib.Core.Path.{_≡_, refl, sym, _∙_, ap, ap₂}
+use mathlib.Core.Bool.{Bool, true, false}
+use mathlib.Core.List.{List, []}
+use lib.ListN.{length}
+use lib.Dec.{leb}
+use borrow.Author.Tests.{leb-true, leb-false, eqb-true, eq-eqb, ne-eqb}
+use Rattle.calculus.specs.Limits.{ticketBytes}
+use Rattle.calculus.specs.Facts.{Fact, Branch}
+use Rattle.calculus.specs.Walk.{working}
+use Rattle.format.specs.Records.{kind, size, next, records}
+use Rattle.format.specs.Question as format
+use Rattle.format.specs.Question.{fault, fresh, ending, readOn, question, advanced}
+use Rattle.format.specs.Reading.{State, proving, taking, Ticket, readSteps, claimFault, claimAt, begin, readClaim}
+use Rattle.format.specs.Checking.{checker}
+use Rattle.format.proofs.Faults.{none-applies, and-true}
+use Rattle.format.proofs.Turns.{read-none, read-ended, read-stopped, read-more, read-long, read-begin}
+use Rattle.format.proofs.StepTurns.{claim-clean}
+use Rattle.question.specs.declared.Progress.{Progress}
+use Rattle.question.specs.Progress.{progressOf}
+use Rattle.question.specs.Standing.{Stands}
+use Rattle.question.specs.Posed.{Posed, asked}
+use Rattle.question.proofs.Standing.{question-stands}
+
+clash : {X : Type 0} → _≡_ {A = ℕ} 0 1 → X
+clash z = absurd (omega arith)
+
+-- ---- the question
+
+-- each record takes six bytes at least
+numbered : (d : ℕ) (b : List ℕ) (s t : format.Progress) (r at to q : ℕ) → length b ≤ at + d → r ≤ at → readOn fault b s r at ≡ format.Ended t to q → q ≤ to
+numbered zero b s t r at to q l h e = let g = read-none fault b s r at (omega arith) in clash cc
+numbered (suc d) b s t r at to q l h e =
+    go (leb (at + 6) (length b)) (ending (kind b at)) (fault b s at) refl refl refl
+    (numbered d b (advanced b s at) t (suc r) (next b at) to q (omega arith) (omega arith))
+  where
+    go : (x y : Bool) (f : ℕ) → leb (at + 6) (length b) ≡ x → ending (kind b at) ≡ y → fault b s at ≡ f
+        → (readOn fault b (advanced b s at) (suc r) (next b at) ≡ format.Ended t to q → q ≤ to) → q ≤ to
+    go false y f ex ey ef later = let g = read-none fault b s r at (leb-false _ _ ex) in clash cc
+    go true true f ex ey ef later =
+        let g = read-ended fault b s r at (leb-true _ _ ex) ey in
+        let here : at ≡ to = cc in
+        let number : r ≡ q = cc in
+        omega arith
+    go true false (suc f) ex ey ef later = let g = read-stopped fault b s r at f (leb-true _ _ ex) ey ef in clash cc
+    go true false zero ex ey ef later = later (sym (read-more fault b s r at (leb-true _ _ ex) ey ef) ∙ e)
+
+-- what holds where reading ended
+pub record Read (b : List ℕ) (s : Progress) (at r : ℕ) : Type 0 where
+  pub stands : Stands b s at
+  pub headed : at + 6 ≤ length b
+  pub short : length b ≤ ticketBytes
+  pub few : r ≤ at
+
+pub read-question : (b : List ℕ) (s : Progress) (at r : ℕ) → question b ≡ format.Ended (progressOf b s) at r → Read b s at r
+read-question b s at r e = go (leb (length b) ticketBytes) refl
+  where
+    go : (x : Bool) → leb (length b) ticketBytes ≡ x → Read b s at r
+    go false ex = let g = read-long fault b (leb-false _ _ ex) in clash cc
+    go true ex =
+        let (stands, headed) = question-stands b s at r e in
+        record {
+          stands = stands;
+          headed = headed;
+          short = leb-true _ _ ex;
+          few = numbered (length b) b fresh (progressOf b s) 0 0 at r (omega arith) (omega arith) (sym (read-begin fault b (leb-true _ _ ex)) ∙ e);
+        }
+
+-- ---- the claim
+
+-- a claim without fault
+pub record Claim (b : List ℕ) (last at : ℕ) : Type 0 where
+  pub whole : next b at ≤ length b
+  pub head : 1 ≤ last
+  pub two : size b at ≡ 2
+
+pub claim-good : (b : List ℕ) (s : format.Progress) (at : ℕ) → claimFault b s at ≡ 0 → Claim b (s .last) at
+claim-good b s at e =
+    let (whole, e4) = none-applies 2 _ _ e in
+    let (placed, e5) = none-applies 3 _ _ e4 in
+    let (sized, e6) = none-applies 4 _ _ e5 in
+    record {
+      whole = leb-true _ _ whole;
+      head = leb-true 1 (s .last) (and-true _ _ placed .0);
+      two = eqb-true _ _ sized;
+    }
+
+pub posed : (b : List ℕ) (s : Progress) (at : ℕ) → Stands b s at → length b ≤ ticketBytes → claimFault b (progressOf b s) at ≡ 0 → Posed b s
+posed b s at h short e = record { to = at; stands = h; head = claim-good b (progressOf b s) at e .head; short = short }
+
+-- ---- behind the claim
+
+module _ (b : List ℕ) (s : Progress) (at r : ℕ) (e : claimFault b (progressOf b s) at ≡ 0) where
+  abbrev started : State Branch (List Fact) → ℕ → ℕ → Ticket Branch (List Fact)
+  started st k to = readSteps (checker (asked b s)) b (asked b s) st k (records b to)
+
+  behind : (st : State Branch (List Fact)) → begin (checker (asked b s)) (claimAt b at) ≡ st → readClaim checker b (progressOf b s) at r ≡ started st (r + 1) (at + 8)
+  unfolding asked
+  behind st f =
+      let claim = claim-good b (progressOf b s) at e in
+      let to : next b at ≡ at + 8 = omega (arith, claim .two) in
+      claim-clean checker b (progressOf b s) at r e ∙ ap (λ st. started st (suc r) (next b at)) f ∙ ap₂ (started st) (sym (add-one r)) to
+
+  pub claims-none : claimAt b at ≡ 1 → readClaim checker b (progressOf b s) at r ≡ started (proving (working (asked b s .constraints) [])) (r + 1) (at + 8)
+  claims-none c = behind (proving (working (asked b s .constraints) [])) (rw (eq-eqb (claimAt b at) 1 c))
+
+  pub claims-strings : (claimAt b at ≡ 1 → ⊥) → readClaim checker b (progressOf b s) at r ≡ started (taking (asked b s .constraints)) (r + 1) (at + 8)
+  claims-strings c = behind (taking (asked b s .constraints)) (rw (ne-eqb (claimAt b at) 1 c))

@@ -1,0 +1,62 @@
+-- `checking::decide` meets its contract.
+use borrow.Author.Needs.{needs}
+use denote.Ref.{now}
+use mathlib.Core.Path.{_∙_, ap, sym}
+use Rattle.checking.proofs.Outcomes.{decided-by, refused}
+use Rattle.checking.proofs.Posing.{read-question}
+use Rattle.format.specs.Checking.{checker}
+use Rattle.format.specs.Reading.{readBehind}
+use Rattle.question.specs.Progress.{readingOf}
+use Rattle.checking.proofs.decide.Statement.{statement}
+use Rattle.checking.proofs.decide.Tie as tie
+
+read-question-requires : tie.Need-read-question-requires
+read-question-requires c κs = search needs
+
+enum-known-c : tie.Need-enum-known-c
+enum-known-c c = search needs
+
+enum-known-s : tie.Need-enum-known-s
+enum-known-s c = search needs
+
+behind-question-requires : tie.Need-behind-question-requires
+unfolding readingOf
+behind-question-requires c κs =
+    let s = c .before .before .before .before .before .before .before .before .args in
+    let b = now (s .ticket) in
+    let end = c .before .before .before .s .given .0 in
+    let read = read-question b (end .0) (end .1 .0) (end .1 .1 .0) (sym (c .before .before .before .before .before .read-question .ensures) ∙ ap (readingOf b) (c .before .before .before .s .given .1)) in
+    ((read .stands, read .headed, read .short, read .few), c .before .before .before .before .before .before .before .before .pre)
+
+returns : tie.Need-returns
+unfolding readingOf
+returns c =
+    let s = c .before .before .before .before .before .before .args in
+    let b = now (s .ticket) in
+    refused (now (s .answer)) (ap (readBehind checker b) (sym (c .before .before .before .read-question .ensures) ∙ ap (readingOf b) (c .before .c .given .1)))
+
+same-length : tie.Need-same-length
+same-length c = search needs
+
+same-length-2 : tie.Need-same-length-2
+same-length-2 c = search needs
+
+returns-2 : tie.Need-returns-2
+unfolding readingOf
+returns-2 c =
+    let s = c .before .before .before .before .before .before .before .before .before .before .before .before .args in
+    let b = now (s .ticket) in
+    decided-by (ap (readBehind checker b) (sym (c .before .before .before .before .before .before .before .before .before .read-question .ensures) ∙ ap (readingOf b) (c .before .before .before .before .before .before .before .s .given .1))) (c .before .before .before .behind-question .ensures)
+
+pub decide-spec : {M : Type 1} → statement M
+decide-spec =
+    tie.close
+    (tie.spec
+    read-question-requires
+    enum-known-c
+    enum-known-s
+    behind-question-requires
+    returns
+    same-length
+    same-length-2
+    returns-2)

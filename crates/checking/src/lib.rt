@@ -1,0 +1,176 @@
+// Checking: the operation `check_ticket`. "Checking names the first faulty record from 0 (0 for 1 and 2), and there the first of" 1 to 14.
+ghost use mathlib.Core.Path.{_≡_};
+ghost use mathlib.Core.List.{List, []};
+ghost use Prim.Native.Nat.{ℕ, _+_, _≤_};
+ghost use lib.ListN.{length, replicate};
+ghost use lib.IntN.{pos};
+ghost use Rattle.calculus.specs.Limits.{workNumbers, answerBytes, ticketBytes};
+ghost use Rattle.calculus.specs.Walk.{working};
+ghost use Rattle.format.specs.Records.{kind, next, records};
+ghost use Rattle.format.specs.Question.{question};
+ghost use Rattle.format.specs.Reading.{proving, taking, readSteps, readClaim, readBehind};
+ghost use Rattle.format.specs.Checking.{checker, outcomeOf};
+ghost use Rattle.question.specs.Progress.{progressOf};
+ghost use Rattle.question.specs.Posed.{Posed, asked};
+ghost use Rattle.question.specs.Standing.{Stands};
+ghost use Rattle.rows.specs.Rows.{branchOf};
+ghost use Rattle.rows.specs.Work.{Fine};
+ghost use Rattle.checking.specs.Outcomes.{Decided, Promised};
+use claims::Followed;
+use claims::Walked;
+use claims::claim_fault;
+use claims::end_number;
+use claims::follow;
+use claims::walk;
+use constraints::load;
+use limits::ANSWER_BYTES;
+use limits::WORK_NUMBERS;
+use model::settle;
+use model::write;
+use question::Progress;
+use question::Reading;
+use question::read_question;
+use records::u16_at;
+use records::u32_at;
+
+pub enum Outcome {
+    // The number of a refusal and its record.
+    Refused(usize, usize),
+    NoSolution,
+    // The answer stands in the answer buffer.
+    Strings,
+}
+
+// ---- claim 1
+
+// The steps, up to the last closed branch, and the end behind it. No answer buffer is written.
+fn prove(ticket: &[u8], s: Progress, at: usize, r: usize, work: &mut [i64]) -> Outcome
+    requires { ⌜ Posed (now ticket) s × Fine (now work) (s .constraints) × (branchOf (now work) (s .constraints) ≡ asked (now ticket) s .constraints) × (r ≤ at) ⌝ }
+    ensures { λ o. ⌜ ((answer : List ℕ) → Decided (outcomeOf (readSteps (checker (asked (now (ticket .entry)) s)) (now (ticket .entry)) (asked (now (ticket .entry)) s)
+        (proving (working (asked (now (ticket .entry)) s .constraints) [])) r (records (now (ticket .entry)) at))) answer answer o) ⌝ }
+{
+    match walk(ticket, s, at, r, work) {
+        Walked::Refused(c, k) => Outcome::Refused(c, k),
+        Walked::Closed(to, k) => {
+            let c = end_number(ticket, to);
+            if c != 0 {
+                return Outcome::Refused(c, k);
+            }
+            Outcome::NoSolution
+        }
+    }
+}
+
+// ---- claim 2
+
+// The model's record, the end behind it, and the answer, which is written when both are good.
+fn at_model(
+    ticket: &[u8],
+    s: Progress,
+    at: usize,
+    r: usize,
+    work: &[i64],
+    count: usize,
+    answer: &mut [u8],
+) -> Outcome
+    requires { ⌜ Posed (now ticket) s × (kind (now ticket) at ≡ 7) × (next (now ticket) at ≤ length (now ticket)) × (r ≤ at) × Fine (now work) count × (answerBytes ≤ length (now answer)) ⌝ }
+    ensures { λ o. ⌜ Decided (outcomeOf (readSteps (checker (asked (now (ticket .entry)) s)) (now (ticket .entry)) (asked (now (ticket .entry)) s)
+        (taking (branchOf (now (work .entry)) count)) r (records (now (ticket .entry)) at))) (now (answer .entry)) (now (answer .exit)) o ⌝ }
+{
+    let size = u32_at(ticket, at);
+    let settled = settle(ticket, s, at + 6, size, work, count);
+    let f = settled.fault;
+    if f != 0 {
+        return Outcome::Refused(f, r);
+    }
+    let c = end_number(ticket, at + 6 + size);
+    if c != 0 {
+        return Outcome::Refused(c, r + 1);
+    }
+    write(ticket, settled, answer);
+    Outcome::Strings
+}
+
+// The steps up to the model, and what stands there.
+fn give_answer(
+    ticket: &[u8],
+    s: Progress,
+    at: usize,
+    r: usize,
+    work: &mut [i64],
+    answer: &mut [u8],
+) -> Outcome
+    requires { ⌜ Posed (now ticket) s × Fine (now work) (s .constraints) × (branchOf (now work) (s .constraints) ≡ asked (now ticket) s .constraints) × (r ≤ at) × (answerBytes ≤ length (now answer)) ⌝ }
+    ensures { λ o. ⌜ Decided (outcomeOf (readSteps (checker (asked (now (ticket .entry)) s)) (now (ticket .entry)) (asked (now (ticket .entry)) s)
+        (taking (asked (now (ticket .entry)) s .constraints)) r (records (now (ticket .entry)) at))) (now (answer .entry)) (now (answer .exit)) o ⌝ }
+{
+    match follow(ticket, s, at, r, work) {
+        Followed::Refused(c, k) => Outcome::Refused(c, k),
+        Followed::Model(to, k, count) => at_model(ticket, s, to, k, work, count, answer),
+    }
+}
+
+// ---- the whole ticket
+
+// The claim and what stands behind it, where reading of the question ended. Record r stands there.
+fn behind_question(
+    ticket: &[u8],
+    s: Progress,
+    at: usize,
+    r: usize,
+    work: &mut [i64],
+    answer: &mut [u8],
+) -> Outcome
+    requires { ⌜ Stands (now ticket) s at × (at + 6 ≤ length (now ticket)) × (length (now ticket) ≤ ticketBytes) × (r ≤ at) ⌝ }
+    requires { ⌜ (workNumbers ≤ length (now work)) × (answerBytes ≤ length (now answer)) ⌝ }
+    ensures { λ o. ⌜ Decided (outcomeOf (readClaim checker (now (ticket .entry)) (progressOf (now (ticket .entry)) s) at r)) (now (answer .entry)) (now (answer .exit)) o ⌝ }
+{
+    let c = claim_fault(ticket, s, at);
+    if c != 0 {
+        return Outcome::Refused(c, r);
+    }
+    load(ticket, s, work);
+    let claim = u16_at(ticket, at + 6);
+    if claim == 1 {
+        return prove(ticket, s, at + 8, r + 1, work);
+    }
+    give_answer(ticket, s, at + 8, r + 1, work, answer)
+}
+
+// The outcome on buffers that are large enough. Anything may be left in the work area.
+fn decide(ticket: &[u8], work: &mut [i64], answer: &mut [u8]) -> Outcome
+    requires { ⌜ (workNumbers ≤ length (now work)) × (answerBytes ≤ length (now answer)) ⌝ }
+    ensures { λ o. ⌜ Decided (outcomeOf (readBehind checker (now (ticket .entry)) (question (now (ticket .entry))))) (now (answer .entry)) (now (answer .exit)) o ⌝ }
+{
+    match read_question(ticket) {
+        Reading::Stopped(c, r) => Outcome::Refused(c, r),
+        Reading::Ended(s, at, r) => behind_question(ticket, s, at, r, work, answer),
+    }
+}
+
+// Sets every number of the work area to 0.
+fn clear(work: &mut [i64])
+    ensures { λ _. ⌜ now (work .exit) ≡ replicate (length (now (work .entry))) (pos 0) ⌝ }
+{
+    let mut i = 0;
+    while i < work.len() {
+        work[i] = 0;
+        i += 1;
+    }
+}
+
+// Checks a ticket. "1 when the work area has under 6,400 numbers or the answer buffer under 4,268 bytes"; "The whole work area, numbers past
+// 6,400 too, is zero after every call, except that 1 does not touch it".
+pub fn check_ticket(ticket: &[u8], work: &mut [i64], answer: &mut [u8]) -> Outcome
+    ensures { λ o. ⌜ Promised (now (ticket .entry)) (now (work .entry)) (now (work .exit)) (now (answer .entry)) (now (answer .exit)) o ⌝ }
+{
+    if work.len() < WORK_NUMBERS {
+        return Outcome::Refused(1, 0);
+    }
+    if answer.len() < ANSWER_BYTES {
+        return Outcome::Refused(1, 0);
+    }
+    let outcome = decide(ticket, work, answer);
+    clear(work);
+    outcome
+}

@@ -1,0 +1,43 @@
+-- The reply to an outcome of checking.
+use Prim.Native.Nat.{ℕ}
+use mathlib.Core.Path.{_≡_, refl, sym, _∙_, ap, subst}
+use mathlib.Core.List.{List, _++_}
+use lib.ListN.{length, drop}
+use lib.IntN.{ℤ}
+use Rattle.calculus.specs.Limits.{workNumbers}
+use Rattle.format.specs.Checking as format
+use Rattle.format.specs.Checking.{verdict}
+use Rattle.format.specs.Demands.{written}
+use Rattle.checking.specs.declared.Outcome.{Outcome}
+use Rattle.checking.specs.declared.Outcome.the-variants.{Refused, NoSolution, Strings}
+use Rattle.checking.specs.Outcomes.{told, Promised}
+use Rattle.nuldwich.specs.declared.Reply.{Reply}
+use Rattle.nuldwich.specs.Replies.{checkReply, CheckReplies, LentReplies}
+
+abbrev pub replyTo : Outcome → Reply
+replyTo (Refused c r) = record { number = c; «record» = r }
+replyTo NoSolution = record { number = 0; «record» = 1 }
+replyTo Strings = record { number = 0; «record» = 2 }
+
+numbered : (x : format.Outcome) → replyTo (told x) ≡ checkReply x
+unfolding told checkReply
+numbered (format.Refused c r) = refl
+numbered format.NoSolution = refl
+numbered (format.Strings s) = refl
+
+pub replied : {o p : Outcome} → o ≡ p → (x : format.Outcome) → o ≡ told x → replyTo p ≡ checkReply x
+replied e x f = ap replyTo (sym e ∙ f) ∙ numbered x
+
+-- a reply that numbers the outcome that was promised
+module _ {ticket : List ℕ} {work work' : List ℤ} {answer answer' : List ℕ} {o : Outcome} {reply : Reply}
+    (k : Promised ticket work work' answer answer' o) (r : (x : format.Outcome) → o ≡ told x → reply ≡ checkReply x) where
+  pub lent : LentReplies ticket work work' answer answer' reply
+  lent = record { outcome = k .outcome; checked = k .checked; numbered = r (k .outcome) (k .tells) }
+
+  pub own : length work ≡ workNumbers → CheckReplies ticket answer answer' reply
+  own e =
+      let outcome : k .outcome ≡ verdict workNumbers (length answer) ticket = k .checked .outcome ∙ ap (λ n. verdict n (length answer) ticket) e in
+      record {
+        numbered = r (k .outcome) (k .tells) ∙ ap checkReply outcome;
+        answer-after = subst (λ x. answer' ≡ written x ++ drop (length (written x)) answer) outcome (k .checked .answer-after);
+      }
