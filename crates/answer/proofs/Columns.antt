@@ -5,27 +5,16 @@ use mathlib.Core.Path.{_≡_, refl, sym, _∙_, ap}
 use mathlib.Core.List.{List, [], _++_, map}
 use lib.ListN.{length, getD, length-append, length-map, List·getD-append}
 use lib.Seq.{getD-append-add}
-use lib.IntN.{ℤ, pos, negsuc}
+use lib.IntN.{ℤ, pos}
 use Rattle.lists.proofs.Lists.{getD-map}
 use Rattle.calculus.specs.Facts.{valueOf, len, code, codeOf}
-use Rattle.format.specs.Fields.{u32, u32s, i32, i32s}
+use Rattle.format.specs.Fields.{i32, i32s}
 use Rattle.format.specs.Records.{size, next}
 use Rattle.format.specs.Places.{skip}
 use Rattle.format.specs.Answer.{stringAt, integersAt, stringsAt}
 use Rattle.format.proofs.Fields.{length-u32s, length-i32s}
+use Rattle.format.proofs.Judged.{length-strings}
 use Rattle.answer.specs.Form.{columnsAt}
-
--- ---- code
-
-pub code-one : (b : List ℕ) (at k : ℕ) → k ≡ 1 → codeOf (u32s b at k) ≡ pos (u32 b at)
-unfolding u32s
-code-one b at k e = ap (λ (m : ℕ). codeOf (u32s b at m)) e
-
-pub code-other : (b : List ℕ) (at k : ℕ) → (k ≡ 1 → ⊥) → codeOf (u32s b at k) ≡ negsuc 0
-unfolding u32s
-code-other b at zero h = refl
-code-other b at (suc zero) h = absurd (h refl)
-code-other b at (suc (suc k)) h = refl
 
 -- ---- the three stretches of columns
 
@@ -40,11 +29,6 @@ unfolding stringsAt skip
 string-at b zero at x h = absurd (omega arith)
 string-at b (suc p) at zero h = refl
 string-at b (suc p) at (suc x) h = string-at b p (next b at) x (omega arith)
-
-length-strings : (b : List ℕ) (p at : ℕ) → length (stringsAt b p at) ≡ p
-unfolding stringsAt
-length-strings b zero at = refl
-length-strings b (suc p) at = ap suc (length-strings b p (next b at))
 
 module _ (v : List ℕ) (p q : ℕ) where
   abbrev texts : List (List ℕ)

@@ -19,6 +19,7 @@ use Rattle.format.specs.Places.{skip}
 use Rattle.format.specs.Answer.{answerForm, stringAt, integersAt, allWithin, outside}
 use Rattle.format.proofs.Faults.{and-true}
 use Rattle.format.proofs.Places.{skip-room}
+use Rattle.format.proofs.Fields.{down}
 use Rattle.records.specs.declared.Found.the-variants.{Whole, Cut, Nothing}
 use Rattle.records.specs.Found.{foundAt}
 use Rattle.records.proofs.Finding.{found-nothing, found-cut, found-whole}
@@ -46,9 +47,6 @@ joined false b c d = refl
 regrouped : (a b c d e : Bool) → (a && (b && (c && (d && e)))) ≡ ((a && (b && (c && d))) && e)
 regrouped true b c d e = joined b c d e
 regrouped false b c d e = refl
-
-down : (k : ℕ) → suc k - 1 ≡ k
-down k = omega arith
 
 module _ (b : List ℕ) (q at : ℕ) where
   pub form-split : (p : ℕ) → answerForm b (suc p) q at ≡ (stringForm b at && answerForm b p q (next b at))

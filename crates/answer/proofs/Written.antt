@@ -51,6 +51,9 @@ record-put b at m k body e =
 
 -- ---- the strings of a table
 
+pub length-row : (characters : List ℕ) (x k : ℕ) → k ≤ lengthLimit → lengthLimit * x + lengthLimit ≤ length characters → length (row characters x k) ≡ k
+length-row characters x k h r = length-take-le k (drop (lengthLimit * x) characters) (rw length-drop (omega arith))
+
 module _ (characters sizes : List ℕ) where
   pub strings-more : (x : ℕ)
       → stringRecords (tableStrings characters sizes (x + 1)) ≡ stringRecords (tableStrings characters sizes x) ++ recordBytes 9 (characterBytes (row characters x (getD sizes x 0)))
@@ -71,15 +74,12 @@ module _ (characters sizes : List ℕ) where
   length-tables zero = refl
   length-tables (suc x) = length-append (tableStrings characters sizes x) (row characters x (getD sizes x 0) ∷ []) ∙ omega (arith, length-tables x)
 
-  pub length-row : (x k : ℕ) → k ≤ lengthLimit → lengthLimit * x + lengthLimit ≤ length characters → length (row characters x k) ≡ k
-  length-row x k h r = length-take-le k (drop (lengthLimit * x) characters) (rw length-drop (omega arith))
-
   short-strings : (p : ℕ) → Table characters sizes p → (x : ℕ) → x ≤ p → All (λ s. length s ≤ lengthLimit) (tableStrings characters sizes x)
   unfolding tableStrings
   short-strings p t zero h = tt
   short-strings p t (suc x) h =
       let k : getD sizes x 0 ≤ lengthLimit = t .short x (omega arith) in
-      let n : length (row characters x (getD sizes x 0)) ≡ getD sizes x 0 = length-row x (getD sizes x 0) k (omega (arith, t .room)) in
+      let n : length (row characters x (getD sizes x 0)) ≡ getD sizes x 0 = length-row characters x (getD sizes x 0) k (omega (arith, t .room)) in
       all-append (λ (s : List ℕ). length s ≤ lengthLimit) (tableStrings characters sizes x) (row characters x (getD sizes x 0) ∷ []) (short-strings p t x (omega arith)) (omega arith, tt)
 
   -- the records of the first x strings, and a further one behind them, fit the buffer

@@ -20,6 +20,7 @@ use limits::TEXT_BYTES;
 use limits::VALUE_LIMIT;
 use limits::VARIABLE_LIMIT;
 use question::all_characters;
+use question::text_code;
 use records::Found;
 use records::bits_within;
 use records::i32_at;
@@ -286,16 +287,13 @@ pub fn record_places(b: &[u8], from: usize, count: usize) -> [usize; VARIABLE_LI
     places
 }
 
-// "code (the code point of a one-character string, else −1)"
+// The code of the string whose record stands at a position.
 fn string_code(v: &[u8], at: usize) -> i64
     requires { ⌜ next (now v) at ≤ length (now v) ⌝ }
     ensures { λ r. ⌜ r ≡ codeOf (stringAt (now (v .entry)) at) ⌝ }
 {
     let size = u32_at(v, at);
-    if size / 4 != 1 {
-        return -1;
-    }
-    u32_at(v, at + 6) as i64
+    text_code(v, at + 6, size / 4)
 }
 
 // The value of column j, where the answer's records stand at their places.

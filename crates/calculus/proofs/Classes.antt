@@ -15,7 +15,8 @@ use Rattle.lists.proofs.Tests.{true→, or→, →or-left, →or-right}
 use Rattle.calculus.specs.Facts.{Question, Fact, same, apart, isLiteral, arithmetic, Branch}
 use Rattle.calculus.specs.Chains.{varNode, litNode, Edge, AnyEdge, Chain, here, along, back, OneClass, ClassHolds, Counts}
 use Rattle.calculus.specs.Classes.{upFrom, relabel, label, joinNodes, joinFact, labelsFrom, nodeCount, labels, sameClass, lowest, classLiteral, anyBelow, literalsMeet, apartMeet, conflict}
-use Rattle.calculus.specs.Instances.{FactAt, Stands, LiteralsMeet, ApartMeet, HeadInRange, FactInRange, FactsInRange}
+use Rattle.calculus.specs.Instances.{FactAt, Stands, LiteralsMeet, ApartMeet}
+use Rattle.calculus.proofs.InRange.{HeadInRange, FactInRange, FactsInRange}
 use Rattle.calculus.proofs.Tests.{any→, →any}
 
 pub chain-trans : {b : Branch} {i j k : ℕ} → Chain b i j → Chain b j k → Chain b i k
@@ -79,7 +80,7 @@ label-relabel old new [] i d h = absurd (omega arith)
 label-relabel old new (c ∷ cs) zero d h = refl
 label-relabel old new (c ∷ cs) (suc i) d h = label-relabel old new cs i d (omega arith)
 
-length-relabel : (old new : ℕ) (cs : List ℕ) → length (relabel old new cs) ≡ length cs
+pub length-relabel : (old new : ℕ) (cs : List ℕ) → length (relabel old new cs) ≡ length cs
 length-relabel old new [] = refl
 length-relabel old new (c ∷ cs) = ap suc (length-relabel old new cs)
 

@@ -24,7 +24,8 @@ use Rattle.calculus.specs.Classes.{labels, sameClass, classLiteral, conf
 use Rattle.calculus.specs.Steps.{Step, Sum, Split, Apart, AConf, SConf, SProp, LIntro, LValid, CCollapse, CValid, CInj, Card, Join}
 use Rattle.calculus.specs.Children.{sumChild, literalChild, pairs, boundChild}
 use Rattle.calculus.specs.Rules.{guard, then, summand, sumOf, divided, falsum, joined, statesZero, anyFact, sameLength, neighbours, distinct, logUp, lastChild, cardChildren, children, parted}
-use Rattle.calculus.specs.Instances.{entry, FactAt, Stands, Multiplier, Summands, IsSum, IsApart, False, IsAConf, IsLiteral, LengthsStated, Neighbours, LastChild, IsJoin, Instance, HeadInRange, FactInRange, FactsInRange, StepInRange}
+use Rattle.calculus.specs.Instances.{entry, FactAt, Stands, Multiplier, Summands, IsSum, IsApart, False, IsAConf, IsLiteral, LengthsStated, Neighbours, LastChild, IsJoin, Instance, StepInRange}
+use Rattle.calculus.proofs.InRange.{HeadInRange, FactInRange, FactsInRange}
 use Rattle.calculus.proofs.Tests.{guard→, →guard, then→, →then, differ→, →differ, distinct→, →distinct}
 use Rattle.calculus.proofs.Rows.{eqRow→, →eqRow}
 use Rattle.calculus.proofs.Relations.{nonzero→, →nonzero, fails→, →fails, positive→, →positive}

@@ -64,22 +64,27 @@ pub record ByClasses (u : Question) (b : Branch) (m : List ℤ) : Type 0 where
   pub c-valid : (x : ℕ) → x < u .p → Chosen u b m (CValid x)
   pub c-inj : (x y : ℕ) → x < u .p → y < u .p → Chosen u b m (CInj x y)
 
-pub apply-in : (u : Question) (m : List ℤ) (f : Function) (x : ℕ) → valueIn m (apply u f x) ≡ modelOf u m f x
-apply-in u m len x = dot-column m (u .q + x)
-apply-in u m code x = dot-column m (u .q + (u .p + x))
+-- the values of the children's forms
+module _ (u : Question) (m : List ℤ) where
+  pub apply-in : (f : Function) (x : ℕ) → valueIn m (apply u f x) ≡ modelOf u m f x
+  apply-in len x = dot-column m (u .q + x)
+  apply-in code x = dot-column m (u .q + (u .p + x))
+
+  pub less-in : (x : ℕ) → valueIn m (less (apply u len x)) ≡ modelOf u m len x -ℤ pos 1
+  less-in x = dot-less m (apply u len x) (apply-in len x)
+
+  pub number-in : (f : Function) (x : ℕ) (k : ℤ) → valueIn m (minus (apply u f x) (number k)) ≡ modelOf u m f x -ℤ k
+  number-in f x k = dot-minus (apply u f x) (number k) (pos 1 ∷ m) (apply-in f x) (dot-number m k)
+
+  pub difference-in : (f : Function) (x y : ℕ) → valueIn m (minus (apply u f x) (apply u f y)) ≡ modelOf u m f x -ℤ modelOf u m f y
+  difference-in f x y = dot-minus (apply u f x) (apply u f y) (pos 1 ∷ m) (apply-in f x) (apply-in f y)
+
+  pub last-in : (x : ℕ) → valueIn m (minus (number (pos (lastCharacter (u .n)))) (apply u code x)) ≡ pos (lastCharacter (u .n)) -ℤ modelOf u m code x
+  last-in x = dot-minus (number (pos (lastCharacter (u .n)))) (apply u code x) (pos 1 ∷ m) (dot-number m (pos (lastCharacter (u .n)))) (apply-in code x)
 
 module _ (u : Question) (b : Branch) (m : List ℤ) (h : ByClasses u b m) where
   abbrev M : Function → ℕ → ℤ
   M f x = modelOf u m f x
-
-  less-in : (x : ℕ) → valueIn m (less (apply u len x)) ≡ M len x -ℤ pos 1
-  less-in x = dot-less m (apply u len x) (apply-in u m len x)
-
-  number-in : (f : Function) (x : ℕ) (k : ℤ) → valueIn m (minus (apply u f x) (number k)) ≡ M f x -ℤ k
-  number-in f x k = dot-minus (apply u f x) (number k) (pos 1 ∷ m) (apply-in u m f x) (dot-number m k)
-
-  difference-in : (f : Function) (x y : ℕ) → valueIn m (minus (apply u f x) (apply u f y)) ≡ M f x -ℤ M f y
-  difference-in f x y = dot-minus (apply u f x) (apply u f y) (pos 1 ∷ m) (apply-in u m f x) (apply-in u m f y)
 
   -- S-Prop: one class, one value
   pub class-value : (f : Function) (x y : ℕ) → x < u .p → y < u .p → OneClass b x y → M f x ≡ M f y
@@ -88,13 +93,13 @@ module _ (u : Question) (b : Branch) (m : List ℤ) (h : ByClasses u b m) where
     where
       go : Dec (x ≡ y) → M f x ≡ M f y
       go (yes p) = ap (M f) p
-      go (no d) = -ℤ-zero→ (sym (difference-in f x y) ∙ only b m _ (h .s-prop f x y hx hy _ (record { different = d; joined = c; adds = refl })))
+      go (no d) = -ℤ-zero→ (sym (difference-in u m f x y) ∙ only b m _ (h .s-prop f x y hx hy _ (record { different = d; joined = c; adds = refl })))
 
   -- L-Intro and C-Collapse: the values of a literal
   pub literal-value : (f : Function) (x l : ℕ) → x < u .p → Counts u b x l → M f x ≡ valueOf f (literal u l)
   unfolding Instance
-  literal-value len x l hx c = -ℤ-zero→ (sym (number-in len x (valueOf len (literal u l))) ∙ only b m _ (h .l-intro x hx _ (record { held = l; counts = c; adds = refl })))
-  literal-value code x l hx c = -ℤ-zero→ (sym (number-in code x (valueOf code (literal u l))) ∙ only b m _ (h .c-collapse x hx _ (record { held = l; counts = c; adds = refl })))
+  literal-value len x l hx c = -ℤ-zero→ (sym (number-in u m len x (valueOf len (literal u l))) ∙ only b m _ (h .l-intro x hx _ (record { held = l; counts = c; adds = refl })))
+  literal-value code x l hx c = -ℤ-zero→ (sym (number-in u m code x (valueOf code (literal u l))) ∙ only b m _ (h .c-collapse x hx _ (record { held = l; counts = c; adds = refl })))
 
   -- L-Valid: no length is negative
   pub length-nonneg : (x : ℕ) → x < u .p → pos 0 ≤ℤ M len x
@@ -106,7 +111,7 @@ module _ (u : Question) (b : Branch) (m : List ℤ) (h : ByClasses u b m) where
 
       go : AnyHeld b m (lValidChildren u x) → pos 0 ≤ℤ M len x
       go (inl (c, _)) = subst (λ z. pos 0 ≤ℤ z) (sym (literal-value len x 0 hx (empty c))) (≤ℤ-refl (pos 0))
-      go (inr (inl (e, _))) = ≤ℤ-trans (pos-≤ℤ {m = 0} {n = 1} (omega arith)) (-ℤ-nonneg→ (subst (λ z. pos 0 ≤ℤ z) (less-in x) e))
+      go (inr (inl (e, _))) = ≤ℤ-trans (pos-≤ℤ {m = 0} {n = 1} (omega arith)) (-ℤ-nonneg→ (subst (λ z. pos 0 ≤ℤ z) (less-in u m x) e))
       go (inr (inr z)) = absurd z
 
   -- C-Valid: the code is a character's where the length is 1, and −1 elsewhere
@@ -118,12 +123,12 @@ module _ (u : Question) (b : Branch) (m : List ℤ) (h : ByClasses u b m) where
   code-valid n x hx = go (some→any b m _ (h .c-valid x hx _ refl))
     where
       go : AnyHeld b m (cValidChildren u x) → CodeValid x
-      go (inl (p, (q, _))) = inl ((λ e. p (less-in x ∙ →-ℤ-zero e)), -ℤ-zero→ (sym (number-in code x (negsuc 0)) ∙ q))
+      go (inl (p, (q, _))) = inl ((λ e. p (less-in u m x ∙ →-ℤ-zero e)), -ℤ-zero→ (sym (number-in u m code x (negsuc 0)) ∙ q))
       go (inr (inl (p, (q, (s, _))))) =
           let e : M code x ≡ pos (natAbs (M code x)) = abs-nonneg (M code x) (subst (λ z. pos 0 ≤ℤ z) (apply-in u m code x) q) in
-          let k : M code x ≤ℤ pos (lastCharacter (u .n)) = -ℤ-nonneg→ (subst (λ z. pos 0 ≤ℤ z) (dot-minus (number (pos (lastCharacter (u .n)))) (apply u code x) (pos 1 ∷ m) (dot-number m (pos (lastCharacter (u .n)))) (apply-in u m code x)) s) in
+          let k : M code x ≤ℤ pos (lastCharacter (u .n)) = -ℤ-nonneg→ (subst (λ z. pos 0 ≤ℤ z) (last-in u m x) s) in
           let l : natAbs (M code x) ≤ lastCharacter (u .n) = ≤ℤ-pos (subst (λ z. z ≤ℤ pos (lastCharacter (u .n))) e k) in
-          inr (-ℤ-zero→ (sym (less-in x) ∙ p), (natAbs (M code x), e, omega arith))
+          inr (-ℤ-zero→ (sym (less-in u m x) ∙ p), (natAbs (M code x), e, omega arith))
       go (inr (inr z)) = absurd z
 
   -- C-Inj: a character is the code of one class only
@@ -132,7 +137,7 @@ module _ (u : Question) (b : Branch) (m : List ℤ) (h : ByClasses u b m) where
   code-injective x y hx hy d = go (some→any b m _ (h .c-inj x y hx hy _ (record { different = d; adds = refl })))
     where
       go : AnyHeld b m (cInjChildren u x y) → (M code x ≡ negsuc 0) ⊎ ((M code x ≢ M code y) ⊎ OneClass b x y)
-      go (inl (e, _)) = inl (-ℤ-zero→ (sym (number-in code x (negsuc 0)) ∙ e))
-      go (inr (inl (e, _))) = inr (inl (λ p. e (difference-in code x y ∙ →-ℤ-zero p)))
+      go (inl (e, _)) = inl (-ℤ-zero→ (sym (number-in u m code x (negsuc 0)) ∙ e))
+      go (inr (inl (e, _))) = inr (inl (λ p. e (difference-in u m code x y ∙ →-ℤ-zero p)))
       go (inr (inr (inl (c, _)))) = inr (inr c)
       go (inr (inr (inr z))) = absurd z

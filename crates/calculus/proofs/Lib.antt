@@ -1,3 +1,4 @@
+pub mod InRange
 pub mod Cases
 pub mod Tests
 pub mod Rows

@@ -16,9 +16,9 @@ use Rattle.calculus.specs.Rows.{eqℤ}
 use Rattle.calculus.specs.Facts.{Question, Branch, len}
 use Rattle.calculus.specs.Chains.{varNode, Chain, here, OneClass}
 use Rattle.calculus.specs.Classes.{labels, sameClass}
-use Rattle.calculus.specs.Instances.{HeadInRange, FactsInRange}
 use Rattle.calculus.specs.Model.{modelOf}
 use Rattle.calculus.specs.SaturationTest.{lowestFrom, lowestVar, lowestOf}
+use Rattle.calculus.proofs.InRange.{HeadInRange, FactsInRange}
 use Rattle.calculus.proofs.Rows.{eqℤ→, →eqℤ}
 use Rattle.calculus.proofs.Classes.{chain-trans, chain-sym, class→chain, chain→class}
 

@@ -13,7 +13,8 @@ use Rattle.calculus.specs.Rows.{number, minus}
 use Rattle.calculus.specs.Facts.{Question, Fact, Branch, Function, len, code, literal, apply, valueOf}
 use Rattle.calculus.specs.Steps.{Step, Sum, Split, Apart, AConf, SConf, SProp, LIntro, LValid, CCollapse, CValid, CInj, Card, Join}
 use Rattle.calculus.specs.Children.{pairsWith, pairs}
-use Rattle.calculus.specs.Instances.{LastChild, Instance, HeadInRange, FactInRange, FactsInRange, StepInRange}
+use Rattle.calculus.specs.Instances.{LastChild, Instance, StepInRange}
+use Rattle.calculus.proofs.InRange.{HeadInRange, FactInRange, FactsInRange}
 use Rattle.calculus.proofs.Entries.{Whole, whole-number, whole-column, whole-minus, whole-less, whole-below}
 
 module _ (u : Question) (w : HeadInRange u) where

@@ -1,11 +1,13 @@
 -- Relations and multipliers: the tests say what the words say.
 use Prim.Native.Nat.{zero, suc}
 use native.Mathlib.Omega.{arith}
+use mathlib.Core.Path.{_≡_, refl}
 use mathlib.Core.Logic.{_≢_}
 use mathlib.Core.Bool.{Bool, true, false, not, _&&_}
 use lib.Dec.{T, T-not, not-T, le→leb}
 use lib.IntN.{ℤ, pos, negsuc}
-use lib.Signed.{_≤ℤ_, clashℤ}
+use lib.Signed.{_≤ℤ_, leZ, clashℤ}
+use borrow.Author.Tests.{le-leb}
 use Rattle.calculus.specs.Rows.{nonneg, isZero}
 use Rattle.calculus.specs.Facts.{Relation, ge, eq, ne, holds}
 use Rattle.calculus.specs.Instances.{False}
@@ -19,6 +21,10 @@ nonneg→ (negsuc n) t = absurd t
 pub →nonneg : (z : ℤ) → pos 0 ≤ℤ z → T (nonneg z)
 →nonneg (pos n) h = tt
 →nonneg (negsuc n) h = absurd (h .le)
+
+pub nonneg-test : (z : ℤ) → leZ (pos 0) z ≡ nonneg z
+nonneg-test (pos n) = le-leb 0 n (omega arith)
+nonneg-test (negsuc n) = refl
 
 pub nonzero→ : (z : ℤ) → T (not (isZero z)) → z ≢ pos 0
 nonzero→ z t e = T-not (isZero z) t (→isZero e)

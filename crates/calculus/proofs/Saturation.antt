@@ -24,10 +24,11 @@ use Rattle.calculus.specs.Classes.{labels, sameClass, conflict}
 use Rattle.calculus.specs.Steps.{Step, Sum, Split, Apart, AConf, SConf, SProp, LIntro, LValid, CCollapse, CValid, CInj, Card, Join}
 use Rattle.calculus.specs.Children.{pairs, boundChild}
 use Rattle.calculus.specs.Rules.{children, logUp, lastChild}
-use Rattle.calculus.specs.Instances.{LastChild, Instance, HeadInRange, FactsInRange, StepInRange}
+use Rattle.calculus.specs.Instances.{LastChild, Instance, StepInRange}
 use Rattle.calculus.specs.Model.{modelOf, valueIn}
 use Rattle.calculus.specs.Saturation.{HoldsAlready, SomeChild, IsLeafCard, LeafInstance, Saturated}
 use Rattle.calculus.specs.SaturationTest.{held, heldAll, heldSome, byChildren, saturatedStep, every, lowestVar, lowestOf, saturatedCard, saturated}
+use Rattle.calculus.proofs.InRange.{HeadInRange, FactsInRange}
 use Rattle.calculus.proofs.Tests.{every→, →every}
 use Rattle.calculus.proofs.Rows.{dot-minus, dot-number}
 use Rattle.calculus.proofs.Relations.{holds→, →holds}

@@ -22,12 +22,13 @@ use Rattle.calculus.specs.Rows.{eqℤ, dot}
 use Rattle.calculus.specs.Facts.{Question, Fact, same, apart, isLiteral, arithmetic, Branch, Function, len, code, literal, codeOf, valueOf}
 use Rattle.calculus.specs.Chains.{varNode, litNode, Edge, AnyEdge, Chain, here, along, OneClass, Counts}
 use Rattle.calculus.specs.Classes.{labels, classLiteral}
-use Rattle.calculus.specs.Instances.{FactAt, Instance, HeadInRange, FactInRange, FactsInRange}
+use Rattle.calculus.specs.Instances.{FactAt, Instance}
 use Rattle.calculus.specs.Model.{modelOf}
 use Rattle.calculus.specs.Saturation.{Holds, Saturated, MeetsArithmetic}
 use Rattle.calculus.specs.SaturationTest.{lowestVar, lowestOf}
 use Rattle.calculus.specs.Strings.{word, freshFrom, oneChar, fixedBy, fixedString, fixedStrings, stringOf, stringsTo, strings}
 use Rattle.calculus.specs.Meaning.{Assignment, str, For, columns, Meets, Met}
+use Rattle.calculus.proofs.InRange.{HeadInRange, FactInRange, FactsInRange}
 use Rattle.calculus.proofs.Rows.{eqℤ→, →eqℤ}
 use Rattle.calculus.proofs.Relations.{→holds}
 use Rattle.calculus.proofs.Classes.{chain-trans, chain-sym, literal→counts, no-literal, literal-same}
@@ -140,13 +141,10 @@ module _ (u : Question) (w : HeadInRange u) (b : Branch) (r : FactsInRange u b) 
   low-below : (x : ℕ) → x < u .p → low x < u .p
   low-below x h = omega (arith, lowest-le b x)
 
-  same-value : (f : Function) (x y : ℕ) → x < u .p → y < u .p → OneClass b x y → M f x ≡ M f y
-  same-value = class-value u b m held
-
   -- ---- one class, one string
 
   fixed-class : (x y : ℕ) → x < u .p → y < u .p → OneClass b x y → fixed x ≡ fixed y
-  fixed-class x y h g c = ap (λ o. fixedBy u o (M len x) (M code x)) (literal-same u w b r x y c) ∙ ap₂ (fixedBy u (classLiteral u b y)) (same-value len x y h g c) (same-value code x y h g c)
+  fixed-class x y h g c = ap (λ o. fixedBy u o (M len x) (M code x)) (literal-same u w b r x y c) ∙ ap₂ (fixedBy u (classLiteral u b y)) (class-value u b m held len x y h g c) (class-value u b m held code x y h g c)
 
   string-low : (x : ℕ) → x < u .p → string x ≡ string (low x)
   string-low x h = go (fixed x) refl (decLt (low x) x)
@@ -229,7 +227,7 @@ module _ (u : Question) (w : HeadInRange u) (b : Branch) (r : FactsInRange u b) 
       go none e = values-new x (string x) h e (ap length (S-new u b m x e l) ∙ length-fresh (u .p) (u .n) (L u b m x) (before u b m x) 0)
 
   values : (x : ℕ) → x < u .p → Values x (string x)
-  values x h f = let g = low-below x h in same-value f x (low x) h g (lowest-joined b x) ∙ values-low (low x) g (lowest-lowest u w b r x) f ∙ ap (valueOf f) (sym (string-low x h))
+  values x h f = let g = low-below x h in class-value u b m held f x (low x) h g (lowest-joined b x) ∙ values-low (low x) g (lowest-lowest u w b r x) f ∙ ap (valueOf f) (sym (string-low x h))
 
   -- ---- a new class finds a string
 
@@ -238,7 +236,7 @@ module _ (u : Question) (w : HeadInRange u) (b : Branch) (r : FactsInRange u b) 
   ofLength x = lowestOf u (labels b) m (M len x) (u .p)
 
   in-length : (x y : ℕ) → y < u .p → M len y ≡ M len x → In (low y) (ofLength x)
-  in-length x y h e = in-lowests u (labels b) m (M len x) (u .p) (low y) (low-below y h, sym (same-value len y (low y) h (low-below y h) (lowest-joined b y)) ∙ e, lowest-lowest u w b r y)
+  in-length x y h e = in-lowests u (labels b) m (M len x) (u .p) (low y) (low-below y h, sym (class-value u b m held len y (low y) h (low-below y h) (lowest-joined b y)) ∙ e, lowest-lowest u w b r y)
 
   module _ (x : ℕ) (h : x < u .p) (e : fixed x ≡ none) (l : low x ≡ x) where
     itself : In x (ofLength x)

@@ -12,10 +12,11 @@ use Rattle.calculus.specs.Facts.{Question, Fact, Branch}
 use Rattle.calculus.specs.Steps.{Step}
 use Rattle.calculus.specs.Children.{childAt}
 use Rattle.calculus.specs.Rules.{then, children}
-use Rattle.calculus.specs.Instances.{Instance, HeadInRange, FactsInRange, StepInRange}
+use Rattle.calculus.specs.Instances.{Instance, StepInRange}
 use Rattle.calculus.specs.Walk.{Waiting, Walk, working, closed, wait, cutBack, enter}
 use Rattle.calculus.specs.Derivations.{Closes, by, ClosesAll, none-left, child, Takes, Path}
 use Rattle.calculus.specs.Meaning.{Assignment, Met}
+use Rattle.calculus.proofs.InRange.{HeadInRange, FactsInRange}
 use Rattle.calculus.proofs.Tests.{then→, →then}
 use Rattle.calculus.proofs.Fits.{fits→instance, instance→fits}
 use Rattle.calculus.proofs.Ranges.{children-in-range}

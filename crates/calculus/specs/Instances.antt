@@ -8,10 +8,10 @@ use lib.ListN.{length, getD, getElem?}
 use lib.IntN.{ℤ, pos, negℤ, _+ℤ_, _*ℤ_}
 use lib.Signed.{_≤ℤ_, _<ℤ_}
 use Rattle.lists.specs.Lists.{All, Distinct}
-use Rattle.calculus.specs.Limits.{variableLimit, literalLimit, columnLimit}
+use Rattle.calculus.specs.Limits.{columnLimit}
 use Rattle.calculus.specs.Alphabet.{characterCount}
 use Rattle.calculus.specs.Rows.{minus}
-use Rattle.calculus.specs.Facts.{Question, Fact, same, apart, isLiteral, arithmetic, Branch, Relation, ge, eq, ne, Function, len, code, apply}
+use Rattle.calculus.specs.Facts.{Question, Fact, apart, arithmetic, Branch, Relation, ge, eq, ne, Function, len, code, apply}
 use Rattle.calculus.specs.Chains.{litNode, Chain, OneClass, Counts}
 use Rattle.calculus.specs.Steps.{Step, Sum, Split, Apart, AConf, SConf, SProp, LIntro, LValid, CCollapse, CValid, CInj, Card, Join}
 use Rattle.calculus.specs.Children.{sumChild, splitChildren, apartChildren, sPropChild, literalChild, lValidChildren, cValidChildren, cInjChildren, pairs, boundChild, joinChild}
@@ -191,24 +191,7 @@ Instance u b (Card []) cs = ⊥
 Instance u b (Card (x ∷ xs)) cs = IsCard u b x xs cs
 Instance u b (Join j k) cs = IsJoin b j k cs
 
--- ---- what the reader guarantees of a question and of a decoded step (refusals 4 to 6)
-
--- "u32 n (1 to 196,608), u16 p, u16 q (each 0 to 16)", "literal, 0 to 15 of them"
-pub record HeadInRange (u : Question) : Type 0 where
-  pub alphabet : 1 ≤ u .n
-  pub strings : u .p ≤ variableLimit
-  pub integers : u .q ≤ variableLimit
-  pub literals : length (u .literals) ≤ literalLimit
-
--- variables and literals are the question's, forms have a constant and 48 coefficients
-abbrev pub FactInRange : Question → Fact → Type 0
-FactInRange u (same x y) = (x < u .p) × (y < u .p)
-FactInRange u (apart x y) = (x < u .p) × (y < u .p)
-FactInRange u (isLiteral x l) = (x < u .p) × (l ≤ length (u .literals))
-FactInRange u (arithmetic r e) = length e ≡ suc columnLimit
-
-abbrev pub FactsInRange : Question → List Fact → Type 0
-FactsInRange u fs = All (FactInRange u) fs
+-- ---- what the reader guarantees of a decoded step (refusals 5 and 6)
 
 unfoldable pub StepInRange : Question → Step → Type 0
 StepInRange u (Sum d ts) = (1 ≤ d) × (1 ≤ length ts)

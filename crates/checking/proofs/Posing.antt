@@ -16,7 +16,7 @@ use Rattle.format.specs.Question as format
 use Rattle.format.specs.Question.{fault, fresh, ending, readOn, question, advanced}
 use Rattle.format.specs.Reading.{State, proving, taking, Ticket, readSteps, claimFault, claimAt, begin, readClaim}
 use Rattle.format.specs.Checking.{checker}
-use Rattle.format.proofs.Faults.{none-applies, and-true}
+use Rattle.format.proofs.Faults.{none-applies, and-true, clash}
 use Rattle.format.proofs.Turns.{read-none, read-ended, read-stopped, read-more, read-long, read-begin}
 use Rattle.format.proofs.StepTurns.{claim-clean}
 use Rattle.question.specs.declared.Progress.{Progress}
@@ -24,9 +24,6 @@ use Rattle.question.specs.Progress.{progressOf}
 use Rattle.question.specs.Standing.{Stands}
 use Rattle.question.specs.Posed.{Posed, asked}
 use Rattle.question.proofs.Standing.{question-stands}
-
-clash : {X : Type 0} → _≡_ {A = ℕ} 0 1 → X
-clash z = absurd (omega arith)
 
 -- ---- the question
 

@@ -4,8 +4,14 @@ use mathlib.Core.List.{List, _++_}
 use Prim.Native.Nat.{ℕ}
 use lib.ListN.{length, drop}
 use lib.IntN.{ℤ}
+use Rattle.calculus.specs.Facts.{Fact, Branch}
+use Rattle.format.specs.Records.{records}
+use Rattle.format.specs.Reading.{State, readSteps}
 use Rattle.format.specs.Checking as format
+use Rattle.format.specs.Checking.{checker, outcomeOf}
 use Rattle.format.specs.Demands.{written, Checked}
+use Rattle.question.specs.declared.Progress.{Progress}
+use Rattle.question.specs.Posed.{asked}
 use Rattle.checking.specs.declared.Outcome.{Outcome}
 use Rattle.checking.specs.declared.Outcome.the-variants.{Refused, NoSolution, Strings}
 
@@ -15,6 +21,10 @@ unfoldable pub told : format.Outcome → Outcome
 told (format.Refused c r) = Refused c r
 told format.NoSolution = NoSolution
 told (format.Strings s) = Strings
+
+-- what reading comes to in a state behind the claim, from record r at a position on
+abbrev pub outcomeFrom : List ℕ → Progress → State Branch (List Fact) → ℕ → ℕ → format.Outcome
+outcomeFrom b s st r at = outcomeOf (readSteps (checker (asked b s)) b (asked b s) st r (records b at))
 
 -- a part of checking comes to an outcome: it tells it, and of the answer buffer changes the answer's bytes only
 pub record Decided (o : format.Outcome) (answer answer' : List ℕ) (r : Outcome) : Type 0 where

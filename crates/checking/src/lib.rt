@@ -6,16 +6,16 @@ ghost use lib.ListN.{length, replicate};
 ghost use lib.IntN.{pos};
 ghost use Rattle.calculus.specs.Limits.{workNumbers, answerBytes, ticketBytes};
 ghost use Rattle.calculus.specs.Walk.{working};
-ghost use Rattle.format.specs.Records.{kind, next, records};
+ghost use Rattle.format.specs.Records.{kind, next};
 ghost use Rattle.format.specs.Question.{question};
-ghost use Rattle.format.specs.Reading.{proving, taking, readSteps, readClaim, readBehind};
+ghost use Rattle.format.specs.Reading.{proving, taking, readClaim, readBehind};
 ghost use Rattle.format.specs.Checking.{checker, outcomeOf};
 ghost use Rattle.question.specs.Progress.{progressOf};
 ghost use Rattle.question.specs.Posed.{Posed, asked};
 ghost use Rattle.question.specs.Standing.{Stands};
 ghost use Rattle.rows.specs.Rows.{branchOf};
 ghost use Rattle.rows.specs.Work.{Fine};
-ghost use Rattle.checking.specs.Outcomes.{Decided, Promised};
+ghost use Rattle.checking.specs.Outcomes.{outcomeFrom, Decided, Promised};
 use claims::Followed;
 use claims::Walked;
 use claims::claim_fault;
@@ -46,8 +46,7 @@ pub enum Outcome {
 // The steps, up to the last closed branch, and the end behind it. No answer buffer is written.
 fn prove(ticket: &[u8], s: Progress, at: usize, r: usize, work: &mut [i64]) -> Outcome
     requires { ⌜ Posed (now ticket) s × Fine (now work) (s .constraints) × (branchOf (now work) (s .constraints) ≡ asked (now ticket) s .constraints) × (r ≤ at) ⌝ }
-    ensures { λ o. ⌜ ((answer : List ℕ) → Decided (outcomeOf (readSteps (checker (asked (now (ticket .entry)) s)) (now (ticket .entry)) (asked (now (ticket .entry)) s)
-        (proving (working (asked (now (ticket .entry)) s .constraints) [])) r (records (now (ticket .entry)) at))) answer answer o) ⌝ }
+    ensures { λ o. ⌜ ((answer : List ℕ) → Decided (outcomeFrom (now (ticket .entry)) s (proving (working (asked (now (ticket .entry)) s .constraints) [])) r at) answer answer o) ⌝ }
 {
     match walk(ticket, s, at, r, work) {
         Walked::Refused(c, k) => Outcome::Refused(c, k),
@@ -74,8 +73,7 @@ fn at_model(
     answer: &mut [u8],
 ) -> Outcome
     requires { ⌜ Posed (now ticket) s × (kind (now ticket) at ≡ 7) × (next (now ticket) at ≤ length (now ticket)) × (r ≤ at) × Fine (now work) count × (answerBytes ≤ length (now answer)) ⌝ }
-    ensures { λ o. ⌜ Decided (outcomeOf (readSteps (checker (asked (now (ticket .entry)) s)) (now (ticket .entry)) (asked (now (ticket .entry)) s)
-        (taking (branchOf (now (work .entry)) count)) r (records (now (ticket .entry)) at))) (now (answer .entry)) (now (answer .exit)) o ⌝ }
+    ensures { λ o. ⌜ Decided (outcomeFrom (now (ticket .entry)) s (taking (branchOf (now (work .entry)) count)) r at) (now (answer .entry)) (now (answer .exit)) o ⌝ }
 {
     let size = u32_at(ticket, at);
     let settled = settle(ticket, s, at + 6, size, work, count);
@@ -101,8 +99,7 @@ fn give_answer(
     answer: &mut [u8],
 ) -> Outcome
     requires { ⌜ Posed (now ticket) s × Fine (now work) (s .constraints) × (branchOf (now work) (s .constraints) ≡ asked (now ticket) s .constraints) × (r ≤ at) × (answerBytes ≤ length (now answer)) ⌝ }
-    ensures { λ o. ⌜ Decided (outcomeOf (readSteps (checker (asked (now (ticket .entry)) s)) (now (ticket .entry)) (asked (now (ticket .entry)) s)
-        (taking (asked (now (ticket .entry)) s .constraints)) r (records (now (ticket .entry)) at))) (now (answer .entry)) (now (answer .exit)) o ⌝ }
+    ensures { λ o. ⌜ Decided (outcomeFrom (now (ticket .entry)) s (taking (asked (now (ticket .entry)) s .constraints)) r at) (now (answer .entry)) (now (answer .exit)) o ⌝ }
 {
     match follow(ticket, s, at, r, work) {
         Followed::Refused(c, k) => Outcome::Refused(c, k),

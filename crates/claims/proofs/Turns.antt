@@ -15,14 +15,12 @@ use Rattle.format.specs.StepForms.{child}
 use Rattle.format.specs.Reading.{State, proving, taking, modelled, modelAt, fault, advanced, Ticket, Faulty}
 use Rattle.format.specs.Checking.{checker}
 use Rattle.format.proofs.StepTurns.{stepsOn, steps-none, steps-faulty, steps-more}
+use Rattle.format.proofs.Faults.{clash}
 use Rattle.steps.specs.Offered.{offered, offeredChild}
 use Rattle.derivation.specs.State.{childrenOn}
 use Rattle.derivation.specs.Moves.{refused, moved, movedBy}
 use Rattle.claims.specs.Outcomes.{recordOn}
 use Rattle.claims.proofs.Numbers.{walk-kind, path-kind}
-
-clash : {X : Type 0} → _≡_ {A = ℕ} 0 1 → X
-clash z = absurd (omega arith)
 
 from-refused : (n f : ℕ) (w : Walk Branch (List Fact)) → refused n ≡ movedBy f w → (P : ℕ → Type 0) → ((c : ℕ) → f ≡ suc c → P (suc c)) → P n
 from-refused n zero w e P go = clash cc

@@ -1,7 +1,7 @@
 -- Laws of labels, rows and tests below a bound, in the form that a loop asks.
 use mathlib.Core.Path.{_≡_, refl, sym, _∙_, ap, ap₂}
-use mathlib.Core.Bool.{Bool, true, false, cond, _||_, or-true, or-false, or-assoc}
-use mathlib.Core.Option.{Option, none, some}
+use mathlib.Core.Bool.{Bool, true, false, cond, _||_, or-true, or-false, or-assoc, true≢false}
+use mathlib.Core.Option.{none, some}
 use mathlib.Core.List.{List, [], _∷_, _++_}
 use Prim.Native.Nat.{ℕ, zero, suc, _+_, _*_, _-_, _^_, _≤_, _<_}
 use native.Mathlib.Numerals.{add-one}
@@ -15,12 +15,14 @@ use lib.Signed.{ltZ}
 use mir.Syntax.{w64}
 use mir.Val.{SFits, toZ, ofZ}
 use mir.Facts.{toZ-ofZ}
+use Rattle.lists.proofs.Options.{some-injective, none-some}
 use Rattle.calculus.specs.Facts.{Fact, Branch, same, apart, isLiteral, arithmetic}
 use Rattle.calculus.specs.Chains.{varNode, litNode}
 use Rattle.calculus.specs.Classes.{upFrom, relabel, joinNodes, joinFact, labelsFrom, labels, sameClass, lowest, anyBelow, apartMeet}
 use Rattle.calculus.specs.Rules.{logUp}
 use Rattle.calculus.specs.SaturationTest.{lowestFrom}
-use Rattle.rows.specs.Rows.{index, tagged, factOf, rowAt, branchOf}
+use Rattle.format.proofs.Fields.{down}
+use Rattle.rows.specs.Rows.{index, tagged, factOf, rowAt}
 use Rattle.rows.proofs.Branches.{row-number}
 
 -- ---- labels
@@ -30,10 +32,6 @@ pub getD-any : {A : Type 0} (l : List A) (i : ℕ) (d e : A) → i < length l �
 getD-any [] i d e h = absurd (omega arith)
 getD-any (x ∷ l) zero d e h = refl
 getD-any (x ∷ l) (suc i) d e h = getD-any l i d e (omega arith)
-
-pub length-relabel : (old new : ℕ) (ls : List ℕ) → length (relabel old new ls) ≡ length ls
-length-relabel old new [] = refl
-length-relabel old new (c ∷ ls) = ap suc (length-relabel old new ls)
 
 pub getD-relabel : (old new : ℕ) (ls : List ℕ) (i d : ℕ) → i < length ls → getD (relabel old new ls) i d ≡ cond (eqb (getD ls i d) old) new (getD ls i d)
 getD-relabel old new [] i d h = absurd (omega arith)
@@ -67,6 +65,18 @@ module _ (ls : List ℕ) (x k : ℕ) where
 
       less : m ≡ suc m - 1
       less = omega arith
+
+from-below : (ls : List ℕ) (x m k l : ℕ) → lowest ls x k m ≡ some l → l < k + m
+from-below ls x zero k l e = absurd (none-some e)
+from-below ls x (suc m) k l e = go (sameClass ls (varNode x) (litNode k)) refl (λ h. from-below ls x m (k + 1) l h)
+  where
+    go : (t : Bool) → sameClass ls (varNode x) (litNode k) ≡ t → (lowest ls x (k + 1) m ≡ some l → l < k + 1 + m) → l < k + suc m
+    go true h ih = let f : k ≡ l = some-injective (sym (lowest-yes ls x k (suc m) (omega arith) h) ∙ e) in omega arith
+    go false h ih = omega (arith, ih (ap (λ (i : ℕ). lowest ls x (k + 1) i) (sym (down m)) ∙ sym (lowest-no ls x k (suc m) (omega arith) h) ∙ e))
+
+-- a literal that was found is one of the m
+pub literal-below : (ls : List ℕ) (x m l : ℕ) → lowest ls x 0 m ≡ some l → l < m
+literal-below ls x m l e = omega (arith, from-below ls x m 0 l e)
 
 -- ---- the lowest variable
 
@@ -233,4 +243,4 @@ module _ (z : ℤ) (f : SFits w64 z) where
     where
       go : (z : ℤ) → ltZ z (pos 0) ≡ false → ltZ (pos 15) z ≡ false → (n : ℕ) × (n < 16) × (z ≡ pos n) × (index z ≡ n)
       go (pos n) h k = let l : n < 16 = (let m : n ≤ 15 = ltb-false 15 n k in omega arith) in (n, l, refl, rw (lt-ltb n 16 l))
-      go (negsuc n) h k = absurd (let c : true ≡ false = h in let z : _≡_ {A = ℕ} 0 1 = cc in omega arith)
+      go (negsuc n) h k = absurd (true≢false h)

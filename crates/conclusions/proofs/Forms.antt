@@ -6,15 +6,16 @@ use mathlib.Core.Path.{_≡_, sym, _∙_, ap, ap₂, subst}
 use mathlib.Core.Bool.{Bool, true, not, _||_}
 use mathlib.Core.List.{List, [], _∷_}
 use lib.ListN.{List·getD-eq-default}
-use lib.Dec.{T, leb, ltb, eqb}
-use borrow.Author.Tests.{leb-true, ltb-true, eqb-true, ne-eqb}
+use lib.Dec.{T, leb, eqb}
+use borrow.Author.Tests.{leb-true, eqb-true, ne-eqb}
 use Rattle.lists.proofs.Tests.{→true}
 use Rattle.calculus.specs.Steps.{Sum, AConf, SConf, SProp, LIntro, CCollapse, Join}
 use Rattle.calculus.specs.SaturationTest.{every}
 use Rattle.calculus.proofs.Tests.{every→}
 use Rattle.format.specs.Fields.{u16, u32}
-use Rattle.format.specs.StepForms.{Rule, sum, unknown, ruleNames, ruleOf, formFor, fitsForm, rule, lengthFits, sumPairs, multipliersWithin, allBelow, functionOf, operandsInRange, stepOf, stepAt}
+use Rattle.format.specs.StepForms.{Rule, sum, unknown, ruleNames, ruleOf, formFor, fitsForm, rule, lengthFits, sumPairs, multipliersWithin, functionOf, operandsInRange, stepOf, stepAt}
 use Rattle.format.proofs.Faults.{and-true}
+use Rattle.format.proofs.Decoded.{below→}
 use Rattle.conclusions.specs.Made.{isClosing, isConcluding}
 
 -- ---- rules by number
@@ -85,23 +86,20 @@ sum-body b at m p c f h =
 
 -- ---- the operands
 
-first-below : (p x : ℕ) (xs : List ℕ) → allBelow p (x ∷ xs) ≡ true → x < p
-first-below p x xs h = ltb-true x p (and-true (ltb x p) _ h .0)
-
 module _ (b : List ℕ) (at m p c : ℕ) (h : operandsInRange b p c (rule b at) at m ≡ true) where
   pub s-prop-variables : u16 b at ≡ 6 → (u16 b (at + 6) < p) × (u16 b (at + 8) < p)
   unfolding operandsInRange
   s-prop-variables e =
-      let g = and-true (leb (u16 b (at + 4)) 1) _ (in-range b at m 6 e p c h) .1 in
-      (first-below p (u16 b (at + 6)) (u16 b (at + 8) ∷ []) g, first-below p (u16 b (at + 8)) [] (and-true (ltb (u16 b (at + 6)) p) _ g .1))
+      let (x, (y, _)) = below→ p (u16 b (at + 6) ∷ u16 b (at + 8) ∷ []) (and-true (leb (u16 b (at + 4)) 1) _ (in-range b at m 6 e p c h) .1) in
+      (x, y)
 
   pub l-intro-variable : u16 b at ≡ 7 → u16 b (at + 4) < p
   unfolding operandsInRange
-  l-intro-variable e = first-below p (u16 b (at + 4)) [] (in-range b at m 7 e p c h)
+  l-intro-variable e = below→ p (u16 b (at + 4) ∷ []) (in-range b at m 7 e p c h) .0
 
   pub c-collapse-variable : u16 b at ≡ 9 → u16 b (at + 4) < p
   unfolding operandsInRange
-  c-collapse-variable e = first-below p (u16 b (at + 4)) [] (in-range b at m 9 e p c h)
+  c-collapse-variable e = below→ p (u16 b (at + 4) ∷ []) (in-range b at m 9 e p c h) .0
 
 -- ---- the steps
 

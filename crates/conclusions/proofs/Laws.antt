@@ -1,5 +1,5 @@
 -- What the rules that close and those with one conclusion add, from the answers that the code gets.
-use Prim.Native.Nat.{ℕ, zero, suc, _+_, _-_, _<_}
+use Prim.Native.Nat.{ℕ, zero, suc, _+_, _<_}
 use native.Mathlib.Omega.{arith}
 use native.Mathlib.Numerals.{add-one}
 use mathlib.Core.Path.{_≡_, refl, sym, _∙_, ap, ap₂}
@@ -7,27 +7,20 @@ use mathlib.Core.Logic.{_≢_}
 use mathlib.Core.Bool.{Bool, true, false, not, _&&_}
 use mathlib.Core.Option.{Option, none, some}
 use mathlib.Core.List.{List}
-use lib.ListN.{length}
-use lib.IntN.{ℤ, pos, negsuc, negℤ, _-ℤ_, +ℤ-idl}
-use mir.Syntax.{w64}
-use mir.Val.{SFits, toZ, ofZ}
-use mir.Facts.{toZ-ofZ}
-use mir.ValLaws.{toZ-pos}
-use Rattle.integers.proofs.Laws.{abs-neg, sfits-abs}
+use lib.IntN.{ℤ, pos, negℤ}
 use borrow.Author.Tests.{eq-eqb, ne-eqb}
-use Rattle.lists.proofs.Options.{some-injective, none-some}
 use Rattle.calculus.specs.Rows.{column, number, minus}
-use Rattle.calculus.specs.Facts.{Question, Fact, Branch, arithmetic, ge, eq, Function, literal, apply, valueOf}
-use Rattle.calculus.specs.Chains.{varNode, litNode}
+use Rattle.calculus.specs.Facts.{Question, Fact, Branch, arithmetic, ge, eq, Function, literal, apply, codeOf, valueOf}
+use Rattle.calculus.specs.Chains.{varNode}
 use Rattle.calculus.specs.Classes.{labels, sameClass, lowest, classLiteral}
 use Rattle.calculus.specs.Children.{one, sPropChild, literalChild}
 use Rattle.calculus.specs.Steps.{Sum, SProp}
 use Rattle.calculus.specs.Rules.{guard, then, sumOf, divided, children}
-use Rattle.classes.proofs.Laws.{lowest-yes, lowest-no}
-use Rattle.format.specs.Fields.{u32, u32s}
+use Rattle.format.specs.Fields.{u32s}
 use Rattle.format.specs.StepForms.{functionOf}
 use Rattle.format.specs.Places.{literalsFrom}
 use Rattle.format.proofs.Places.{length-texts}
+use Rattle.format.proofs.Fields.{length-u32s}
 use Rattle.rows.specs.Rows.{factOf}
 use Rattle.rows.specs.Work.{single, difference}
 use Rattle.rows.proofs.Forms.{minus-number, columns-difference}
@@ -104,50 +97,13 @@ s-prop-adds u f x y i j n ei ej hi hj =
 
 -- ---- L-Intro and C-Collapse
 
-pub text-length : (b : List ℕ) (at count : ℕ) → length (u32s b at count) ≡ count
-unfolding u32s
-text-length b at zero = refl
-text-length b at (suc count) = ap suc (text-length b (at + 4) count)
-
--- a count as a negative number
-module _ (n : ℕ) (h : n < 9223372036854775808) where
-  pub minus-count-fits : SFits w64 (pos 0 -ℤ toZ w64 n)
-  minus-count-fits = rw (toZ-pos w64 n h, +ℤ-idl (negℤ (pos n))) (sfits-abs (negℤ (pos n)) (rw (abs-neg (pos n)) (omega arith)))
-
-  pub minus-count-is : toZ w64 (ofZ w64 (pos 0 -ℤ toZ w64 n)) ≡ negℤ (pos n)
-  minus-count-is = toZ-ofZ minus-count-fits ∙ ap (λ x. pos 0 -ℤ x) (toZ-pos w64 n h) ∙ +ℤ-idl (negℤ (pos n))
-
--- function 0 of a text
+-- function 0 of a text is its length, 1 its code
 pub value-length : (b : List ℕ) (f at count : ℕ) → f ≡ 0 → pos count ≡ valueOf (functionOf f) (u32s b at count)
-value-length b f at count e = rw e (ap pos (sym (text-length b at count)))
+value-length b f at count e = rw e (ap pos (sym (length-u32s b at count)))
 
--- function 1 of a text of one character, and of any other
-pub value-one : (b : List ℕ) (f at count : ℕ) → (f ≡ 0 → ⊥) → count ≡ 1 → pos (u32 b at) ≡ valueOf (functionOf f) (u32s b at count)
-unfolding u32s
-value-one b zero at count n e = absurd (n refl)
-value-one b (suc f) at count n e = rw e
-
-pub value-other : (b : List ℕ) (f at count : ℕ) → (f ≡ 0 → ⊥) → (count ≡ 1 → ⊥) → negsuc 0 ≡ valueOf (functionOf f) (u32s b at count)
-unfolding u32s
-value-other b zero at count n o = absurd (n refl)
-value-other b (suc f) at zero n o = refl
-value-other b (suc f) at (suc zero) n o = absurd (o refl)
-value-other b (suc f) at (suc (suc count)) n o = refl
-
--- a literal that was found is one of the m
-from-below : (ls : List ℕ) (x m k l : ℕ) → lowest ls x k m ≡ some l → l < k + m
-from-below ls x zero k l e = absurd (none-some e)
-from-below ls x (suc m) k l e = go (sameClass ls (varNode x) (litNode k)) refl (λ h. from-below ls x m (k + 1) l h)
-  where
-    down : suc m - 1 ≡ m
-    down = omega arith
-
-    go : (t : Bool) → sameClass ls (varNode x) (litNode k) ≡ t → (lowest ls x (k + 1) m ≡ some l → l < k + 1 + m) → l < k + suc m
-    go true h ih = let f : k ≡ l = some-injective (sym (lowest-yes ls x k (suc m) (omega arith) h) ∙ e) in omega arith
-    go false h ih = omega (arith, ih (ap (λ (i : ℕ). lowest ls x (k + 1) i) (sym down) ∙ sym (lowest-no ls x k (suc m) (omega arith) h) ∙ e))
-
-pub literal-below : (ls : List ℕ) (x m l : ℕ) → lowest ls x 0 m ≡ some l → l < m
-literal-below ls x m l e = omega (arith, from-below ls x m 0 l e)
+pub value-code : (f : ℕ) (t : List ℕ) → (f ≡ 0 → ⊥) → codeOf t ≡ valueOf (functionOf f) t
+value-code zero t n = absurd (n refl)
+value-code (suc f) t n = refl
 
 -- the lowest literal of the class, among those of the question
 module _ (b : List ℕ) (s : Progress) (br : Branch) (ls : List ℕ) (x : ℕ) (el : ls ≡ labels br) where

@@ -3,7 +3,7 @@ use Prim.Native.Nat.{ℕ, _+_, _<_, _≤_}
 use native.Mathlib.Omega.{arith}
 use mathlib.Core.Path.{_≡_, refl, sym, _∙_, ap, ap₂}
 use mathlib.Core.Logic.{_⊎_, inl, inr}
-use mathlib.Core.Bool.{Bool, true, false, not, _&&_}
+use mathlib.Core.Bool.{Bool, true, false, not, _&&_, false≢true}
 use mathlib.Core.Option.{Option, none, some}
 use mathlib.Core.List.{List, [], _∷_}
 use lib.ListN.{length, getElem?}
@@ -22,7 +22,6 @@ use Rattle.format.specs.Records.{need}
 use Rattle.format.specs.StepForms as forms
 use Rattle.format.specs.StepForms.{Rule, rule, stepOf, stepAt}
 use Rattle.format.specs.Checking.{factWithin, factsWithin, childrenWithin, roomForAll, allTried, takenTried, nth, orNone}
-use Rattle.format.proofs.Faults.{not-both}
 use Rattle.rows.specs.Rows.{factOf}
 use Rattle.conclusions.specs.declared.Made.{Made}
 use Rattle.conclusions.specs.Made.{isConcluding, madeOf}
@@ -79,27 +78,24 @@ joined-single (same x y) g = inl refl
 joined-single (apart x y) g = inl refl
 joined-single (isLiteral x y) g = inl refl
 
-wrong : _≡_ {A = Bool} false true → ⊥
-wrong e = not-both true refl (sym e)
-
 by-rule : (u : Question) (br : Branch) (b : List ℕ) (r : Rule) (at m : ℕ) → isConcluding r ≡ true → Single (children u br (stepOf b r at m))
 unfolding stepOf
 by-rule u br b forms.sum at m e = from-one (sumOf br (forms.sumPairs b at m)) _ (λ r. from-one (divided _ r) _ (λ d. inr (arithmetic ge d, refl)))
-by-rule u br b forms.branch at m e = absurd (wrong e)
-by-rule u br b forms.apart at m e = absurd (wrong e)
-by-rule u br b forms.aConf at m e = absurd (wrong e)
-by-rule u br b forms.sConf at m e = absurd (wrong e)
+by-rule u br b forms.branch at m e = absurd (false≢true e)
+by-rule u br b forms.apart at m e = absurd (false≢true e)
+by-rule u br b forms.aConf at m e = absurd (false≢true e)
+by-rule u br b forms.sConf at m e = absurd (false≢true e)
 by-rule u br b forms.sProp at m e =
     guarded (not (eqb (u16 b (at + 6)) (u16 b (at + 8))) && sameClass (labels br) (varNode (u16 b (at + 6))) (varNode (u16 b (at + 8))))
     (arithmetic eq (minus (apply u (forms.functionOf (u16 b (at + 4))) (u16 b (at + 6))) (apply u (forms.functionOf (u16 b (at + 4))) (u16 b (at + 8)))))
 by-rule u br b forms.lIntro at m e = from-one (classLiteral u br (u16 b (at + 4))) _ (λ l. inr (_, refl))
-by-rule u br b forms.lValid at m e = absurd (wrong e)
+by-rule u br b forms.lValid at m e = absurd (false≢true e)
 by-rule u br b forms.cCollapse at m e = from-one (classLiteral u br (u16 b (at + 4))) _ (λ l. inr (_, refl))
-by-rule u br b forms.cValid at m e = absurd (wrong e)
-by-rule u br b forms.cInj at m e = absurd (wrong e)
-by-rule u br b forms.card at m e = absurd (wrong e)
+by-rule u br b forms.cValid at m e = absurd (false≢true e)
+by-rule u br b forms.cInj at m e = absurd (false≢true e)
+by-rule u br b forms.card at m e = absurd (false≢true e)
 by-rule u br b forms.join at m e = from-one (getElem? br (u16 b (at + 4))) _ (λ f. from-one (getElem? br (u16 b (at + 6))) _ (λ g. joined-single f g))
-by-rule u br b forms.unknown at m e = absurd (wrong e)
+by-rule u br b forms.unknown at m e = absurd (false≢true e)
 
 pub one-conclusion : (u : Question) (br : Branch) (b : List ℕ) (at m : ℕ) → isConcluding (rule b at) ≡ true → Single (children u br (stepAt b at m))
 one-conclusion u br b at m e = by-rule u br b (rule b at) at m e

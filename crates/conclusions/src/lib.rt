@@ -141,7 +141,7 @@ fn s_prop(
     }
 }
 
-// The negative of function (0 len, 1 code) of a text: "code (the code point of a one-character string, else −1)".
+// The negative of function (0 len, 1 code) of a text.
 fn less_text(ticket: &[u8], function: usize, at: usize, count: usize) -> i64
     requires { ⌜ at + 4 * count ≤ length (now ticket) ⌝ }
     ensures { λ r. ⌜ r ≡ negℤ (valueOf (functionOf function) (u32s (now (ticket .entry)) at count)) ⌝ }
@@ -149,10 +149,7 @@ fn less_text(ticket: &[u8], function: usize, at: usize, count: usize) -> i64
     if function == 0 {
         return 0 - count as i64;
     }
-    if count == 1 {
-        return 0 - u32_at(ticket, at) as i64;
-    }
-    1
+    0 - question::text_code(ticket, at, count)
 }
 
 // L-Intro, with function 0: "Adds len(x) = length of l"; C-Collapse, with function 1: "Adds code(x) = code of l, or −1".

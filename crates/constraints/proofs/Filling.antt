@@ -15,7 +15,7 @@ use Rattle.format.specs.Fields.{u16, i32, pairsAt}
 use Rattle.format.specs.Question.{coefficientInRange, pairInRange, rising, fillRow}
 use Rattle.format.proofs.Faults.{and-true}
 use Rattle.format.proofs.Sums.{Ranged, ranged}
-use Rattle.format.proofs.Pairs.{next-pair, no-pair}
+use Rattle.format.proofs.Pairs.{next-pair, no-pair, all-pairs}
 
 -- columns that rise from somewhere on rise from 0 on
 rising-low : (c low : ℕ) (ts : List (ℕ × ℤ)) → rising c low ts ≡ true → rising c 0 ts ≡ true
@@ -39,12 +39,9 @@ module _ (b : List ℕ) (at n : ℕ) (tag constant : ℤ) where
     bound = omega arith;
     long = refl;
     front = refl;
-    rises = ap (rising columnLimit 0) all ∙ h;
-    left = ap (fillRow (zeros 48)) all;
+    rises = ap (rising columnLimit 0) (all-pairs b at n) ∙ h;
+    left = ap (fillRow (zeros 48)) (all-pairs b at n);
   }
-    where
-      all : pairsAt b (at + 6 * 0) (n - 0) ≡ pairsAt b at n
-      all = let e : at + 6 * 0 ≡ at = omega arith in let f : n - 0 ≡ n = omega arith in rw (e, f)
 
   module _ (out : List ℤ) (i : ℕ) (s : Filling out i) (h : i < n) where
     -- the next pair

@@ -86,7 +86,7 @@ body-long b k at m h = go (ℕ-discrete k 3)
 
 -- ---- the numbers of a constraint
 
-within-set : (row : List ℤ) (j : ℕ) (z : ℤ) → rowWithin row ≡ true → within numberLimit z ≡ true → rowWithin (set row j z) ≡ true
+pub within-set : (row : List ℤ) (j : ℕ) (z : ℤ) → rowWithin row ≡ true → within numberLimit z ≡ true → rowWithin (set row j z) ≡ true
 unfolding rowWithin
 within-set [] j z e h = e
 within-set (x ∷ row) zero z e h = ap₂ _&&_ h (and-true (within numberLimit x) (rowWithin row) e .1)

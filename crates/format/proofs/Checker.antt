@@ -11,9 +11,10 @@ use Rattle.calculus.specs.Facts.{Question, Fact, Branch}
 use Rattle.calculus.specs.Steps.{Step}
 use Rattle.calculus.specs.Children.{childAt}
 use Rattle.calculus.specs.Rules.{then, children}
-use Rattle.calculus.specs.Instances.{Instance, HeadInRange, FactsInRange, StepInRange}
+use Rattle.calculus.specs.Instances.{Instance, StepInRange}
 use Rattle.calculus.specs.Walk.{Walk, working, closed, enter}
 use Rattle.calculus.specs.Derivations.{LimitsFrom, Takes, PathLimitsFrom}
+use Rattle.calculus.proofs.InRange.{HeadInRange, FactsInRange}
 use Rattle.calculus.proofs.Fits.{fits→instance}
 use Rattle.calculus.proofs.Ranges.{children-in-range}
 use Rattle.calculus.proofs.Walks.{Walked, StateInRange, enter-in-range, Followed, taken→takes, taken-in-range}

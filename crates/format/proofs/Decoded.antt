@@ -15,17 +15,17 @@ use Rattle.format.specs.StepForms.{Rule, sum, branch, apart, aConf, sCon
 use Rattle.format.proofs.Faults.{and-true}
 use Rattle.format.proofs.Fields.{length-u16s, length-pairs, length-form}
 
-below→ : (p : ℕ) (xs : List ℕ) → allBelow p xs ≡ true → All (λ x. x < p) xs
+pub below→ : (p : ℕ) (xs : List ℕ) → allBelow p xs ≡ true → All (λ x. x < p) xs
 below→ p [] e = tt
 below→ p (x ∷ xs) e = let (h, g) = and-true (ltb x p) (allBelow p xs) e in (ltb-true x p h, below→ p xs g)
 
-least : (f : Form) (m : ℕ) → fitsForm f m ≡ true → f .least ≤ m
-least f m e = leb-true (f .least) m (and-true (leb (f .least) m) _ e .0)
+pub at-least : (f : Form) (m : ℕ) → fitsForm f m ≡ true → f .least ≤ m
+at-least f m e = leb-true (f .least) m (and-true (leb (f .least) m) _ e .0)
 
 rule-in-range : (b : List ℕ) (u : Question) (r : Rule) (at m : ℕ) → fitsForm (formFor r) m ≡ true → operandsInRange b (u .p) (columnCount u) r at m ≡ true → StepInRange u (stepOf b r at m)
 unfolding operandsInRange stepOf StepInRange
 rule-in-range b u sum at m l e =
-    let long : 14 ≤ m = least (formFor sum) m l in
+    let long : 14 ≤ m = at-least (formFor sum) m l in
     (leb-true 1 (u32 b (at + 4)) (and-true _ (leb (u32 b (at + 4)) 2147483647 && multipliersWithin (sumPairs b at m)) e .0), subst (λ k. 1 ≤ k) (sym (length-pairs b (at + 8) ((m - 8) / 6))) (omega arith))
 rule-in-range b u branch at m l e = length-form b (at + 4) (splitPairs m)
 rule-in-range b u apart at m l e = tt
@@ -39,7 +39,7 @@ rule-in-range b u cCollapse at m l e = below→ (u .p) (u16 b (at + 4) ∷ []) e
 rule-in-range b u cValid at m l e = below→ (u .p) (u16 b (at + 4) ∷ []) e .0
 rule-in-range b u cInj at m l e = let (x, y) = below→ (u .p) (u16 b (at + 4) ∷ u16 b (at + 6) ∷ []) e in (x, y .0)
 rule-in-range b u card at m l e =
-    let long : 8 ≤ m = least (formFor card) m l in
+    let long : 8 ≤ m = at-least (formFor card) m l in
     (below→ (u .p) (cardVariables b at m) e, subst (λ k. 2 ≤ k) (sym (length-u16s b (at + 4) ((m - 4) / 2))) (omega arith))
 rule-in-range b u join at m l e = tt
 rule-in-range b u unknown at m l e = tt

@@ -14,8 +14,8 @@ use Rattle.lists.proofs.Lists.{all-map, all-append, In, distinct-snoc}
 use Rattle.calculus.specs.Limits.{alphabetLimit, variableLimit, literalLimit, lengthLimit}
 use Rattle.calculus.specs.Alphabet.{Over, allCharacters}
 use Rattle.calculus.specs.Facts.{Question, Fact, same, apart, isLiteral, arithmetic}
-use Rattle.calculus.specs.Instances.{HeadInRange, FactInRange, FactsInRange}
 use Rattle.calculus.specs.Strings.{given}
+use Rattle.calculus.proofs.InRange.{HeadInRange, FactInRange, FactsInRange}
 use Rattle.calculus.proofs.Words.{over→, →given}
 use Rattle.format.specs.Fields.{pick, u16, u32, u32s}
 use Rattle.format.specs.Records.{size, kind, whole, need}

@@ -1,8 +1,8 @@
 -- A chain of tests: no number applies exactly when every test is passed.
 use Prim.Native.Nat.{ℕ, suc}
 use native.Mathlib.Omega.{arith}
-use mathlib.Core.Path.{_≡_, refl, ap}
-use mathlib.Core.Bool.{Bool, true, false, _&&_}
+use mathlib.Core.Path.{_≡_, refl, sym, _∙_, ap}
+use mathlib.Core.Bool.{Bool, true, false, _&&_, true≢false, false≢true}
 use Rattle.format.specs.Records.{need}
 
 pub none-applies : (c : ℕ) (t : Bool) (later : ℕ) → need (suc c) t later ≡ 0 → (t ≡ true) × (later ≡ 0)
@@ -14,7 +14,11 @@ passed c t later e = ap (λ x. need c x later) e
 
 pub and-true : (a b : Bool) → (a && b) ≡ true → (a ≡ true) × (b ≡ true)
 and-true true b e = (refl, e)
-and-true false b e = absurd (let z : _≡_ {A = ℕ} 0 1 = cc in omega arith)
+and-true false b e = absurd (false≢true e)
 
 pub not-both : (b : Bool) → b ≡ true → b ≡ false → ⊥
-not-both b e f = let z : _≡_ {A = ℕ} 0 1 = cc in omega arith
+not-both b e f = true≢false (sym e ∙ f)
+
+-- what follows from a contradiction found by `cc`
+pub clash : {X : Type 0} → _≡_ {A = ℕ} 0 1 → X
+clash z = absurd (omega arith)

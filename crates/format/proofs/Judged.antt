@@ -45,7 +45,7 @@ meetsAll→ u a (f ∷ b) e = let (h, g) = and-true (meets u a f) (meetsAll u a 
 
 -- ---- the answer's values are an assignment of the question
 
-length-strings : (v : List ℕ) (p at : ℕ) → length (stringsAt v p at) ≡ p
+pub length-strings : (v : List ℕ) (p at : ℕ) → length (stringsAt v p at) ≡ p
 unfolding stringsAt
 length-strings v zero at = refl
 length-strings v (suc p) at = ap suc (length-strings v p (next v at))

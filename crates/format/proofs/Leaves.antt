@@ -13,10 +13,10 @@ use Rattle.lists.proofs.Lists.{getD-all}
 use Rattle.lists.proofs.Tests.{→true, true→}
 use Rattle.calculus.specs.Limits.{lengthLimit}
 use Rattle.calculus.specs.Facts.{Question, Fact, same, apart, isLiteral, arithmetic, Branch, holds, len}
-use Rattle.calculus.specs.Instances.{FactsInRange}
 use Rattle.calculus.specs.Model.{modelOf, valueIn}
 use Rattle.calculus.specs.Saturation.{MeetsArithmetic, AcceptedLeaf}
 use Rattle.calculus.specs.SaturationTest.{saturated}
+use Rattle.calculus.proofs.InRange.{FactsInRange}
 use Rattle.calculus.proofs.Tests.{every→, →every}
 use Rattle.calculus.proofs.Relations.{holds→, →holds}
 use Rattle.calculus.proofs.Leaf.{length-nonneg}

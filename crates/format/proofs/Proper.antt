@@ -11,9 +11,10 @@ use Rattle.lists.specs.Lists.{All}
 use Rattle.calculus.specs.Facts.{Question, Fact, Branch}
 use Rattle.calculus.specs.Steps.{Step, shape}
 use Rattle.calculus.specs.Rules.{children}
-use Rattle.calculus.specs.Instances.{Instance, HeadInRange, FactsInRange, StepInRange}
+use Rattle.calculus.specs.Instances.{Instance, StepInRange}
 use Rattle.calculus.specs.Walk.{Walk, working, closed, enter}
 use Rattle.calculus.specs.Derivations.{SplitLimits, ChildLimits, LimitsFrom, WithinLimits, Takes, PathLimitsFrom, PathWithinLimits}
+use Rattle.calculus.proofs.InRange.{HeadInRange, FactsInRange}
 use Rattle.calculus.proofs.Fits.{fits→instance, instance→fits}
 use Rattle.calculus.proofs.Ranges.{children-in-range}
 use Rattle.calculus.proofs.Shapes.{instance-shape, count, shape-walks}

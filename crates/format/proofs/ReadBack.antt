@@ -9,7 +9,7 @@ use mathlib.Core.List.{List, [], _∷_, _++_, append-assoc, append-nil}
 use lib.ListN.{length, getD, drop, length-append, length-drop}
 use lib.Seq.{drop-at, drop-drop, getD-drop}
 use lib.IntN.{ℤ, pos, negsuc}
-use borrow.Author.Tests.{leb-true, le-leb, lt-ltb, le-ltb, eq-eqb}
+use borrow.Author.Tests.{leb-true, le-leb, eq-eqb}
 use Rattle.lists.specs.Lists.{All}
 use Rattle.lists.proofs.Lists.{getD-all}
 use Rattle.lists.proofs.Tests.{→true}
@@ -28,6 +28,7 @@ use Rattle.format.proofs.Faults.{and-true}
 use Rattle.format.proofs.Entries.{QuestionInRange}
 use Rattle.format.proofs.Claimed.{Claimed, form→claimed, claimed-headed, claimed-in-range}
 use Rattle.format.proofs.Encoded.{length-bytes, length-characters, length-integers, length-record}
+use Rattle.format.proofs.Fields.{signed-low, signed-high}
 
 -- ---- what stands at a position
 
@@ -51,12 +52,11 @@ u32-back b at v rest h e =
     omega (arith, rw add-zero at (byte b at 0 l e), byte b at 1 l e, byte b at 2 l e, byte b at 3 l e)
 
 signed-back : (z : ℤ) → within valueLimit z ≡ true → signed (unsigned z) ≡ z
-unfolding signed
-signed-back (pos v) h = simp (lt-ltb v 2147483648 (omega (arith, leb-true v valueLimit h)))
+signed-back (pos v) h = signed-low v (omega (arith, leb-true v valueLimit h))
 signed-back (negsuc v) h =
     let g : suc v ≤ valueLimit = leb-true (suc v) valueLimit h in
     let e : 4294967295 - (4294967295 - v) ≡ v = omega arith in
-    simp (le-ltb (4294967295 - v) 2147483648 (omega arith), e)
+    signed-high (4294967295 - v) (omega arith) ∙ ap negsuc e
 
 characters-back : (b : List ℕ) (at n : ℕ) (s rest : List ℕ) → n ≤ alphabetLimit → Over n s → drop at b ≡ characterBytes s ++ rest → u32s b at (length s) ≡ s
 unfolding u32s characterBytes

@@ -16,6 +16,7 @@ use Rattle.calculus.proofs.Rows.{dot-number}
 use Rattle.format.specs.Fields.{u16, i32, pairsAt, within}
 use Rattle.format.specs.Question.{coefficientInRange, pairInRange, rising, formRange, fillRow, formOf}
 use Rattle.format.proofs.Faults.{and-true}
+use Rattle.format.proofs.Fields.{down}
 
 -- over the values of the columns
 unfoldable pub pairSum : List ℤ → List (ℕ × ℤ) → ℤ
@@ -85,9 +86,6 @@ form-value b c at count vs h e =
     ∙ ap (λ (y : ℤ). y +ℤ pairSum vs ts) (dot-number vs (i32 b at))
 
 -- ---- the pairs in bytes, one by one
-
-down : (k : ℕ) → suc k - 1 ≡ k
-down k = omega arith
 
 module _ (b : List ℕ) (at : ℕ) where
   pub sum-done : (vs : List ℤ) (k : ℕ) → k ≤ 0 → pairSum vs (pairsAt b at k) ≡ pos 0

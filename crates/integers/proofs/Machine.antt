@@ -5,7 +5,7 @@ use native.Mathlib.Nat.{div-le-self, mod-le, div-mul-le-self, mul-div-cancel-lef
 use mathlib.Core.Path.{_≡_, refl, sym, _∙_, ap, subst}
 use mathlib.Core.Bool.{Bool, true, false, not}
 use lib.Dec.{T, eqb, leb→le, lt→ltb, nleb→lt}
-use lib.IntN.{ℤ, pos, negsuc, negℤ, natAbs, _+ℤ_, _-ℤ_, _*ℤ_}
+use lib.IntN.{ℤ, pos, negsuc, negℤ, natAbs, _+ℤ_, _-ℤ_, _*ℤ_, +ℤ-idl}
 use lib.Signed.{mag, _≤ℤ_, _<ℤ_, leZ, ltZ, quotZ, remZ, leZ-yes, ltZ-yes, ltZ-no}
 use mir.Syntax.{Width, w32, w64}
 use mir.Val.{SFits, hbits, bits, toZ, ofZ}
@@ -13,7 +13,7 @@ use mir.Facts.{toZ-ofZ}
 use mir.ValLaws.{sfits-le}
 use borrow.Author.Tests.{ne-eqb, lt-ltb, le-ltb}
 use Rattle.integers.proofs.Ring.{v, _⊕_, _⊖_, ring, lt-up}
-use Rattle.integers.proofs.Laws.{floorZ, divides}
+use Rattle.integers.proofs.Laws.{abs-neg, sfits-abs, floorZ, divides}
 
 -- ---- division by a positive number
 mag-neg : (n a : ℕ) → n ≤ suc a → mag (negℤ (pos n)) ≤ a
@@ -104,6 +104,14 @@ module _ {w : Width} {x y : ℤ} (fx : SFits w x) (fy : SFits w y) where
       nle (pos a) (negsuc b) t = record { lt = tt }
       nle (negsuc a) (pos b) t = absurd t
       nle (negsuc a) (negsuc b) t = record { lt = lt→ltb a b (nleb→lt b a t) }
+
+-- ---- the negative of z, which was read as y
+module _ (z y : ℤ) (e : y ≡ z) (h : natAbs z < 9223372036854775808) where
+  pub minus-fits : SFits w64 (pos 0 -ℤ y)
+  minus-fits = rw (e, +ℤ-idl (negℤ z)) (sfits-abs (negℤ z) (rw (abs-neg z) (omega arith)))
+
+  pub minus-is : toZ w64 (ofZ w64 (pos 0 -ℤ y)) ≡ negℤ z
+  minus-is = toZ-ofZ minus-fits ∙ ap (λ (x : ℤ). pos 0 -ℤ x) e ∙ +ℤ-idl (negℤ z)
 
 -- ---- bits read as signed, below and above the middle
 pub toZ-low : (w : Width) (n : ℕ) → n < 2 ^ hbits w → toZ w n ≡ pos n

@@ -19,6 +19,7 @@ use Rattle.format.specs.Places.{skip, literalsFrom}
 use Rattle.format.specs.Answer.{stringAt}
 use Rattle.format.proofs.Faults.{none-applies, and-true}
 use Rattle.question.specs.declared.Progress.{Progress}
+use Rattle.question.specs.Posed.{asked}
 use Rattle.question.proofs.Standing.{literals-within}
 use Rattle.answer.proofs.Read.{text-there}
 use Rattle.answer.proofs.Columns.{string-at}
@@ -86,6 +87,7 @@ module _ (b v : List ℕ) (s : Progress) (places : List ℕ) (t : Texts b v s pl
   text-room x h = subst (λ (k : ℕ). next v k ≤ length v) (sym (t .placed x (omega arith))) (text-there v (s .p) (s .q) (t .formed) x h)
 
   pub text-is : (x : ℕ) → x < s .p → stringAt v (getD places x 0) ≡ str (given b v s) x
+  unfolding asked
   text-is x h = ap (stringAt v) (t .placed x (omega arith)) ∙ sym (string-at v (s .p) 0 x h)
 
   pub literal-room : (l : ℕ) → l ≤ s .literals → skip b l literalsFrom ≤ length b

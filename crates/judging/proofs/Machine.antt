@@ -6,20 +6,17 @@ use mathlib.Core.Bool.{not}
 use lib.Dec.{eqb}
 use lib.IntN.{ℤ, pos, negsuc}
 use lib.Signed.{leZ}
-use borrow.Author.Tests.{le-leb, ne-eqb}
+use borrow.Author.Tests.{ne-eqb}
 use mir.Syntax.{w64}
 use mir.Val.{SFits, toZ, ofZ}
 use mir.Facts.{toZ-ofZ}
 use Rattle.integers.proofs.Machine.{isZ, is-bits}
-use Rattle.calculus.specs.Rows.{nonneg, isZero}
+use Rattle.calculus.specs.Rows.{isZero}
 use Rattle.calculus.specs.Facts.{holds}
+use Rattle.calculus.proofs.Relations.{nonneg-test}
 use Rattle.format.specs.Question.{relationOf}
 
 -- ---- the relations' tests
-
-nonneg-test : (z : ℤ) → leZ (pos 0) z ≡ nonneg z
-nonneg-test (pos n) = le-leb 0 n (omega arith)
-nonneg-test (negsuc n) = refl
 
 zero-test : (z : ℤ) → isZ z 0 ≡ isZero z
 zero-test (pos zero) = refl

@@ -18,14 +18,15 @@ use Rattle.format.specs.Judging.{meets}
 use Rattle.format.proofs.Faults.{none-applies}
 use Rattle.question.specs.declared.Progress.{Progress}
 use Rattle.question.specs.Standing.{ConstraintAt}
+use Rattle.question.specs.Posed.{asked}
 use Rattle.answer.specs.Form.{columnsAt}
 use Rattle.answer.proofs.Columns.{length-columns}
-use Rattle.judging.specs.Ready.{asked, given, Form, Ready}
+use Rattle.judging.specs.Ready.{given, Form, Ready}
 use Rattle.judging.proofs.Constraints.{ArithmeticRanges, arithmetic-ranges}
 
 -- the columns of the answer are the values that were found
 columns-are : (b v : List ℕ) (s : Progress) → columns (given b v s) ≡ pos 1 ∷ columnsAt v (s .p) (s .q)
-unfolding columnsAt
+unfolding columnsAt asked
 columns-are b v s = refl
 
 module _ (b v : List ℕ) (s : Progress) (places : List ℕ) (values : List ℤ) (r : Ready b v s places values) (at : ℕ) (c : ConstraintAt b (s .p) (s .q) (s .literals) at) where

@@ -6,19 +6,15 @@ use mathlib.Core.List.{List}
 use lib.ListN.{length, getD}
 use lib.IntN.{ℤ, pos, natAbs}
 use Rattle.calculus.specs.Limits.{columnLimit, valueLimit}
-use Rattle.calculus.specs.Facts.{Question}
 use Rattle.calculus.specs.Meaning.{Assignment}
 use Rattle.format.specs.Question.{formRange}
 use Rattle.format.specs.Answer.{answerForm, assignmentOf}
 use Rattle.question.specs.declared.Progress.{Progress}
-use Rattle.question.specs.Progress.{progressOf}
 use Rattle.question.specs.Standing.{Stands}
+use Rattle.question.specs.Posed.{asked}
 use Rattle.answer.specs.Form.{Placed, columnsAt}
 
--- the question, and the answer's strings and integers
-abbrev pub asked : List ℕ → Progress → Question
-asked b s = progressOf b s .question
-
+-- the answer's strings and integers
 abbrev pub given : List ℕ → List ℕ → Progress → Assignment
 given b v s = assignmentOf v (asked b s)
 

@@ -1,9 +1,9 @@
--- Laws of texts, of the tests by values, and of loops over variables.
+-- Laws of the tests by values, and of loops over variables.
 use mathlib.Core.Path.{_≡_, refl, sym, _∙_, ap, ap₂}
 use mathlib.Core.Bool.{Bool, true, false, not, cond, _&&_, _||_, and-false}
 use mathlib.Core.Option.{Option, none, some}
 use mathlib.Core.List.{List, [], _∷_}
-use Prim.Native.Nat.{ℕ, zero, suc, _+_, _-_, _≤_, _<_}
+use Prim.Native.Nat.{ℕ, zero, suc, _+_, _≤_, _<_}
 use native.Mathlib.Omega.{arith}
 use native.Mathlib.Numerals.{add-one}
 use native.Mathlib.Decide.{decLt}
@@ -12,7 +12,7 @@ use lib.ListN.{length}
 use lib.Dec.{eqb, leb}
 use lib.IntN.{ℤ, pos, negsuc, natAbs}
 use lib.Signed.{ltZ}
-use Rattle.calculus.specs.Alphabet.{lastCharacter, characterCount}
+use Rattle.calculus.specs.Alphabet.{lastCharacter}
 use Rattle.calculus.specs.Rows.{eqℤ}
 use Rattle.calculus.specs.Facts.{Question, Branch, codeOf, literal, len, code}
 use Rattle.calculus.specs.Chains.{varNode, litNode}
@@ -20,55 +20,12 @@ use Rattle.calculus.specs.Classes.{labels, sameClass, lowest, conflict}
 use Rattle.calculus.specs.Rules.{logUp}
 use Rattle.calculus.specs.Model.{modelOf}
 use Rattle.calculus.specs.SaturationTest.{every, lowestVar, lowestOf, saturatedCard}
-use Rattle.format.specs.Fields.{u32, u32s}
-use Rattle.format.specs.Records.{next}
-use Rattle.format.specs.Places.{skip, texts, literalsFrom}
-use Rattle.format.proofs.Places.{skip-far, length-texts}
+use Rattle.format.specs.Places.{literalsFrom}
+use Rattle.format.proofs.Places.{length-texts}
 use Rattle.classes.specs.Classes.{clash}
-use Rattle.classes.proofs.Laws.{lowest-done, lowest-yes, lowest-no}
 use Rattle.leaf.specs.declared.Leaf.{Leaf}
 use Rattle.leaf.specs.Leaf.{asked}
 use Rattle.leaf.specs.Values.{textFits, literalFits, lengthFits, codeBy, codeFits, varFits, pairBy, pairFits}
-
--- ---- texts
-
-pub code-one : (b : List ℕ) (at k : ℕ) → k ≡ 1 → codeOf (u32s b at k) ≡ pos (u32 b at)
-unfolding u32s
-code-one b at k e = rw e
-
-pub code-other : (b : List ℕ) (at k : ℕ) → (k ≡ 1 → ⊥) → codeOf (u32s b at k) ≡ negsuc 0
-unfolding u32s
-code-other b at zero h = refl
-code-other b at (suc zero) h = absurd (h refl)
-code-other b at (suc (suc k)) h = refl
-
--- a literal that was found is one of the m
-some-is : (k l : ℕ) → _≡_ {A = Option ℕ} (some k) (some l) → k ≡ l
-some-is k l e = cc
-
-none-found : (l : ℕ) → _≡_ {A = Option ℕ} none (some l) → ⊥
-none-found l e = let z : _≡_ {A = ℕ} 0 1 = cc in omega arith
-
-from-below : (ls : List ℕ) (x m k l : ℕ) → lowest ls x k m ≡ some l → l < k + m
-from-below ls x zero k l e = absurd (none-found l e)
-from-below ls x (suc m) k l e = go (sameClass ls (varNode x) (litNode k)) refl (λ h. from-below ls x m (k + 1) l h)
-  where
-    down : suc m - 1 ≡ m
-    down = omega arith
-
-    go : (t : Bool) → sameClass ls (varNode x) (litNode k) ≡ t → (lowest ls x (k + 1) m ≡ some l → l < k + 1 + m) → l < k + suc m
-    go true h ih = let f : k ≡ l = some-is k l (sym (lowest-yes ls x k (suc m) (omega arith) h) ∙ e) in omega arith
-    go false h ih = omega (arith, ih (ap (λ (i : ℕ). lowest ls x (k + 1) i) (sym down) ∙ sym (lowest-no ls x k (suc m) (omega arith) h) ∙ e))
-
-pub literal-below : (ls : List ℕ) (x m l : ℕ) → lowest ls x 0 m ≡ some l → l < m
-literal-below ls x m l e = omega (arith, from-below ls x m 0 l e)
-
--- records that stand before whole ones are whole
-pub skip-more : (b : List ℕ) (j k at : ℕ) → j ≤ k → skip b j at ≤ skip b k at
-unfolding skip
-skip-more b zero k at h = skip-far b k at
-skip-more b (suc j) zero at h = absurd (omega arith)
-skip-more b (suc j) (suc k) at h = skip-more b j k (next b at) (omega arith)
 
 -- ---- tests of a variable
 

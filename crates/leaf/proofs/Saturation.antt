@@ -1,30 +1,28 @@
 -- The test of a leaf is the test by values: a child's facts hold just if lengths and codes fit.
-use Prim.Native.Nat.{ℕ, zero, suc, _-_, _≤_, _<_}
-use native.Mathlib.Omega.{arith}
+use Prim.Native.Nat.{ℕ, zero, suc}
 use mathlib.Core.Path.{_≡_, refl, sym, _∙_, ap, ap₂, subst}
 use mathlib.Core.Bool.{Bool, true, false, not, _&&_, _||_, and-true, and-assoc, or-false}
 use mathlib.Core.Option.{Option, none, some}
-use mathlib.Core.List.{List, [], _∷_}
-use lib.ListN.{length}
+use mathlib.Core.List.{List}
 use lib.Dec.{T, eqb→eq, eqb-refl, leb, ltb, eqb, le→leb, leb→le, ltb→lt}
-use lib.IntN.{ℤ, pos, negsuc, _-ℤ_, _+ℤ_, negℤ}
+use lib.IntN.{ℤ, pos, negsuc, _-ℤ_}
 use lib.Signed.{ltZ}
-use borrow.Author.Tests.{lt-ltb, eqb-true}
+use borrow.Author.Tests.{lt-ltb}
 use Rattle.integers.proofs.Laws.{≤ℤ-pos, pos-≤ℤ, →-ℤ-zero, →-ℤ-nonneg, -ℤ-zero→, -ℤ-nonneg→}
 use Rattle.lists.proofs.Tests.{→true, true→, equal-tests}
 use Rattle.calculus.specs.Alphabet.{lastCharacter}
 use Rattle.calculus.specs.Rows.{eqℤ, isZero, nonneg, number, minus, less}
-use Rattle.calculus.specs.Facts.{Question, Branch, Fact, same, isLiteral, arithmetic, ge, eq, ne, Function, len, code, literal, valueOf, apply}
+use Rattle.calculus.specs.Facts.{Question, Branch, Fact, arithmetic, ge, eq, Function, len, code, literal, valueOf, apply}
 use Rattle.calculus.specs.Chains.{varNode, litNode}
 use Rattle.calculus.specs.Classes.{label, labels, sameClass, classLiteral, conflict}
 use Rattle.calculus.specs.Children.{one, sPropChild, literalChild, lValidChildren, cValidChildren, cInjChildren}
 use Rattle.calculus.specs.Rules.{guard, then}
-use Rattle.calculus.specs.Steps.{SProp, LIntro, LValid, CCollapse, CValid, CInj}
+use Rattle.calculus.specs.Steps.{LIntro, LValid, CCollapse, CValid}
 use Rattle.calculus.specs.Model.{modelOf, valueIn}
-use Rattle.calculus.specs.SaturationTest.{held, heldAll, heldSome, byChildren, saturatedStep, saturatedCard, saturated, every}
-use Rattle.calculus.proofs.Rows.{eqℤ→, →eqℤ, isZero→, →isZero, dot-minus, dot-number, dot-less}
+use Rattle.calculus.specs.SaturationTest.{held, heldSome, byChildren, saturatedStep, saturatedCard, saturated, every}
+use Rattle.calculus.proofs.Rows.{eqℤ→, →eqℤ, isZero→, →isZero}
 use Rattle.calculus.proofs.Relations.{nonneg→, →nonneg}
-use Rattle.calculus.proofs.Leaf.{apply-in}
+use Rattle.calculus.proofs.Leaf.{apply-in, less-in, number-in, difference-in, last-in}
 use Rattle.leaf.specs.Values.{textFits, literalFits, lengthFits, codeBy, codeFits, varFits, pairBy, pairFits, byValues}
 
 -- ---- tests of equal meaning
@@ -54,13 +52,10 @@ module _ (u : Question) (ls : List ℕ) (m : List ℤ) where
   one-holds f e = or-false (held ls m f && true) ∙ and-true (held ls m f) ∙ e
 
   number-is : (f : Function) (x : ℕ) (k : ℤ) → held ls m (arithmetic eq (minus (apply u f x) (number k))) ≡ eqℤ (M f x) k
-  number-is f x k = ap isZero (dot-minus (apply u f x) (number k) (pos 1 ∷ m) (apply-in u m f x) (dot-number m k)) ∙ zero-minus (M f x) k
+  number-is f x k = ap isZero (number-in u m f x k) ∙ zero-minus (M f x) k
 
   equal-is : (f : Function) (x y : ℕ) → held ls m (arithmetic eq (minus (apply u f x) (apply u f y))) ≡ eqℤ (M f x) (M f y)
-  equal-is f x y = ap isZero (dot-minus (apply u f x) (apply u f y) (pos 1 ∷ m) (apply-in u m f x) (apply-in u m f y)) ∙ zero-minus (M f x) (M f y)
-
-  less-is : (x : ℕ) → valueIn m (less (apply u len x)) ≡ M len x -ℤ pos 1
-  less-is x = dot-less m (apply u len x) (apply-in u m len x)
+  equal-is f x y = ap isZero (difference-in u m f x y) ∙ zero-minus (M f x) (M f y)
 
   -- L-Intro and C-Collapse
   abbrev byLiteral : Function → Option ℕ → ℤ → Bool
@@ -82,7 +77,7 @@ module _ (u : Question) (ls : List ℕ) (m : List ℤ) where
   unfolding lengthFits
   length-step x =
       ap₂ _||_ (and-true (sameClass ls (varNode x) (litNode 0)))
-      (one-holds (arithmetic ge (less (apply u len x))) (ap nonneg (less-is x) ∙ positive-minus (M len x)))
+      (one-holds (arithmetic ge (less (apply u len x))) (ap nonneg (less-in u m x) ∙ positive-minus (M len x)))
 
   -- C-Valid
   code-cases : (n : ℕ) (t : Bool) (c : ℤ)
@@ -92,14 +87,11 @@ module _ (u : Question) (ls : List ℕ) (m : List ℤ) where
   code-cases n true (negsuc c) = refl
   code-cases n false c = or-false (eqℤ c (negsuc 0) && true) ∙ and-true (eqℤ c (negsuc 0))
 
-  last-is : (x : ℕ) → valueIn m (minus (number (pos (lastCharacter (u .n)))) (apply u code x)) ≡ pos (lastCharacter (u .n)) -ℤ M code x
-  last-is x = dot-minus (number (pos (lastCharacter (u .n)))) (apply u code x) (pos 1 ∷ m) (dot-number m (pos (lastCharacter (u .n)))) (apply-in u m code x)
-
   code-step : (x : ℕ) → heldSome ls m (cValidChildren u x) ≡ codeFits (u .n) (M len x) (M code x)
   code-step x =
-      let single : isZero (valueIn m (less (apply u len x))) ≡ eqℤ (M len x) (pos 1) = ap isZero (less-is x) ∙ zero-minus (M len x) (pos 1) in
+      let single : isZero (valueIn m (less (apply u len x))) ≡ eqℤ (M len x) (pos 1) = ap isZero (less-in u m x) ∙ zero-minus (M len x) (pos 1) in
       ap₂ _||_ (ap₂ (λ (s t : Bool). not s && (t && true)) single (number-is code x (negsuc 0)))
-      (ap₂ (λ (s t : Bool). (s && t) || false) single (ap₂ (λ (s t : Bool). s && (t && true)) (ap nonneg (apply-in u m code x)) (ap nonneg (last-is x))))
+      (ap₂ (λ (s t : Bool). (s && t) || false) single (ap₂ (λ (s t : Bool). s && (t && true)) (ap nonneg (apply-in u m code x)) (ap nonneg (last-in u m x))))
       ∙ code-cases (u .n) (eqℤ (M len x) (pos 1)) (M code x)
 
   -- S-Prop and C-Inj

@@ -1,17 +1,16 @@
 // The leaf: whether its model saturates it (document 01: "settled"), and whether a length passes 64.
 ghost use mathlib.Core.Path.{_≡_};
-ghost use mathlib.Core.Bool.{Bool, true, false, cond, _&&_};
+ghost use mathlib.Core.Bool.{true, false, cond, _&&_};
 ghost use mathlib.Core.List.{[]};
-ghost use Prim.Native.Nat.{ℕ, suc, _+_, _*_, _≤_, _<_};
+ghost use Prim.Native.Nat.{suc, _+_, _*_, _≤_, _<_};
 ghost use lib.ListN.{length, getD};
-ghost use lib.Dec.{eqb, leb};
-ghost use lib.IntN.{ℤ, pos, natAbs};
+ghost use lib.Dec.{eqb};
+ghost use lib.IntN.{pos, natAbs};
 ghost use Rattle.calculus.specs.Limits.{alphabetLimit, variableLimit, literalLimit, factLimit};
 ghost use Rattle.calculus.specs.Rows.{eqℤ};
-ghost use Rattle.calculus.specs.Facts.{literal, codeOf, len, code};
+ghost use Rattle.calculus.specs.Facts.{len, code};
 ghost use Rattle.calculus.specs.Classes as classes;
 ghost use Rattle.calculus.specs.Classes.{lowest};
-ghost use Rattle.calculus.specs.Model.{modelOf};
 ghost use Rattle.calculus.specs.SaturationTest as test;
 ghost use Rattle.calculus.specs.SaturationTest.{every, lowestVar, lowestOf, saturatedCard};
 ghost use Rattle.format.specs.Fields.{u32s};
@@ -71,18 +70,6 @@ pub fn code_of(model: &[i64], p: usize, q: usize, x: usize) -> i64
 
 // ---- the rules with one variable
 
-// The code of a text of the ticket.
-fn text_code(ticket: &[u8], at: usize, count: usize) -> i64
-    requires { ⌜ at + 4 * count ≤ length (now ticket) ⌝ }
-    ensures { λ r. ⌜ r ≡ codeOf (u32s (now (ticket .entry)) at count) ⌝ }
-{
-    if count == 1 {
-        let c = records::u32_at(ticket, at);
-        return c as i64;
-    }
-    -1
-}
-
 // Are these the length and the code of a text of the ticket?
 fn fits_text(ticket: &[u8], at: usize, count: usize, len: i64, code: i64) -> bool
     requires { ⌜ at + 4 * count ≤ length (now ticket) ⌝ }
@@ -92,7 +79,7 @@ fn fits_text(ticket: &[u8], at: usize, count: usize, len: i64, code: i64) -> boo
     if !equal(len, size) {
         return false;
     }
-    let c = text_code(ticket, at, count);
+    let c = question::text_code(ticket, at, count);
     equal(code, c)
 }
 

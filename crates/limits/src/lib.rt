@@ -8,6 +8,9 @@ pub const ANSWER_BYTES: usize = 4268;
 // "a ticket has at most 32,768 bytes"
 pub const TICKET_BYTES: usize = 32768;
 
+// Room for all lines that the program prints: under 12 bytes for each byte of an answer.
+pub const REPORT_BYTES: usize = 65536;
+
 // "u32 n (1 to 196,608)"
 pub const ALPHABET_LIMIT: usize = 196608;
 

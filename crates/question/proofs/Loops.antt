@@ -1,6 +1,6 @@
 -- One turn of each loop over a body's fields: what is left from a position equals what is left from the next.
 use mathlib.Core.Path.{_≡_, refl, ap}
-use mathlib.Core.Bool.{Bool, true, false, _&&_}
+use mathlib.Core.Bool.{true, false, and-false}
 use mathlib.Core.List.{List}
 use Prim.Native.Nat.{ℕ, zero, suc, _+_, _-_, _≤_, _<_}
 use native.Mathlib.Omega.{arith}
@@ -12,12 +12,10 @@ use Rattle.format.specs.Fields.{u16, u32, i32, u32s, pairsAt}
 use Rattle.format.specs.Records.{size, next}
 use Rattle.format.specs.Question.{textOf, pairInRange, rising}
 use Rattle.format.specs.Places.{texts}
+use Rattle.format.proofs.Fields.{down}
 
 -- the tests of a definition, each from a fact in scope
 pub ruleset tests = (eq-eqb, ne-eqb, le-leb, lt-leb, le-ltb)
-
-down : (k : ℕ) → suc k - 1 ≡ k
-down k = omega arith
 
 -- ---- characters below n
 
@@ -54,10 +52,6 @@ module _ (a b : List ℕ) (x y : ℕ) where
   unfolding u32s
   same-no zero h g = absurd (omega arith)
   same-no (suc k) h g = rw (ne-eqb (u32 a x) (u32 b y) g)
-
-and-false : (t : Bool) → (t && false) ≡ false
-and-false true = refl
-and-false false = refl
 
 -- texts of different lengths differ
 pub same-lengths : (a b : List ℕ) (m k x y : ℕ) → (m ≡ k → ⊥) → eqString (u32s a x m) (u32s b y k) ≡ false

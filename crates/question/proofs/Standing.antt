@@ -22,6 +22,7 @@ use Rattle.question.specs.declared.Progress.{Progress}
 use Rattle.question.specs.Progress.{progressOf}
 use Rattle.question.specs.Standing.{LiteralAt, ConstraintAt, Stands}
 use Rattle.format.proofs.RecordFaults.{Passed, passed, head-first, Behind, behind-head, Head, head-formed, literal-formed}
+use Rattle.format.proofs.Faults.{clash}
 
 -- ---- the numbers are all that is kept
 
@@ -215,9 +216,6 @@ begun-stands b = record {
 -- where reading ended
 abbrev pub Ends : List ℕ → Progress → ℕ → Type 0
 Ends b t to = Stands b t to × (to + 6 ≤ length b)
-
-clash : {X : Type 0} → _≡_ {A = ℕ} 0 1 → X
-clash z = absurd (omega arith)
 
 read-stands : (d : ℕ) (b : List ℕ) (s t : Progress) (r at to q : ℕ) → length b ≤ at + d → Stands b s at
     → readOn fault b (progressOf b s) r at ≡ format.Ended (progressOf b t) to q → Ends b t to

@@ -4,10 +4,12 @@ ghost use mathlib.Core.Path.{_≡_};
 ghost use mathlib.Core.List.{[], _∷_};
 ghost use Prim.Native.Nat.{ℕ, _+_, _*_, _<_, _≤_};
 ghost use lib.ListN.{length, getD};
+ghost use lib.IntN.{natAbs};
 ghost use Rattle.calculus.specs.Limits.{variableLimit};
 ghost use Rattle.calculus.specs.Alphabet.{allCharacters};
+ghost use Rattle.calculus.specs.Facts.{codeOf};
 ghost use Rattle.calculus.specs.Strings.{eqString, given};
-ghost use Rattle.format.specs.Fields.{u16, u32, u32s, signed, pairsAt};
+ghost use Rattle.format.specs.Fields.{u32s, signed, pairsAt};
 ghost use Rattle.format.specs.Records.{kind as kindAt, size as sizeAt};
 ghost use Rattle.format.specs.Question.{headFault, textOf, literalFault, stringRange, stringFault, coefficientInRange, pairInRange, rising, formRange, arithmeticFault, kindInPlace, bodyFault, fault, advanced, ending, question};
 ghost use Rattle.format.specs.Places.{skip, texts, literalsFrom};
@@ -468,4 +470,16 @@ pub fn literal_text(b: &[u8], l: usize) -> Text
         at: from + 6,
         count: size / 4,
     }
+}
+
+// "code (the code point of a one-character string, else −1)", of a text.
+pub fn text_code(b: &[u8], at: usize, count: usize) -> i64
+    requires { ⌜ at + 4 * count ≤ length (now b) ⌝ }
+    ensures { λ r. ⌜ (r ≡ codeOf (u32s (now (b .entry)) at count)) × (natAbs r < 4294967296) ⌝ }
+{
+    if count == 1 {
+        let c = u32_at(b, at);
+        return c as i64;
+    }
+    -1
 }

@@ -3,17 +3,14 @@ use mathlib.Core.Path.{_≡_, refl}
 use mathlib.Core.Bool.{Bool, true, false}
 use mathlib.Core.List.{List}
 use Prim.Native.Nat.{ℕ, _+_, _≤_, _<_}
-use native.Mathlib.Omega.{arith}
 use lib.ListN.{length}
 use borrow.Author.Tests.{leb-true, leb-false}
 use Rattle.format.specs.Fields.{pick}
 use Rattle.format.specs.Records.{headed, whole, next, kind, size}
+use Rattle.format.proofs.Faults.{clash}
 use Rattle.records.specs.Found.{foundAt}
 use Rattle.records.specs.declared.Found.{Found}
 use Rattle.records.specs.declared.Found.the-variants.{Whole, Cut, Nothing}
-
-clash : {X : Type 0} → _≡_ {A = ℕ} 0 1 → X
-clash z = absurd (omega arith)
 
 module _ (b : List ℕ) (at : ℕ) where
   -- what is found, by whether the six leading bytes and the body are there

@@ -7,11 +7,12 @@ use mathlib.Core.Option.{some}
 use mathlib.Core.List.{List, [], _∷_, _++_}
 use borrow.Author.Tests.{leb-true}
 use lib.ListN.{length, getD, drop, getElem?}
-use lib.IntN.{ℤ, pos, negsuc, negℤ, natAbs, _+ℤ_, _-ℤ_, _*ℤ_, +ℤ-idl, +ℤ-comm}
+use lib.IntN.{ℤ, pos, negsuc, negℤ, natAbs, _+ℤ_, _-ℤ_, _*ℤ_, +ℤ-comm}
 use mir.Syntax.{w64}
 use mir.Val.{SFits, toZ, ofZ}
 use mir.Facts.{toZ-ofZ}
-use Rattle.integers.proofs.Laws.{minus-one-*ℤ, abs-neg, abs-+-le, sfits-abs}
+use Rattle.integers.proofs.Laws.{minus-one-*ℤ, abs-+-le, sfits-abs}
+use Rattle.integers.proofs.Machine.{minus-fits, minus-is, flip-fits}
 use Rattle.lists.proofs.Options.{none-some, some-injective}
 use Rattle.lists.proofs.Every.{every-snoc, every-take}
 use Rattle.calculus.specs.Limits.{numberLimit, factLimit, workNumbers}
@@ -90,14 +91,14 @@ module _ (z : ℤ) (n : ℕ) (h : natAbs z ≤ n) (room : n ≤ 4000000000000000
   less-is = toZ-ofZ less-fits ∙ ap (λ x. x -ℤ pos 1) (toZ-ofZ fits)
 
   pub neg-fits : SFits w64 (pos 0 -ℤ toZ w64 (ofZ w64 z))
-  neg-fits = rw (toZ-ofZ fits, +ℤ-idl (negℤ z)) (small-fits (negℤ z) (rw (abs-neg z) (omega arith)))
+  neg-fits = minus-fits z _ (toZ-ofZ fits) (omega arith)
 
   pub neg-is : toZ w64 (ofZ w64 (pos 0 -ℤ toZ w64 (ofZ w64 z))) ≡ negsuc 0 *ℤ z
-  neg-is = toZ-ofZ neg-fits ∙ ap (λ x. pos 0 -ℤ x) (toZ-ofZ fits) ∙ +ℤ-idl (negℤ z) ∙ sym (minus-one-*ℤ z)
+  neg-is = minus-is z _ (toZ-ofZ fits) (omega arith) ∙ sym (minus-one-*ℤ z)
 
   -- −1 − z
   pub under-fits : SFits w64 (negsuc 0 -ℤ toZ w64 (ofZ w64 z))
-  under-fits = rw (toZ-ofZ fits) (small-fits (negsuc 0 -ℤ z) (omega (arith, abs-+-le (negsuc 0) (negℤ z) {m = 1} {n = n} (omega arith) (rw (abs-neg z) h))))
+  under-fits = rw (toZ-ofZ fits) (flip-fits z fits)
 
   pub under-is : toZ w64 (ofZ w64 (negsuc 0 -ℤ toZ w64 (ofZ w64 z))) ≡ (negsuc 0 *ℤ z) +ℤ negsuc 0
   under-is = toZ-ofZ under-fits ∙ ap (λ x. negsuc 0 -ℤ x) (toZ-ofZ fits) ∙ +ℤ-comm (negsuc 0) (negℤ z) ∙ ap (λ x. x +ℤ negsuc 0) (sym (minus-one-*ℤ z))

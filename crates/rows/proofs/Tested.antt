@@ -7,18 +7,17 @@ use mathlib.Core.Path.{_≡_, refl, sym, _∙_, ap, ap₂, subst}
 use mathlib.Core.Bool.{Bool, true, false, not, _&&_}
 use mathlib.Core.Option.{Option, none, some}
 use mathlib.Core.List.{List, [], _∷_}
-use borrow.Author.Tests.{le-leb, eq-eqb, ne-eqb}
+use borrow.Author.Tests.{eq-eqb, ne-eqb}
 use lib.ListN.{length, getD, drop, drop-of-length-le}
 use lib.Seq.{drop-cons}
 use lib.Dec.{T, eqb}
 use lib.IntN.{ℤ, pos, negsuc}
-use lib.Signed.{leZ}
 use mir.Syntax.{w64}
 use mir.Val.{SFits, toZ, ofZ}
 use mir.Facts.{toZ-ofZ}
 use Rattle.lists.proofs.Options.{some-none}
 use Rattle.lists.proofs.Tests.{true→}
-use Rattle.calculus.specs.Rows.{scale, nonneg, isZero, eqℤ, eqRow, allZero}
+use Rattle.calculus.specs.Rows.{scale, isZero, eqℤ, eqRow, allZero}
 use Rattle.calculus.specs.Facts.{Fact, same, apart, isLiteral, arithmetic, Relation, ge, eq, ne, holds}
 use Rattle.calculus.specs.Rules.{guard, falsum, joined, statesZero}
 use Rattle.calculus.specs.Children.{one}
@@ -32,10 +31,6 @@ use Rattle.rows.proofs.Tags.{row-relation}
 
 pub same-bits : (x y : ℤ) → SFits w64 x → SFits w64 y → ofZ w64 x ≡ ofZ w64 y → x ≡ y
 same-bits x y f g e = sym (toZ-ofZ f) ∙ ap (toZ w64) e ∙ toZ-ofZ g
-
-pub nonneg-test : (z : ℤ) → leZ (pos 0) z ≡ nonneg z
-nonneg-test (pos n) = le-leb 0 n (omega arith)
-nonneg-test (negsuc n) = refl
 
 pub zero-test : (z : ℤ) → SFits w64 z → eqb (ofZ w64 z) 0 ≡ isZero z
 zero-test (pos zero) f = refl

@@ -11,11 +11,12 @@ use borrow.Author.Tests.{leb-true}
 use Rattle.calculus.specs.Steps.{shape}
 use Rattle.format.specs.StepForms.{Rule, sum, branch, apart, aConf, sConf, sProp, lIntro, lValid, cCollapse, cValid, cInj, card, join, unknown, ruleOf, formFor, rule, operandsInRange, stepOf, stepAt, isChild}
 use Rattle.format.proofs.Faults.{and-true, not-both}
+use Rattle.format.proofs.Decoded.{at-least}
 use Rattle.rows.specs.Work.{Fine}
 use Rattle.question.specs.declared.Progress.{Progress}
 use Rattle.question.specs.Posed.{asked, Posed}
 use Rattle.steps.specs.Forms.{Formed}
-use Rattle.steps.proofs.Table.{at-least, least-four}
+use Rattle.steps.proofs.Table.{least-four}
 use Rattle.conclusions.specs.Made.{isClosing, isConcluding}
 use Rattle.conclusions.proofs.Forms.{last-closing, last-concluding}
 use Rattle.splits.specs.Splits.{isSplit, Ready}

@@ -16,7 +16,7 @@ use Rattle.format.specs.Fields.{u16}
 use Rattle.format.specs.StepForms.{Rule, sum, branch, apart, aConf, sConf, sProp, lIntro, lValid, cCollapse, cValid, cInj, card, join, unknown, ruleOf, formFor, fitsForm, rule, lengthFits, stepOf, stepAt}
 use Rattle.format.specs.Checking.{roomForAll, roomToPend}
 use Rattle.format.proofs.Faults.{not-both}
-use Rattle.steps.proofs.Table.{at-least}
+use Rattle.format.proofs.Decoded.{at-least}
 use Rattle.steps.proofs.Children.{one-each, card-count}
 use Rattle.splits.specs.Splits.{isSplit}
 

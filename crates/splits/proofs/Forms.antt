@@ -2,29 +2,28 @@
 use Prim.Native.Nat.{ℕ, zero, suc, _+_, _-_, _≤_, _<_}
 use native.Mathlib.Omega.{arith}
 use native.Mathlib.Decide.{ℕ-discrete, decLt}
-use mathlib.Core.Path.{_≡_, refl, sym, _∙_, ap, ap₂, subst}
-use mathlib.Core.Logic.{_≢_}
+use mathlib.Core.Path.{_≡_, refl, sym, _∙_, ap, ap₂}
 use mathlib.Core.Bool.{Bool, true, false, _&&_}
-use mathlib.Core.Option.{Option, none, some}
+use mathlib.Core.Option.{some}
 use mathlib.Core.List.{List, [], _∷_, _++_, append-assoc}
-use borrow.Author.Tests.{le-leb, lt-leb, leb-true, eq-eqb, ne-eqb}
+use borrow.Author.Tests.{le-leb, lt-leb, eq-eqb, ne-eqb}
 use lib.ListN.{length, getD, set, drop, getElem?}
-use lib.Dec.{leb, eqb}
+use lib.Dec.{eqb}
 use lib.IntN.{ℤ, pos, negsuc, negℤ, natAbs}
 use Rattle.calculus.specs.Limits.{numberLimit}
-use Rattle.calculus.specs.Rows.{zeros, number, column, minus, less, below}
-use Rattle.calculus.specs.Facts.{Fact, Branch, Question, same, apart, isLiteral, arithmetic, ge, eq, ne}
-use Rattle.calculus.specs.Children.{splitChildren, apartChildren, lValidChildren, cValidChildren, cInjChildren, pairsWith, pairs, boundChild}
+use Rattle.calculus.specs.Rows.{number}
+use Rattle.calculus.specs.Facts.{Fact, same, apart, isLiteral, arithmetic, ge, eq, ne}
+use Rattle.calculus.specs.Children.{apartChildren, cValidChildren, boundChild}
 use Rattle.calculus.specs.Rules.{then, parted, logUp, lastChild}
-use Rattle.format.specs.Fields.{within}
-use Rattle.format.specs.Checking.{fits, rowWithin, factWithin, factsWithin, childrenWithin}
-use Rattle.format.proofs.Faults.{and-true, not-both}
+use Rattle.format.specs.Checking.{fits, rowWithin, factWithin}
+use Rattle.format.proofs.Faults.{not-both}
 use Rattle.rows.specs.Rows.{factOf, rowAt, branchOf}
 use Rattle.rows.specs.Work.{single, difference, kindOf}
-use Rattle.rows.proofs.Forms.{column-single, minus-number, number-minus, less-column, columns-difference}
+use Rattle.rows.proofs.Forms.{column-single, minus-number, number-minus, less-column}
 use Rattle.rows.proofs.Branches.{branch-at, branch-beyond}
 use Rattle.rows.proofs.Tags.{row-relation}
 use Rattle.question.specs.declared.Progress.{Progress}
+use Rattle.constraints.proofs.Ranges.{within-set}
 use Rattle.splits.specs.Splits.{numbered, childOf}
 
 -- ---- a child by its number
@@ -155,20 +154,14 @@ last-some s x m j h = go (decLt 1 (s .n))
 
 -- ---- the limit
 
-within-set : (row : List ℤ) (j : ℕ) (z : ℤ) → rowWithin row ≡ true → natAbs z ≤ numberLimit → rowWithin (set row j z) ≡ true
-unfolding rowWithin
-within-set [] j z e h = refl
-within-set (x ∷ row) zero z e h = ap₂ _&&_ (le-leb (natAbs z) numberLimit h) (and-true (within numberLimit x) (rowWithin row) e .1)
-within-set (x ∷ row) (suc j) z e h = let (p, q) = and-true (within numberLimit x) (rowWithin row) e in ap₂ _&&_ p (within-set row j z q h)
-
 within-number : (z : ℤ) → natAbs z ≤ numberLimit → rowWithin (number z) ≡ true
 unfolding rowWithin
 within-number z h = ap₂ _&&_ (le-leb (natAbs z) numberLimit h) refl
 
 pub within-single : (c : ℤ) (j : ℕ) (k : ℤ) → natAbs c ≤ numberLimit → natAbs k ≤ numberLimit → rowWithin (single c j k) ≡ true
 unfolding single
-within-single c j k h g = within-set (number c) (suc j) k (within-number c h) g
+within-single c j k h g = within-set (number c) (suc j) k (within-number c h) (le-leb (natAbs k) numberLimit g)
 
 pub within-difference : (i j : ℕ) → rowWithin (difference i j) ≡ true
 unfolding difference
-within-difference i j = within-set (set (number (pos 0)) (suc i) (pos 1)) (suc j) (negsuc 0) (within-set (number (pos 0)) (suc i) (pos 1) (within-number (pos 0) (omega arith)) (omega arith)) (omega arith)
+within-difference i j = within-set (set (number (pos 0)) (suc i) (pos 1)) (suc j) (negsuc 0) (within-set (number (pos 0)) (suc i) (pos 1) (within-number (pos 0) (omega arith)) refl) refl

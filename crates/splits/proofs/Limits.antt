@@ -4,26 +4,24 @@ use native.Mathlib.Omega.{arith}
 use native.Mathlib.Decide.{ℕ-discrete, decLt}
 use mathlib.Core.Path.{_≡_, refl, sym, _∙_, ap, subst}
 use mathlib.Core.Bool.{Bool, true, false, _&&_}
-use mathlib.Core.Option.{Option, none, some}
+use mathlib.Core.Option.{Option, some}
 use mathlib.Core.List.{List, [], _∷_}
-use lib.ListN.{length, getD}
+use lib.ListN.{getD}
 use lib.Dec.{leb}
 use lib.IntN.{ℤ, pos, negsuc, negℤ, natAbs}
 use Rattle.integers.proofs.Laws.{abs-neg}
-use Rattle.calculus.specs.Limits.{numberLimit}
-use Rattle.calculus.specs.Rows.{number, column, minus, less}
-use Rattle.calculus.specs.Facts.{Fact, same, isLiteral, arithmetic, ge, eq, ne}
+use Rattle.calculus.specs.Facts.{Fact, isLiteral, arithmetic, ge}
 use Rattle.calculus.specs.Children.{lValidChildren, cValidChildren, cInjChildren, pairsWith, pairs}
 use Rattle.calculus.specs.Rules.{logUp, lastChild, children}
 use Rattle.format.specs.Fields.{u16, u16s}
-use Rattle.format.specs.StepForms.{rule, ruleOf, stepOf}
-use Rattle.format.specs.Checking.{fits, orNone, rowWithin, factWithin, factsWithin, childrenWithin}
+use Rattle.format.specs.StepForms.{rule, stepOf}
+use Rattle.format.specs.Checking.{fits, orNone, factWithin, factsWithin, childrenWithin}
 use Rattle.format.proofs.Faults.{and-true}
 use Rattle.rows.specs.Rows.{branchOf}
-use Rattle.rows.specs.Work.{single, difference}
 use Rattle.rows.proofs.Forms.{less-column, minus-number, columns-difference}
 use Rattle.question.specs.declared.Progress.{Progress}
-use Rattle.splits.specs.Splits.{isSplit, Ready, asked, numbered, childOf}
+use Rattle.question.specs.Posed.{asked}
+use Rattle.splits.specs.Splits.{Ready, numbered, childOf}
 use Rattle.splits.proofs.Variables.{below-first}
 use Rattle.splits.proofs.Forms.{first-is, last-is, last-none, within-single, within-difference}
 use Rattle.splits.proofs.Operands.{card-left, l-valid-operands, c-valid-operands, c-inj-operands, card-operands, branch-child, apart-child, l-valid-child, c-valid-child, c-inj-differ, c-inj-child, card-child}

@@ -2,12 +2,12 @@
 use Prim.Native.Nat.{ℕ, zero, suc, _+_, _*_, _-_, _/_, _≤_, _<_}
 use native.Mathlib.Omega.{arith}
 use mathlib.Core.Path.{_≡_, refl, sym, _∙_, ap, subst}
-use mathlib.Core.Bool.{true, false, not, _&&_}
+use mathlib.Core.Bool.{true, not, _&&_}
 use mathlib.Core.Option.{Option, some}
 use mathlib.Core.List.{List, [], _∷_}
-use borrow.Author.Tests.{ltb-true, eqb-false, not-true}
+use borrow.Author.Tests.{eqb-false, not-true}
 use lib.ListN.{length, drop}
-use lib.Dec.{ltb, eqb, T}
+use lib.Dec.{eqb, T}
 use lib.IntN.{ℤ}
 use Rattle.calculus.specs.Facts.{Fact, Branch, Question}
 use Rattle.calculus.specs.Children.{splitChildren, apartChildren, lValidChildren, cValidChildren, cInjChildren, pairs}
@@ -15,14 +15,15 @@ use Rattle.calculus.specs.Rules.{guard, distinct, neighbours, sameLength, lastC
 use Rattle.format.specs.Fields.{u16, u16s}
 use Rattle.format.specs.Question.{formRange, formOf}
 use Rattle.format.specs.Checking.{fits, orNone}
-use Rattle.format.specs.StepForms.{Rule, ruleOf, formFor, fitsForm, rule, allBelow, operandsInRange, stepOf}
-use Rattle.format.proofs.Faults.{and-true}
-use Rattle.steps.proofs.Table.{at-least, at-most, fits-by, least-four}
+use Rattle.format.specs.StepForms.{ruleOf, formFor, rule, allBelow, operandsInRange, stepOf}
+use Rattle.format.proofs.Decoded.{at-least, below→}
+use Rattle.steps.proofs.Table.{at-most, fits-by, least-four}
 use Rattle.question.specs.declared.Progress.{Progress}
+use Rattle.question.specs.Posed.{asked}
 use Rattle.rows.specs.Rows.{factOf, rowAt, branchOf}
 use Rattle.rows.specs.Work.{kindOf}
 use Rattle.rows.proofs.Tested.{guard-fits, guard-given}
-use Rattle.splits.specs.Splits.{isSplit, Ready, asked, numbered}
+use Rattle.splits.specs.Splits.{isSplit, Ready, numbered}
 use Rattle.splits.proofs.Variables.{card-children}
 use Rattle.splits.proofs.Forms.{parted-is, parted-fits}
 
@@ -47,10 +48,12 @@ card-left (suc (suc (suc (suc (suc (suc (suc (suc (suc (suc (suc (suc (suc (suc 
 -- ---- Card asks for the numbers of a question alone
 
 neighbours-same : (b : List ℕ) (s : Progress) (br : Branch) (x : ℕ) (ys : List ℕ) → neighbours (numbered s) br x ys ≡ neighbours (asked b s) br x ys
+unfolding asked
 neighbours-same b s br x [] = refl
 neighbours-same b s br x (y ∷ ys) = ap (λ t. sameLength (numbered s) br x y && t) (neighbours-same b s br y ys)
 
 pub card-same : (b : List ℕ) (s : Progress) (br : Branch) (xs : List ℕ) → cardChildren (numbered s) br xs ≡ cardChildren (asked b s) br xs
+unfolding asked
 card-same b s br [] = refl
 card-same b s br (x ∷ []) = refl
 card-same b s br (x ∷ y ∷ xs) =
@@ -78,9 +81,6 @@ module _ (b : List ℕ) (s : Progress) (at m : ℕ) (w : List ℤ) (count : ℕ)
   ranged : (k : ℕ) → k ≡ u16 b at → operandsInRange b (s .p) (s .q + (s .p + s .p)) (ruleOf k) at m ≡ true
   ranged k e = ap (λ j. operandsInRange b (s .p) (s .q + (s .p + s .p)) (ruleOf j) at m) e ∙ h .in-range
 
-  first-below : (x : ℕ) (xs : List ℕ) → allBelow (s .p) (x ∷ xs) ≡ true → x < s .p
-  first-below x xs e = ltb-true x (s .p) (and-true (ltb x (s .p)) (allBelow (s .p) xs) e .0)
-
   -- Branch: the form
   pub branch-operands : 2 ≡ u16 b at → (8 ≤ m) × (at + 4 + 4 + 6 * ((m - 8) / 6) ≤ length b) × (formRange b (s .q + (s .p + s .p)) (at + 4) ((m - 8) / 6) ≡ true)
   unfolding operandsInRange
@@ -101,14 +101,14 @@ module _ (b : List ℕ) (s : Progress) (at m : ℕ) (w : List ℤ) (count : ℕ)
   l-valid-operands e =
       let l : 6 ≤ m = long 8 e in
       let whole = h .whole in
-      (omega arith, first-below (u16 b (at + 4)) [] (ranged 8 e))
+      (omega arith, below→ (s .p) (u16 b (at + 4) ∷ []) (ranged 8 e) .0)
 
   pub c-valid-operands : 10 ≡ u16 b at → (at + 4 + 2 ≤ length b) × (u16 b (at + 4) < s .p)
   unfolding operandsInRange
   c-valid-operands e =
       let l : 6 ≤ m = long 10 e in
       let whole = h .whole in
-      (omega arith, first-below (u16 b (at + 4)) [] (ranged 10 e))
+      (omega arith, below→ (s .p) (u16 b (at + 4) ∷ []) (ranged 10 e) .0)
 
   -- C-Inj: the variables
   pub c-inj-operands : 11 ≡ u16 b at → (at + 6 + 2 ≤ length b) × (u16 b (at + 4) < s .p) × (u16 b (at + 6) < s .p)
@@ -116,7 +116,8 @@ module _ (b : List ℕ) (s : Progress) (at m : ℕ) (w : List ℤ) (count : ℕ)
   c-inj-operands e =
       let l : 8 ≤ m = long 11 e in
       let whole = h .whole in
-      (omega arith, first-below (u16 b (at + 4)) (u16 b (at + 6) ∷ []) (ranged 11 e), first-below (u16 b (at + 6)) [] (and-true (ltb (u16 b (at + 4)) (s .p)) (allBelow (s .p) (u16 b (at + 6) ∷ [])) (ranged 11 e) .1))
+      let (x, (y, _)) = below→ (s .p) (u16 b (at + 4) ∷ u16 b (at + 6) ∷ []) (ranged 11 e) in
+      (omega arith, x, y)
 
   -- Card: the variables
   pub card-operands : 12 ≡ u16 b at → (2 ≤ (m - 4) / 2) × ((m - 4) / 2 ≤ 16) × (at + 4 + 2 * ((m - 4) / 2) ≤ length b) × (allBelow (s .p) (u16s b (at + 4) ((m - 4) / 2)) ≡ true) × (4 ≤ m)
@@ -145,22 +146,22 @@ module _ (b : List ℕ) (s : Progress) (at m : ℕ) (w : List ℤ) (count : ℕ)
     apart-child e = step-by (asked b s) (branchOf w count) b at m 3 e ∙ parted-is w count (u16 b (at + 4)) (apart-fact e .0) (apart-fact e .1)
 
     pub l-valid-child : 8 ≡ u16 b at → children (asked b s) (branchOf w count) (stepOf b (rule b at) at m) ≡ some (lValidChildren (numbered s) (u16 b (at + 4)))
-    unfolding stepOf
+    unfolding stepOf asked
     l-valid-child e = step-by (asked b s) (branchOf w count) b at m 8 e
 
     pub c-valid-child : 10 ≡ u16 b at → children (asked b s) (branchOf w count) (stepOf b (rule b at) at m) ≡ some (cValidChildren (numbered s) (u16 b (at + 4)))
-    unfolding stepOf
+    unfolding stepOf asked
     c-valid-child e = step-by (asked b s) (branchOf w count) b at m 10 e
 
     differ : 11 ≡ u16 b at → fits (guard (not (eqb (u16 b (at + 4)) (u16 b (at + 6)))) (cInjChildren (numbered s) (u16 b (at + 4)) (u16 b (at + 6)))) ≡ true
-    unfolding stepOf
+    unfolding stepOf asked
     differ e = fits-by-rule 11 e
 
     pub c-inj-differ : 11 ≡ u16 b at → u16 b (at + 4) ≡ u16 b (at + 6) → ⊥
     c-inj-differ e = eqb-false (u16 b (at + 4)) (u16 b (at + 6)) (not-true _ (sym (guard-fits (not (eqb (u16 b (at + 4)) (u16 b (at + 6)))) (cInjChildren (numbered s) (u16 b (at + 4)) (u16 b (at + 6)))) ∙ differ e))
 
     pub c-inj-child : 11 ≡ u16 b at → children (asked b s) (branchOf w count) (stepOf b (rule b at) at m) ≡ some (cInjChildren (numbered s) (u16 b (at + 4)) (u16 b (at + 6)))
-    unfolding stepOf
+    unfolding stepOf asked
     c-inj-child e = step-by (asked b s) (branchOf w count) b at m 11 e ∙ guard-given (not (eqb (u16 b (at + 4)) (u16 b (at + 6)))) (cInjChildren (numbered s) (u16 b (at + 4)) (u16 b (at + 6))) (differ e)
 
     pub card-child : 12 ≡ u16 b at → children (asked b s) (branchOf w count) (stepOf b (rule b at) at m) ≡ some (pairs (u16s b (at + 4) ((m - 4) / 2)) (lastChild (numbered s) (u16 b (at + 4)) ((m - 4) / 2)))

@@ -2,19 +2,18 @@
 use Prim.Native.Nat.{ℕ, zero, suc, _+_, _*_, _-_, _≤_, _<_}
 use native.Mathlib.Numerals.{add-one}
 use native.Mathlib.Omega.{arith}
-use mathlib.Core.Path.{_≡_, refl, sym, _∙_, ap, ap₂, subst}
+use mathlib.Core.Path.{_≡_, refl, sym, _∙_, ap, subst}
 use mathlib.Core.Bool.{Bool, true, false, not, _&&_, _||_}
-use mathlib.Core.Option.{Option, none, some}
 use mathlib.Core.List.{List, [], _∷_}
 use borrow.Author.Tests.{eq-eqb, ne-eqb, ltb-true}
-use lib.ListN.{length, getD}
-use lib.Dec.{eqb, ltb}
+use lib.ListN.{getD}
+use lib.Dec.{ltb}
 use Rattle.calculus.specs.Facts.{Question, Branch}
 use Rattle.calculus.specs.Children.{pairs}
 use Rattle.calculus.specs.Rules.{guard, elem, distinct, neighbours, sameLength, lastChild, cardChildren}
 use Rattle.format.specs.Fields.{u16, u16s}
 use Rattle.format.specs.StepForms.{allBelow}
-use Rattle.format.proofs.Faults.{and-true}
+use Rattle.format.proofs.Faults.{and-true, not-both}
 use Rattle.format.proofs.Fields.{length-u16s}
 use Rattle.rows.specs.Work.{statesEqual}
 
@@ -74,11 +73,7 @@ distinct-rest b i others h e = ap (λ n. distinct (u16s b (i + 2) n)) (recount o
 pub neighbours-differ : (b : List ℕ) (i others : ℕ) → 0 < others → distinct (u16s b i (others + 1)) ≡ true → u16 b i ≡ u16 b (i + 2) → ⊥
 neighbours-differ b i others h e q =
     let f : elem (u16 b i) (u16s b (i + 2) others) ≡ true = elem-yes b (i + 2) others (u16 b i) h (sym q) in
-    clash (elem (u16 b i) (u16s b (i + 2) others)) f (distinct-parts b i others e .0)
-  where
-    clash : (t : Bool) → t ≡ true → t ≡ false → ⊥
-    clash true p q = let z : _≡_ {A = ℕ} 0 1 = cc in omega arith
-    clash false p q = let z : _≡_ {A = ℕ} 0 1 = cc in omega arith
+    not-both (elem (u16 b i) (u16s b (i + 2) others)) f (distinct-parts b i others e .0)
 
 -- ---- variables below p
 

@@ -12,7 +12,6 @@ use Rattle.format.specs.StepForms.{Rule, sum, branch, apart, aConf, sConf, sPro
 use Rattle.format.specs.Checking.{fits, orNone}
 use Rattle.rows.specs.Work.{Fine}
 use Rattle.question.specs.declared.Progress.{Progress}
-use Rattle.question.specs.Progress.{progressOf}
 
 -- the rules with several conclusions
 abbrev pub isSplit : Rule → Bool
@@ -42,10 +41,6 @@ pub record Ready (b : List ℕ) (s : Progress) (at size : ℕ) (w : List ℤ) (c
   pub few-strings : s .p ≤ variableLimit
   pub few-integers : s .q ≤ variableLimit
   pub fine : Fine w count
-
--- the question of which a ticket's bytes were read
-abbrev pub asked : List ℕ → Progress → Question
-asked b s = progressOf b s .question
 
 -- a question by its numbers alone: the children of these rules ask for no more
 abbrev pub numbered : Progress → Question

@@ -16,7 +16,8 @@ use Rattle.calculus.specs.Steps.{pairCount, lastCount, shape}
 use Rattle.format.specs.Fields.{u16}
 use Rattle.format.specs.StepForms.{Rule, sum, branch, apart, aConf, sConf, sProp, lIntro, lValid, cCollapse, cValid, cInj, card, join, unknown, ruleOf, formFor, fitsForm, rule, lengthFits, cardVariables, stepOf, stepAt, isChild}
 use Rattle.format.proofs.Fields.{length-u16s}
-use Rattle.steps.proofs.Table.{at-least, at-most, between, unnamed}
+use Rattle.format.proofs.Decoded.{at-least}
+use Rattle.steps.proofs.Table.{at-most, between, unnamed}
 
 twice : (m : ℕ) → 2 * pairCount (suc m) ≡ suc m * m
 twice zero = refl

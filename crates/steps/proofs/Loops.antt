@@ -8,9 +8,7 @@ use borrow.Author.Tests.{lt-ltb, le-ltb}
 use Rattle.calculus.specs.Limits.{numberLimit}
 use Rattle.format.specs.Fields.{u16, i32, u16s, pairsAt, within}
 use Rattle.format.specs.StepForms.{multipliersWithin, allBelow}
-
-down : (k : ℕ) → suc k - 1 ≡ k
-down k = omega arith
+use Rattle.format.proofs.Fields.{down}
 
 -- ---- multipliers
 

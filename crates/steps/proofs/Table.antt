@@ -24,9 +24,6 @@ pub entry-right : (k : ℕ) (d : Form) → k < 14 → formOf (getD (map entryOf 
 entry-right k d h = ap formOf (getD-map entryOf ruleNames k unknown d h)
 
 -- a length that fits is at least the least, and at most so many strides more
-pub at-least : (f : format.Form) (m : ℕ) → fitsForm f m ≡ true → f .least ≤ m
-at-least f m e = leb-true (f .least) m (and-true (leb (f .least) m) _ e .0)
-
 pub at-most : (f : format.Form) (m : ℕ) → fitsForm f m ≡ true → (m - f .least) / f .stride ≤ f .greatest
 at-most f m e = leb-true _ (f .greatest) (and-true (eqb ((m - f .least) % f .stride) 0) _ (and-true (leb (f .least) m) _ e .1) .1)
 

@@ -185,9 +185,6 @@ module _ (characters sizes w : List ℕ) where
 
 -- ---- a row that is read from the front
 
-pub length-row : (characters : List ℕ) (y m : ℕ) → m ≤ lengthLimit → lengthLimit * y + lengthLimit ≤ length characters → length (row characters y m) ≡ m
-length-row characters y m h r = length-take-le m (drop (lengthLimit * y) characters) (rw length-drop (omega arith))
-
 pub row-at : (characters : List ℕ) (y m i : ℕ) → i < m → getD (row characters y m) i 0 ≡ getD characters (lengthLimit * y + i) 0
 row-at characters y m i h = getD-take m (drop (lengthLimit * y) characters) i 0 h ∙ getD-drop (lengthLimit * y) characters i 0
 

@@ -15,7 +15,7 @@ use Rattle.format.specs.Fields.{u16, i32, pairsAt, within}
 use Rattle.format.specs.StepForms.{multipliersWithin}
 use Rattle.format.specs.Checking.{fits, rowWithin}
 use Rattle.format.proofs.Faults.{and-true}
-use Rattle.format.proofs.Pairs.{next-pair, no-pair}
+use Rattle.format.proofs.Pairs.{next-pair, no-pair, all-pairs}
 use Rattle.rows.specs.Rows.{factOf, rowAt, branchOf}
 use Rattle.rows.specs.Work.{Within, Fine}
 use Rattle.rows.proofs.Branches.{branch-at, branch-beyond}
@@ -44,13 +44,10 @@ module _ (w : List ℤ) (count : ℕ) (b : List ℕ) (at n : ℕ) where
     long = refl;
     tag = refl;
     small = zero-small 50;
-    multipliers = ap multipliersWithin all ∙ h;
-    left = ap (sumFrom (branchOf w count) (zeros 49)) all;
+    multipliers = ap multipliersWithin (all-pairs b at n) ∙ h;
+    left = ap (sumFrom (branchOf w count) (zeros 49)) (all-pairs b at n);
   }
     where
-      all : pairsAt b (at + 6 * 0) (n - 0) ≡ pairsAt b at n
-      all = let e : at + 6 * 0 ≡ at = omega arith in let f : n - 0 ≡ n = omega arith in rw (e, f)
-
       zero-small : (k : ℕ) → Within 0 (zeros k)
       zero-small zero j = omega arith
       zero-small (suc k) zero = omega arith

@@ -5,7 +5,8 @@ use lib.ListN.{length, length-set, take}
 use mathlib.Core.Path.{_∙_, _≡_, refl, sym}
 use native.Mathlib.Omega.{arith}
 use Rattle.calculus.specs.Classes.{relabel}
-use Rattle.classes.proofs.Laws.{getD-relabel, length-relabel}
+use Rattle.calculus.proofs.Classes.{length-relabel}
+use Rattle.classes.proofs.Laws.{getD-relabel}
 use Rattle.lists.proofs.Filled.{filled-all, filled-more}
 use Rattle.classes.proofs.relabel.Statement.{statement}
 use Rattle.classes.proofs.relabel.Tie as tie

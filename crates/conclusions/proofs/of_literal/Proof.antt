@@ -10,9 +10,11 @@ use native.Mathlib.Omega.{arith}
 use Rattle.calculus.specs.Children.{one}
 use Rattle.calculus.specs.Classes.{lowest}
 use Rattle.calculus.specs.Facts.{Fact, arithmetic, eq}
+use Rattle.classes.proofs.Laws.{literal-below}
 use Rattle.classes.specs.Classes.{literalOf}
-use Rattle.conclusions.proofs.Laws.{literal-adds, literal-below, literal-none}
+use Rattle.conclusions.proofs.Laws.{literal-adds, literal-none}
 use Rattle.conclusions.specs.Made.{madeOf}
+use Rattle.format.proofs.Places.{skip-up}
 use Rattle.format.specs.Fields.{u32s}
 use Rattle.format.specs.Places.{literalsFrom}
 use Rattle.format.specs.StepForms.{functionOf}
@@ -20,7 +22,6 @@ use Rattle.rows.specs.Rows.{branchOf}
 use Rattle.rows.specs.Work.{single}
 use Rattle.conclusions.proofs.of_literal.Statement.{statement}
 use Rattle.conclusions.proofs.of_literal.Tie as tie
-use Rattle.format.proofs.Places.{skip-up}
 
 -- the literal that was found
 found-is : (c : tie.After-known-told) → lowest (c .before .before .before .before .before .labels .result) (c .before .before .before .before .before .before .before .args .x) 0 (c .before .before .before .before .before .before .before .args .s .literals + 1) ≡ some (c .before .found .given .0 .0)

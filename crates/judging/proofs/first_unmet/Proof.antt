@@ -10,10 +10,11 @@ use native.Mathlib.Omega.{arith}
 use Rattle.format.proofs.Places.{skip-snoc}
 use Rattle.format.specs.Places.{constraintsAt, literalsFrom, skip}
 use Rattle.format.specs.Records.{next}
+use Rattle.question.specs.Posed.{asked}
 use Rattle.judging.proofs.Constraints.{literal-room}
 use Rattle.judging.proofs.Unmet.{first-done, first-no, first-yes}
 use Rattle.judging.specs.Judgements.{firstUnmet}
-use Rattle.judging.specs.Ready.{asked, given}
+use Rattle.judging.specs.Ready.{given}
 use Rattle.judging.proofs.first_unmet.Statement.{statement}
 use Rattle.judging.proofs.first_unmet.Tie as tie
 
@@ -31,7 +32,7 @@ behind-literals-requires c κs =
     literal-room (now (s .args .b)) (now (s .args .v)) (s .args .s) (now (s .args .places)) (s .pre .texts) (s .args .s .literals) (omega arith)
 
 loop-holds : tie.Need-loop-holds Inv-loop μ-loop
-unfolding skip
+unfolding skip asked
 loop-holds c =
     let s = c .before .before .before .before .args in
     let e : s .s .constraints - 0 ≡ s .s .constraints = omega arith in

@@ -6,6 +6,7 @@ use native.Mathlib.Omega.{arith}
 use Rattle.judging.proofs.Outcomes.{behind, headed, headless, stopped}
 use Rattle.judging.specs.Judgements.{judgementOf}
 use Rattle.question.specs.Progress.{readingOf}
+use Rattle.question.specs.Posed.{asked}
 use Rattle.judging.proofs.judge_answer.Statement.{statement}
 use Rattle.judging.proofs.judge_answer.Tie as tie
 
@@ -37,7 +38,7 @@ returns-2 c =
     headless (now (s .question)) (now (s .answer)) (sym (c .before .before .before .before .read-question .ensures) ∙ ap (readingOf (now (s .question))) (c .before .before .s .given .1)) (c .if1 .taken)
 
 returns-3 : tie.Need-returns-3
-unfolding readingOf
+unfolding readingOf asked
 returns-3 c =
     let s = c .before .before .before .before .before .before .before .before .args in
     headed (now (s .question)) (now (s .answer)) (judgementOf (c .judge-behind .result)) (sym (c .before .before .before .before .before .read-question .ensures) ∙ ap (readingOf (now (s .question))) (c .before .before .before .s .given .1)) (omega arith) (c .judge-behind .ensures)

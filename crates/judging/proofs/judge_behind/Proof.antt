@@ -3,10 +3,10 @@ use borrow.Author.Needs.{needs}
 use borrow.Author.Tests.{not-false, not-true}
 use denote.Ref.{now}
 use mathlib.Core.Path.{_∙_, ap, refl, sym}
+use Rattle.question.specs.Posed.{asked}
 use Rattle.answer.proofs.Bounds.{outside-same}
 use Rattle.answer.specs.Form.{asking, outsideOf}
 use Rattle.judging.proofs.Outcomes.{judged, out-of-range, unformed}
-use Rattle.judging.specs.Ready.{asked}
 use Rattle.judging.proofs.judge_behind.Statement.{statement}
 use Rattle.judging.proofs.judge_behind.Tie as tie
 
@@ -14,6 +14,7 @@ answer-formed-requires : tie.Need-answer-formed-requires
 answer-formed-requires c κs = c .before .before .pre .stands .few-integers
 
 returns : tie.Need-returns
+unfolding asked
 returns c =
     let s = c .before .before .before .before .args in
     unformed (asked (now (s .b)) (s .s)) (now (s .v)) (sym (c .before .answer-formed .ensures) ∙ not-true _ (c .if1 .taken))
@@ -28,6 +29,7 @@ enum-told : tie.Need-enum-told
 enum-told c = search needs
 
 judge-values-requires : tie.Need-judge-values-requires
+unfolding asked
 judge-values-requires c κs =
     let s = c .before .before .before .before .before .before .before in
     let u = asked (now (s .args .b)) (s .args .s) in (
@@ -37,6 +39,7 @@ judge-values-requires c κs =
     )
 
 returns-2 : tie.Need-returns-2
+unfolding asked
 returns-2 c =
     let s = c .before .before .before .before .before .before .before .before .args in
     let u = asked (now (s .b)) (s .s) in
@@ -44,6 +47,7 @@ returns-2 c =
     (outside-same (now (s .v)) u (asking (u .n) (u .p) (u .q)) (u .p) 0 0 refl refl ∙ sym (c .before .before .before .first-outside .ensures) ∙ ap outsideOf (c .before .r .given .1))
 
 returns-3 : tie.Need-returns-3
+unfolding asked
 returns-3 c =
     let s = c .before .before .before .before .before .before .before .before .args in
     let u = asked (now (s .b)) (s .s) in

@@ -10,7 +10,7 @@ use Rattle.answer.proofs.Read.{integers-there}
 use Rattle.calculus.proofs.Saturation.{enough}
 use Rattle.calculus.specs.Meaning.{columns}
 use Rattle.format.specs.Places.{texts}
-use Rattle.judging.specs.Ready.{asked}
+use Rattle.question.specs.Posed.{asked}
 use Rattle.judging.proofs.judge_values.Statement.{statement}
 use Rattle.judging.proofs.judge_values.Tie as tie
 
@@ -43,6 +43,7 @@ slice-aggregate-first-unmet-2 c =
     sym (ap length (c .before .before .column-values .ensures) ∙ length-columns (now (s .v)) (s .s .p) (s .s .q))
 
 first-unmet-requires : tie.Need-first-unmet-requires
+unfolding asked
 first-unmet-requires c κs =
     let s = c .before .before .before .before .before .before .before in
     let stands = s .pre .0 .stands in

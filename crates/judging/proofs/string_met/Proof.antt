@@ -12,8 +12,9 @@ use Rattle.calculus.specs.Strings.{eqString}
 use Rattle.format.specs.Answer.{stringAt}
 use Rattle.format.specs.Fields.{u16}
 use Rattle.format.specs.Places.{literalsFrom, texts}
+use Rattle.question.specs.Posed.{asked}
 use Rattle.judging.proofs.Constraints.{apart-met, literal-met, literal-room, same-met, string-ranges, text-is, text-room}
-use Rattle.judging.specs.Ready.{asked, given}
+use Rattle.judging.specs.Ready.{given}
 use Rattle.judging.proofs.string_met.Statement.{statement}
 use Rattle.judging.proofs.string_met.Tie as tie
 
@@ -52,6 +53,7 @@ is-literal-requires c κs =
     )
 
 returns : tie.Need-returns
+unfolding asked
 returns c =
     let s = c .before .before .before .before .before .before .before .before .before in
     let b = now (s .args .b) in

@@ -45,7 +45,7 @@ returns-2 c =
     let s = c .before .before .before .before .before in
     let t = u32s (now (s .args .ticket)) (s .args .at) (s .args .count) in
     c .equal2 .ensures
-    ∙ ap₂ eqℤ (toZ-ofZ (s .fits .code)) (toZ-ofZ (record { sfits = c .before .text-code .ok }) ∙ c .before .text-code .ensures)
+    ∙ ap₂ eqℤ (toZ-ofZ (s .fits .code)) (toZ-ofZ (record { sfits = c .before .text-code .ok }) ∙ c .before .text-code .ensures .0)
     ∙ sym (text-yes t (s .args .len) (s .args .code) (sym (size-test (c .before .before .before)) ∙ not-false _ (c .before .before .if1 .left)))
 
 pub fits-text-spec : {M : Type 1} → statement M

@@ -11,8 +11,11 @@ use native.Mathlib.Numerals.{add-one}
 use native.Mathlib.Omega.{arith}
 use Rattle.calculus.specs.Classes.{lowest}
 use Rattle.classes.specs.Classes.{literalOf}
+use Rattle.classes.proofs.Laws.{literal-below}
+use Rattle.format.proofs.Places.{skip-up}
 use Rattle.format.specs.Fields.{u32s}
-use Rattle.leaf.proofs.Laws.{literal-below, literal-none, literal-some, skip-more}
+use Rattle.format.specs.Places.{literalsFrom}
+use Rattle.leaf.proofs.Laws.{literal-none, literal-some}
 use Rattle.leaf.specs.Leaf.{asked}
 use Rattle.leaf.specs.Values.{textFits}
 use Rattle.leaf.proofs.literal_fits.Statement.{statement}
@@ -38,7 +41,7 @@ literal-text-requires : tie.Need-literal-text-requires
 literal-text-requires c κs =
     let s = c .before .before .before .before .before .before .before in
     let l : c .before .found .given .0 .0 < suc (s .args .leaf .literals) = literal-below (s .args .leaf .labels) (s .args .x) (suc (s .args .leaf .literals)) (c .before .found .given .0 .0) (found-is c) in
-    omega (arith, s .pre .2, skip-more (now (s .args .ticket)) (c .before .found .given .0 .0) (s .args .leaf .literals) 14 (omega arith))
+    omega (arith, s .pre .2, skip-up (now (s .args .ticket)) (c .before .found .given .0 .0) (s .args .leaf .literals) literalsFrom (omega arith))
 
 fits-text-requires : tie.Need-fits-text-requires
 fits-text-requires c κs = c .literal-text .ensures .0

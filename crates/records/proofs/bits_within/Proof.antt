@@ -4,7 +4,7 @@ use mathlib.Core.Path.{ap}
 use Prim.Native.Nat.{ℕ}
 use native.Mathlib.Omega.{arith}
 use lib.Dec.{leb}
-use Rattle.records.proofs.Signed.{signed-low, signed-high}
+use Rattle.format.proofs.Fields.{signed-low, signed-high}
 use Rattle.records.proofs.bits_within.Statement.{statement}
 use Rattle.records.proofs.bits_within.Tie as tie
 

@@ -9,7 +9,8 @@ use mir.Val.{toZ}
 use mir.ValLaws.{toZ-ofZ}
 use Rattle.integers.proofs.Machine.{toZ-low, toZ-high, signed-of}
 use Rattle.format.specs.Fields.{signed}
-use Rattle.records.proofs.Signed.{signed-low, signed-high, signed-bound}
+use Rattle.format.proofs.Fields.{signed-low, signed-high}
+use Rattle.records.proofs.Signed.{signed-bound}
 use Rattle.records.proofs.signed_of.Statement.{statement}
 use Rattle.records.proofs.signed_of.Tie as tie
 

@@ -6,8 +6,9 @@ use mathlib.Core.Bool.{not}
 use mathlib.Core.Path.{_∙_, _≡_, ap, refl, sym}
 use mir.Facts.{toZ-ofZ}
 use Rattle.calculus.specs.Facts.{Relation, holds, ne}
+use Rattle.calculus.proofs.Relations.{nonneg-test}
 use Rattle.format.specs.Question.{relationOf}
-use Rattle.rows.proofs.Tested.{nonneg-test, zero-test}
+use Rattle.rows.proofs.Tested.{zero-test}
 use Rattle.rows.proofs.holds_of.Statement.{statement}
 use Rattle.rows.proofs.holds_of.Tie as tie
 

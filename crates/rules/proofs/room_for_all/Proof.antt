@@ -4,7 +4,8 @@ use denote.Ref.{now}
 use mathlib.Core.Path.{sym, _∙_}
 use native.Mathlib.Omega.{arith}
 use Rattle.format.specs.StepForms.{formFor, rule}
-use Rattle.steps.proofs.Table.{at-least, least-four}
+use Rattle.format.proofs.Decoded.{at-least}
+use Rattle.steps.proofs.Table.{least-four}
 use Rattle.rules.proofs.Rooms.{room-three, room-one}
 use Rattle.rules.proofs.room_for_all.Statement.{statement}
 use Rattle.rules.proofs.room_for_all.Tie as tie

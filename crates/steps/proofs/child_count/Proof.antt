@@ -7,7 +7,8 @@ use denote.Ref.{now}
 use lib.ListN.{length}
 use Rattle.calculus.specs.Steps.{shape}
 use Rattle.format.specs.StepForms.{Rule, ruleOf, formFor, rule, stepOf}
-use Rattle.steps.proofs.Table.{at-least, at-most, least-four, fits-by, unnamed, between, beyond}
+use Rattle.format.proofs.Decoded.{at-least}
+use Rattle.steps.proofs.Table.{at-most, least-four, fits-by, unnamed, between, beyond}
 use Rattle.steps.proofs.Children.{card-count}
 use Rattle.steps.proofs.child_count.Statement.{statement}
 use Rattle.steps.proofs.child_count.Tie as tie

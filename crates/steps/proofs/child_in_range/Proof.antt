@@ -6,7 +6,8 @@ use denote.Ref.{now}
 use lib.Dec.{leb}
 use Rattle.calculus.specs.Steps.{shape}
 use Rattle.format.specs.StepForms.{formFor, rule, stepAt, isChild}
-use Rattle.steps.proofs.Table.{at-least, least-four}
+use Rattle.format.proofs.Decoded.{at-least}
+use Rattle.steps.proofs.Table.{least-four}
 use Rattle.steps.proofs.Children.{first-child, later-child}
 use Rattle.steps.proofs.child_in_range.Statement.{statement}
 use Rattle.steps.proofs.child_in_range.Tie as tie

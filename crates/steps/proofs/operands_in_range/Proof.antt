@@ -7,7 +7,8 @@ use Prim.Native.Nat.{ℕ, _+_, _≤_}
 use denote.Ref.{now}
 use Rattle.format.specs.Fields.{u16s}
 use Rattle.format.specs.StepForms.{Rule, ruleOf, formFor, allBelow, operandsInRange, rule}
-use Rattle.steps.proofs.Table.{at-least, least-four, fits-by, unnamed, between, beyond}
+use Rattle.format.proofs.Decoded.{at-least}
+use Rattle.steps.proofs.Table.{least-four, fits-by, unnamed, between, beyond}
 use Rattle.steps.proofs.Loops.{two-variables}
 use Rattle.steps.proofs.operands_in_range.Statement.{statement}
 use Rattle.steps.proofs.operands_in_range.Tie as tie

@@ -8,7 +8,8 @@ use denote.Ref.{now}
 use lib.Dec.{eqb}
 use Rattle.question.specs.Progress.{progressOf}
 use Rattle.format.specs.StepForms.{formFor, rule, child}
-use Rattle.steps.proofs.Table.{at-least, least-four}
+use Rattle.format.proofs.Decoded.{at-least}
+use Rattle.steps.proofs.Table.{least-four}
 use Rattle.steps.proofs.Faults.{out-of-form, formed, by-child}
 use Rattle.steps.proofs.step_fault_one.Statement.{statement}
 use Rattle.steps.proofs.step_fault_one.Tie as tie

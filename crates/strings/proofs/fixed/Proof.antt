@@ -16,9 +16,9 @@ use Rattle.calculus.specs.Rows.{eqℤ}
 use Rattle.calculus.specs.Strings.{oneChar}
 use Rattle.classes.specs.Classes.{literalOf}
 use Rattle.format.proofs.Fields.{length-u32s}
-use Rattle.format.proofs.Places.{length-texts}
+use Rattle.classes.proofs.Laws.{literal-below}
+use Rattle.format.proofs.Places.{length-texts, skip-up}
 use Rattle.format.specs.Places.{literalsFrom, texts}
-use Rattle.leaf.proofs.Laws.{literal-below, skip-more}
 use Rattle.leaf.specs.Leaf.{asked}
 use Rattle.strings.proofs.Table.{fixed-literal, fixed-other, literal-short, sized-some}
 use Rattle.strings.proofs.fixed.Statement.{statement}
@@ -64,7 +64,7 @@ enum-known-found c = search needs
 literal-text-requires : tie.Need-literal-text-requires
 literal-text-requires c κs =
     let s = c .before .before .before .before .before .before .before in
-    omega (arith, s .pre .0 .0 .literals-whole, skip-more (now (s .args .ticket)) (c .before .found .given .0 .0) (s .args .leaf .literals) 14 (within c))
+    omega (arith, s .pre .0 .0 .literals-whole, skip-up (now (s .args .ticket)) (c .before .found .given .0 .0) (s .args .leaf .literals) literalsFrom (within c))
 
 text-requires : tie.Need-text-requires
 text-requires c κs = (c .literal-text .ensures .0, short c)

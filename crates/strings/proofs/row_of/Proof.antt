@@ -7,8 +7,9 @@ use lib.Seq.{take-all}
 use mathlib.Core.Path.{_∙_, _≡_, ap, refl, sym}
 use native.Mathlib.Omega.{arith}
 use Rattle.answer.specs.Table.{row}
+use Rattle.answer.proofs.Written.{length-row}
 use Rattle.lists.proofs.Filled.{filled-more}
-use Rattle.strings.proofs.Table.{length-row, row-at}
+use Rattle.strings.proofs.Table.{row-at}
 use Rattle.strings.proofs.row_of.Statement.{statement}
 use Rattle.strings.proofs.row_of.Tie as tie
 

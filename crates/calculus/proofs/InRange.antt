@@ -1,0 +1,25 @@
+-- What the reader guarantees of a question (refusals 4 to 6): its numbers, variables and literals are in range, its forms whole.
+use Prim.Native.Nat.{suc, _<_, _≤_}
+use mathlib.Core.Path.{_≡_}
+use mathlib.Core.List.{List}
+use lib.ListN.{length}
+use Rattle.lists.specs.Lists.{All}
+use Rattle.calculus.specs.Limits.{variableLimit, literalLimit, columnLimit}
+use Rattle.calculus.specs.Facts.{Question, Fact, same, apart, isLiteral, arithmetic}
+
+-- "u32 n (1 to 196,608), u16 p, u16 q (each 0 to 16)", "literal, 0 to 15 of them"
+pub record HeadInRange (u : Question) : Type 0 where
+  pub alphabet : 1 ≤ u .n
+  pub strings : u .p ≤ variableLimit
+  pub integers : u .q ≤ variableLimit
+  pub literals : length (u .literals) ≤ literalLimit
+
+-- variables and literals are the question's, forms have a constant and 48 coefficients
+abbrev pub FactInRange : Question → Fact → Type 0
+FactInRange u (same x y) = (x < u .p) × (y < u .p)
+FactInRange u (apart x y) = (x < u .p) × (y < u .p)
+FactInRange u (isLiteral x l) = (x < u .p) × (l ≤ length (u .literals))
+FactInRange u (arithmetic r e) = length e ≡ suc columnLimit
+
+abbrev pub FactsInRange : Question → List Fact → Type 0
+FactsInRange u fs = All (FactInRange u) fs

@@ -1,0 +1,108 @@
+-- The lines of an answer depend on the answer's bytes alone, whatever stands behind them in the buffer.
+use Prim.Native.Nat.{ℕ, zero, suc, _+_, _*_, _/_, _%_, _≤_, _<_}
+use native.Mathlib.Omega.{arith}
+use mathlib.Core.Path.{_≡_, refl, sym, _∙_, ap, ap₂}
+use mathlib.Core.Bool.{Bool, true, false}
+use mathlib.Core.Option.{Option, none, some}
+use mathlib.Core.List.{List, _∷_, _++_}
+use lib.ListN.{length, getD, List·getD-append, length-append}
+use lib.Dec.{leb, eqb}
+use borrow.Author.Tests.{leb-true, eqb-true}
+use Rattle.calculus.specs.Facts.{Question}
+use Rattle.calculus.specs.Limits.{lengthLimit}
+use Rattle.calculus.specs.Meaning.{Assignment}
+use Rattle.format.specs.Fields.{u16, u32, u32s, i32s, signed}
+use Rattle.format.specs.Records.{size, kind, next, whole, records}
+use Rattle.format.specs.Question.{Reading, Stopped, Ended, question}
+use Rattle.format.specs.Answer.{answerForm, outside, assignmentOf}
+use Rattle.format.specs.Judging.{Judging, Refused, Judged, judgeAnswer, judgeBehind, judging}
+use Rattle.format.specs.Checking.{Strings, verdict}
+use Rattle.format.proofs.Faults.{and-true}
+use Rattle.format.proofs.Demands.{th-5}
+use Rattle.lines.specs.Lines.{stringLine, integerLines, endLine, recordLines}
+use Rattle.lines.proofs.Lines.{lines-string, lines-integers}
+
+clash : {X : Type 0} → _≡_ {A = ℕ} 0 1 → X
+clash z = absurd (omega arith)
+
+-- ---- fields before the end of the first part
+
+module _ (s t : List ℕ) where
+  byte : (i : ℕ) → i < length s → getD (s ++ t) i 0 ≡ getD s i 0
+  byte i h = List·getD-append s t 0 i h
+
+  u16-kept : (at : ℕ) → at + 2 ≤ length s → u16 (s ++ t) at ≡ u16 s at
+  u16-kept at h = ap₂ (λ a b. a + 256 * b) (byte at (omega arith)) (byte (at + 1) (omega arith))
+
+  u32-kept : (at : ℕ) → at + 4 ≤ length s → u32 (s ++ t) at ≡ u32 s at
+  unfolding u32
+  u32-kept at h = omega (arith, byte at (omega arith), byte (at + 1) (omega arith), byte (at + 2) (omega arith), byte (at + 3) (omega arith))
+
+  u32s-kept : (k at : ℕ) → at + 4 * k ≤ length s → u32s (s ++ t) at k ≡ u32s s at k
+  unfolding u32s
+  u32s-kept zero at h = refl
+  u32s-kept (suc k) at h = ap₂ _∷_ (u32-kept at (omega arith)) (u32s-kept k (at + 4) (omega arith))
+
+  i32s-kept : (k at : ℕ) → at + 4 * k ≤ length s → i32s (s ++ t) at k ≡ i32s s at k
+  unfolding i32s
+  i32s-kept zero at h = refl
+  i32s-kept (suc k) at h = ap₂ _∷_ (ap signed (u32-kept at (omega arith))) (i32s-kept k (at + 4) (omega arith))
+
+  -- a record of the first part stands in both
+  module _ (at : ℕ) (h : next s at ≤ length s) where
+    kind-kept : kind s at ≡ kind (s ++ t) at
+    kind-kept = sym (u16-kept (at + 4) (omega arith))
+
+    size-kept : size s at ≡ size (s ++ t) at
+    size-kept = sym (u32-kept at (omega arith))
+
+    longer : at + 6 + size s at ≤ length (s ++ t)
+    longer = omega (arith, length-append s t)
+
+  lines-kept : (p q k at : ℕ) → answerForm s p q at ≡ true → recordLines (s ++ t) k (records (s ++ t) at) ≡ recordLines s k (records s at)
+  unfolding answerForm
+  lines-kept zero q k at e =
+      let (there, e₁) = and-true (whole s at) _ e in
+      let (ten, e₂) = and-true (eqb (kind s at) 10) _ e₁ in
+      let h : next s at ≤ length s = leb-true _ _ there in
+      let is : kind s at ≡ 10 = eqb-true _ _ ten in
+      let other : (kind s at ≡ 9 → ⊥) = λ z. omega arith in
+      sym (lines-integers (s ++ t) k at (kind s at) (size s at) (kind-kept at h, size-kept at h, longer at h) other)
+      ∙ ap (λ zs. integerLines 0 zs ++ endLine) (i32s-kept (size s at / 4) (at + 6) (omega arith))
+      ∙ lines-integers s k at (kind s at) (size s at) (refl, refl, h) other
+  lines-kept (suc p) q k at e =
+      let (there, e₁) = and-true (whole s at) _ e in
+      let (nine, e₂) = and-true (eqb (kind s at) 9) _ e₁ in
+      let (fours, e₃) = and-true (eqb (size s at % 4) 0) _ e₂ in
+      let (short, later) = and-true (leb (size s at) (4 * lengthLimit)) _ e₃ in
+      let h : next s at ≤ length s = leb-true _ _ there in
+      let is : kind s at ≡ 9 = eqb-true _ _ nine in
+      sym (lines-string (s ++ t) k at (kind s at) (size s at) (kind-kept at h, size-kept at h, longer at h) is)
+      ∙ ap₂ (λ cs l. stringLine k cs ++ l) (u32s-kept (size s at / 4) (at + 6) (omega arith)) (lines-kept p q (k + 1) (next s at) later)
+      ∙ lines-string s k at (kind s at) (size s at) (refl, refl, h) is
+
+-- ---- what judging reads is of the answer's form
+
+answer-formed : (b v : List ℕ) (u : Question) (a : Assignment) → judging b v ≡ Judged u a → (p : ℕ) × (q : ℕ) × (answerForm v p q 0 ≡ true)
+unfolding judging
+answer-formed b v u a e = behind (question b) e
+  where
+    answered : (w : Question) (x : Bool) (o : Option ℕ) → answerForm v (w .p) (w .q) 0 ≡ x
+        → (elim x as (λ _. Judging) [ false ↦ Refused 15 0 | true ↦ elim o as (λ _. Judging) [ some r ↦ Refused 16 r | none ↦ Judged w (assignmentOf v w) ] ]) ≡ Judged u a
+        → (p : ℕ) × (q : ℕ) × (answerForm v p q 0 ≡ true)
+    answered w false o f e = clash cc
+    answered w true o f e = (w .p, w .q, f)
+
+    behind : (g : Reading) → judgeBehind g v ≡ Judged u a → (p : ℕ) × (q : ℕ) × (answerForm v p q 0 ≡ true)
+    behind (Stopped c r) e = clash cc
+    behind (Ended s at r) e = go (leb 1 (s .last)) e
+      where
+        go : (x : Bool) → (elim x as (λ _. Judging) [ false ↦ Refused 4 r | true ↦ judgeAnswer (s .question) v ]) ≡ Judged u a → (p : ℕ) × (q : ℕ) × (answerForm v p q 0 ≡ true)
+        go false e = clash cc
+        go true e = answered (s .question) (answerForm v (s .question .p) (s .question .q) 0) (outside v (s .question) (s .question .p) 0 0) refl e
+
+pub answer-lines : (work answer : ℕ) (b s t : List ℕ) → verdict work answer b ≡ Strings s → recordLines (s ++ t) 0 (records (s ++ t) 0) ≡ recordLines s 0 (records s 0)
+answer-lines work answer b s t e =
+    let (u, k) = th-5 work answer b s e in
+    let (p, q, form) = answer-formed b s u (k .assignment) (k .read-back) in
+    lines-kept s t p q 0 0 form
