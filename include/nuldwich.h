@@ -57,7 +57,10 @@ typedef struct {
     uint64_t record;
 } nuldwich_reply;
 
-/* Neither operation keeps a pointer. No pointer is null, also where a length is 0. */
+/*
+ * Neither operation keeps a pointer or any state between calls, so both may be called from several threads at once. No pointer is null, also where a
+ * length is 0. The answer buffer that check is lent overlaps no byte of the ticket. check uses about 64 KiB of stack.
+ */
 
 /*
  * Checks a ticket. The operation brings its own work area.
@@ -75,7 +78,8 @@ nuldwich_reply check(const uint8_t *ticket, size_t ticket_len, uint8_t *answer, 
  * Judges an answer by a question. Nothing is written.
  *
  * question, question_len   a question, read up to its first claim or end record: a whole ticket will do
- * answer, answer_len       the answer, exactly of its form, with nothing behind it
+ * answer, answer_len       the answer, exactly of its form, with nothing behind it: of a buffer that check filled, the bytes up to
+ *                          the end of the record of kind 8
  */
 nuldwich_reply judge(const uint8_t *question, size_t question_len, const uint8_t *answer, size_t answer_len);
 

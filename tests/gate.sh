@@ -2,7 +2,6 @@
 # The whole gate: `rt ci` over every listed crate, then the executed tests. The last line counts both.
 set -u
 cd "$(dirname "$0")/.."
-export CARGO_TARGET_DIR="$PWD/target/tests" NULDWICH_LIB_DIR="$PWD/target/staticlib"
 log=$(mktemp)
 trap 'rm -f "$log"' EXIT
 passed=0 failed=0

@@ -1,6 +1,6 @@
 #!/usr/bin/env bash
-# Runs the host program of examples/host.c, whose path is the argument: on every example, against the words on file, and under valgrind on the vectors
-# whose bytes are cut, damaged or too long, where a read outside the ticket is an error. The last line is 'N passed, M failed'.
+# Runs the host program of examples/host.c, whose path is the argument: on every example, against the words on file, and under valgrind on vectors whose
+# bytes are cut, damaged or too long, where a read outside the ticket is an error. The last line is 'N passed, M failed'.
 set -u
 host=$(realpath "$1")
 cd "$(dirname "$0")/.."
@@ -17,12 +17,12 @@ count() {
 # What the host says of every example.
 for ticket in examples/*.ticket; do
     echo "$(basename "$ticket" .ticket):"
-    "$host" "$ticket" | cut -c 1-100
+    "$host" "$ticket"
 done | diff tests/host/expected.txt -
 count $?
 
-# Memory, on every twelfth of the vectors that are refused with 3 to 6 or bring strings.
-for ticket in $(awk -F '\t' '$2 ~ /^refused [3-6] / || $2 ~ /^verdict strings/ { print $1 }' tests/vectors/expected.tsv | awk 'NR % 12 == 1'); do
+# Memory: on the vectors that are refused with 2 or 3, and on every fifteenth of those that are refused with 4 to 6 or bring strings.
+for ticket in $(awk -F '\t' '$2 ~ /^refused [23] / { print $1 } $2 ~ /^refused [4-6] / || $2 ~ /^verdict strings/ { if (n++ % 15 == 0) print $1 }' tests/vectors/expected.tsv); do
     valgrind --quiet --error-exitcode=9 "$host" "tests/vectors/$ticket" >/dev/null
     count $?
 done

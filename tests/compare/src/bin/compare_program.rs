@@ -25,7 +25,7 @@ fn main() -> ExitCode {
     report::finish(&[report])
 }
 
-/// Tickets of more than 32,768 bytes; the last two are accepted up to there.
+/// Tickets of more than 32,768 bytes; the last two begin with an accepted one.
 fn long_tickets() -> Vec<(&'static str, Vec<u8>)> {
     let question = writer::question(&nuldwich_reference::question::Question {
         n: 1,
