@@ -59,7 +59,7 @@ module _ (b : List ℕ) (s : Progress) where
 
       pub going-refused : (f : ℕ) → f ≡ itsFault → (f ≡ 0 → ⊥) → (v : List ℤ) → followedOf b (asked b s) v (followed.the-variants.Refused f k) ≡ outcome
       unfolding followedOf
-      going-refused f e z v = sym (turn-faulty b (asked b s) k i (all-there b i j m r) br f e z) ∙ g .rest
+      going-refused f e z v = sym (turn-faulty b (asked b s) k i (all-there b i j m r) (taking br) f e z) ∙ g .rest
 
       pub going-taken : (f : ℕ) → f ≡ itsFault → f ≡ 0 → (j ≡ 7 → ⊥) → (v : List ℤ) (more : ℕ) → length v ≡ length w
           → branchOf v more ≡ br ++ offeredChild b (asked b s) br (i + 6) m (child b (i + 6)) → Fine v more → Going n outcome v more (i + 6 + m) (k + 1)

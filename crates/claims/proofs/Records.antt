@@ -1,29 +1,23 @@
 -- One whole record on an open branch, of a kind k and with a body of m bytes: what its tests say.
-use Prim.Native.Nat.{ℕ, zero, suc, _+_, _≤_}
-use mathlib.Core.Path.{_≡_, refl, sym, _∙_, ap, ap₂}
+use Prim.Native.Nat.{ℕ, _+_, _≤_}
+use mathlib.Core.Path.{_≡_, sym, _∙_, ap, ap₂}
 use mathlib.Core.Bool.{Bool, true}
-use mathlib.Core.List.{List, _++_}
+use mathlib.Core.List.{List}
 use lib.ListN.{length}
 use lib.Dec.{eqb}
 use Rattle.calculus.specs.Facts.{Question, Fact, Branch}
-use Rattle.calculus.specs.Walk.{Waiting, Walk, enter}
+use Rattle.calculus.specs.Walk.{Waiting, working}
 use Rattle.format.specs.Records.{size, kind}
 use Rattle.format.specs.StepForms.{child, stepAt, childInRange}
-use Rattle.format.specs.Reading.{taking, stepFault, fault}
-use Rattle.format.specs.Checking.{nth, takenTried, checker}
+use Rattle.format.specs.Reading.{proving, taking, stepFault, fault}
+use Rattle.format.specs.Checking.{nth, allTried, takenTried, checker}
 use Rattle.steps.specs.Forms.{Formed}
 use Rattle.steps.specs.Offered.{offered}
 use Rattle.steps.proofs.Faults.{formed, child-passed}
-use Rattle.derivation.specs.State.{childrenOn}
-use Rattle.derivation.specs.Moves.{refused, movedBy, stepOn}
+use Rattle.derivation.specs.State.{offeredIn}
 use Rattle.claims.specs.Numbers.{openNumber}
-use Rattle.claims.specs.Outcomes.{recordOn}
 use Rattle.claims.proofs.Found.{all-there}
 use Rattle.claims.proofs.Numbers.{open-step, walk-place, walk-form, walk-step, path-place, path-form, path-step}
-
-by-number : (f g : ℕ) (w : Walk Branch (List Fact)) → f ≡ g → (f ≡ 0 → ⊥) → refused f ≡ movedBy g w
-by-number zero g w e n = absurd (n refl)
-by-number (suc f) g w e n = ap (λ c. movedBy c w) e
 
 module _ (b : List ℕ) (u : Question) (at k m : ℕ) (w : (k ≡ kind b at) × (m ≡ size b at) × (at + 6 + m ≤ length b)) where
   abbrev placeOf : ℕ
@@ -49,17 +43,17 @@ module _ (b : List ℕ) (u : Question) (at k m : ℕ) (w : (k ≡ kind b at) × 
   one-same = ap (stepFault b u (eqb (child b (at + 6)) 0) 0 (at + 6)) (w .1)
 
   module _ (br : Branch) (ss : List (Waiting Branch (List Fact))) where
-    pub record-place : (f : ℕ) → f ≡ placeOf → (f ≡ 0 → ⊥) → refused f ≡ recordOn b u br ss at
-    unfolding recordOn
-    record-place f e n = by-number f _ _ (walk-place b u br ss at (all-there b at k m w) f (e ∙ by-record) n) n
+    abbrev walkFault : ℕ
+    walkFault = fault (checker u) b u (proving (working br ss)) at
 
-    pub record-form : 0 ≡ placeOf → (f : ℕ) → f ≡ formOne → (f ≡ 0 → ⊥) → refused f ≡ recordOn b u br ss at
-    unfolding recordOn
-    record-form p f e n = by-number f _ _ (walk-form b u br ss at (all-there b at k m w) (is-step p) f (e ∙ one-same) n) n
+    pub record-place : (f : ℕ) → f ≡ placeOf → (f ≡ 0 → ⊥) → f ≡ walkFault
+    record-place f e n = walk-place b u br ss at (all-there b at k m w) f (e ∙ by-record) n
 
-    pub record-step : 0 ≡ placeOf → 0 ≡ formOne → stepOn b u br ss at ≡ recordOn b u br ss at
-    unfolding recordOn stepOn
-    record-step p e = ap (λ f. movedBy f (enter _++_ br (childrenOn b u br at) ss)) (walk-step b u br ss at (all-there b at k m w) (is-step p) (e ∙ one-same))
+    pub record-form : 0 ≡ placeOf → (f : ℕ) → f ≡ formOne → (f ≡ 0 → ⊥) → f ≡ walkFault
+    record-form p f e n = walk-form b u br ss at (all-there b at k m w) (is-step p) f (e ∙ one-same) n
+
+    pub record-step : 0 ≡ placeOf → 0 ≡ formOne → (pending : ℕ) → length ss ≡ pending → allTried br pending (offeredIn b u br at) ≡ walkFault
+    record-step p e pending q = ap (λ (i : ℕ). allTried br i (offeredIn b u br at)) (sym q) ∙ walk-step b u br ss at (all-there b at k m w) (is-step p) (e ∙ one-same)
 
   -- ---- claim 2, at no model
 

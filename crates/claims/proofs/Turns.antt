@@ -8,27 +8,16 @@ use lib.ListN.{length}
 use lib.Dec.{leb, eqb}
 use borrow.Author.Tests.{leb-true, leb-false, lt-leb}
 use Rattle.calculus.specs.Facts.{Question, Fact, Branch}
-use Rattle.calculus.specs.Walk.{Waiting, Walk, working, enter}
+use Rattle.calculus.specs.Walk.{Waiting, working, enter}
 use Rattle.format.specs.Fields.{pick}
 use Rattle.format.specs.Records.{size, kind, next}
 use Rattle.format.specs.StepForms.{child}
 use Rattle.format.specs.Reading.{State, proving, taking, modelled, modelAt, fault, advanced, Ticket, Faulty}
 use Rattle.format.specs.Checking.{checker}
 use Rattle.format.proofs.StepTurns.{stepsOn, steps-none, steps-faulty, steps-more}
-use Rattle.format.proofs.Faults.{clash}
 use Rattle.steps.specs.Offered.{offered, offeredChild}
 use Rattle.derivation.specs.State.{childrenOn}
-use Rattle.derivation.specs.Moves.{refused, moved, movedBy}
-use Rattle.claims.specs.Outcomes.{recordOn}
 use Rattle.claims.proofs.Numbers.{walk-kind, path-kind}
-
-from-refused : (n f : ℕ) (w : Walk Branch (List Fact)) → refused n ≡ movedBy f w → (P : ℕ → Type 0) → ((c : ℕ) → f ≡ suc c → P (suc c)) → P n
-from-refused n zero w e P go = clash cc
-from-refused n (suc c) w e P go = let same : suc c ≡ n = cc in rw same at (go c refl)
-
-from-moved : (x w : Walk Branch (List Fact)) (f : ℕ) → moved x ≡ movedBy f w → (f ≡ 0) × (w ≡ x)
-from-moved x w zero e = (refl, cc)
-from-moved x w (suc c) e = clash cc
 
 no-end : (k : ℕ) → k ≡ 6 → eqb k 8 ≡ false
 no-end k e = ap (λ j. eqb j 8) e
@@ -50,32 +39,26 @@ module _ (b : List ℕ) (u : Question) where
     headed : at + 6 ≤ length b
     headed = omega arith
 
+    -- a whole one that is refused
+    pub turn-faulty : (st : State Branch (List Fact)) (f : ℕ) → f ≡ fault (checker u) b u st at → (f ≡ 0 → ⊥) → on st r at ≡ Faulty f r
+    turn-faulty st zero e n = absurd (n refl)
+    turn-faulty st (suc c) e n = steps-faulty (checker u) b u st r at c headed (sym e)
+
     -- ---- claim 1
 
     module _ (br : Branch) (ss : List (Waiting Branch (List Fact))) where
-      pub turn-refused : (n : ℕ) → refused n ≡ recordOn b u br ss at → on (proving (working br ss)) r at ≡ Faulty n r
-      unfolding recordOn
-      turn-refused n e =
-          from-refused n _ _ e (λ n. on (proving (working br ss)) r at ≡ Faulty n r) (λ c f. steps-faulty (checker u) b u (proving (working br ss)) r at c headed f)
-
       entered : advanced (checker u) b u (proving (working br ss)) at ≡ proving (enter _++_ br (childrenOn b u br at) ss)
       unfolding advanced offered
       entered = refl
 
-      pub turn-moved : (x : Walk Branch (List Fact)) → moved x ≡ recordOn b u br ss at → on (proving (working br ss)) r at ≡ on (proving x) (suc r) (next b at)
-      unfolding recordOn
-      turn-moved x e =
-          let (f, same) = from-moved x (enter _++_ br (childrenOn b u br at) ss) _ e in
-          steps-more (checker u) b u (proving (working br ss)) r at headed f (no-end (kind b at) (walk-kind b u br ss at h f))
-          ∙ ap (λ (st : State Branch (List Fact)). on st (suc r) (next b at)) (entered ∙ ap proving same)
+      pub turn-moved : 0 ≡ fault (checker u) b u (proving (working br ss)) at → on (proving (working br ss)) r at ≡ on (proving (enter _++_ br (childrenOn b u br at) ss)) (suc r) (next b at)
+      turn-moved f =
+          steps-more (checker u) b u (proving (working br ss)) r at headed (sym f) (no-end (kind b at) (walk-kind b u br ss at h (sym f)))
+          ∙ ap (λ (st : State Branch (List Fact)). on st (suc r) (next b at)) entered
 
     -- ---- claim 2
 
     module _ (br : Branch) where
-      pub turn-faulty : (f : ℕ) → f ≡ fault (checker u) b u (taking br) at → (f ≡ 0 → ⊥) → on (taking br) r at ≡ Faulty f r
-      turn-faulty zero e n = absurd (n refl)
-      turn-faulty (suc c) e n = steps-faulty (checker u) b u (taking br) r at c headed (sym e)
-
       taken-on : kind b at ≡ 6 → advanced (checker u) b u (taking br) at ≡ taking (br ++ offeredChild b u br (at + 6) (size b at) (child b (at + 6)))
       unfolding advanced offered
       taken-on k = ap (λ j. pick (eqb j 6) (taking (br ++ offeredChild b u br (at + 6) (size b at) (child b (at + 6)))) (modelled br (modelAt b u (at + 6)))) k

@@ -1,28 +1,22 @@
 -- What the code says of the records behind the claim, in the definitions of the format.
 use Prim.Native.Nat.{ℕ, _≤_}
 use mathlib.Core.Path.{_≡_}
-use mathlib.Core.List.{List, _++_}
+use mathlib.Core.List.{List}
 use lib.ListN.{length}
 use lib.IntN.{ℤ}
 use Rattle.calculus.specs.Facts.{Question, Fact, Branch}
-use Rattle.calculus.specs.Walk.{Waiting, working, closed, enter}
+use Rattle.calculus.specs.Walk.{closed}
 use Rattle.format.specs.Records.{kind, next, records}
-use Rattle.format.specs.Reading.{proving, taking, fault, Ticket, Faulty, readSteps}
+use Rattle.format.specs.Reading.{proving, taking, Ticket, Faulty, readSteps}
 use Rattle.format.specs.Checking.{checker}
 use Rattle.rows.specs.Rows.{branchOf}
 use Rattle.rows.specs.Work.{Fine}
-use Rattle.derivation.specs.State.{childrenOn}
-use Rattle.derivation.specs.Moves.{Moved, movedBy}
 use Rattle.claims.specs.declared.Walked as walked
 use Rattle.claims.specs.declared.Walked.{Walked}
 use Rattle.claims.specs.declared.Followed as followed
 use Rattle.claims.specs.declared.Followed.{Followed}
 
 -- ---- claim 1
-
--- the record at a position on an open branch with its pending splits
-unfoldable pub recordOn : List ℕ → Question → Branch → List (Waiting Branch (List Fact)) → ℕ → Moved
-recordOn b u br ss at = movedBy (fault (checker u) b u (proving (working br ss)) at) (enter _++_ br (childrenOn b u br at) ss)
 
 -- refused, or every branch is closed and reading goes on at a position and record
 unfoldable pub walkedOf : List ℕ → Question → Walked → Ticket Branch (List Fact)

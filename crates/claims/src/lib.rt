@@ -1,9 +1,10 @@
 // The records behind the question: the claim, claim 1's walk over every branch, claim 2's path to its leaf, and the end.
 ghost use mathlib.Core.Path.{_≡_};
-ghost use mathlib.Core.List.{[], _++_};
+ghost use mathlib.Core.List.{List, [], _++_};
 ghost use Prim.Native.Nat.{_+_, _≤_};
 ghost use lib.ListN.{length};
-ghost use Rattle.calculus.specs.Walk.{working};
+ghost use Rattle.calculus.specs.Facts.{Fact};
+ghost use Rattle.calculus.specs.Walk.{Waiting, working};
 ghost use Rattle.format.specs.Records.{size as sizeAt, kind as kindAt, records};
 ghost use Rattle.format.specs.StepForms.{child};
 ghost use Rattle.format.specs.Reading.{proving, taking, fault, readSteps, claimFault};
@@ -13,14 +14,12 @@ ghost use Rattle.rows.specs.Work.{Fine};
 ghost use Rattle.question.specs.Progress.{progressOf};
 ghost use Rattle.question.specs.Posed.{asked, Posed};
 ghost use Rattle.steps.specs.Offered.{offeredChild};
-ghost use Rattle.branch.specs.Stack.{stack};
-ghost use Rattle.derivation.specs.State.{waitings};
-ghost use Rattle.derivation.specs.Moves.{Holds, steppedOf, OkStepped};
+ghost use Rattle.derivation.specs.Actions.{numberOf, Acts};
 ghost use Rattle.claims.specs.Numbers.{lastNumber, openNumber, endNumber};
-ghost use Rattle.claims.specs.Outcomes.{recordOn, walkedOf, followedOf, LeafAt};
+ghost use Rattle.claims.specs.Outcomes.{walkedOf, followedOf, LeafAt};
 use branch::Branch;
-use derivation::Stepped;
-use derivation::Verdict;
+use derivation::Action;
+use derivation::next_child;
 use derivation::take_step;
 use question::Progress;
 use records::Found;
@@ -99,7 +98,7 @@ fn open_fault(length: usize, to: usize, kind: usize, size: usize) -> usize
 
 // ---- claim 1: every branch is walked until it closes
 
-// One whole record on an open branch.
+// One whole record on the open branch of the first rows, with so many splits pending.
 fn walk_record(
     ticket: &[u8],
     s: Progress,
@@ -107,28 +106,24 @@ fn walk_record(
     kind: usize,
     size: usize,
     work: &mut [i64],
-    b: Branch,
-) -> Stepped
-    requires { ⌜ Holds (now ticket) s (now work) b ⌝ }
+    count: usize,
+    pending: usize,
+) -> Action
+    requires { ⌜ Posed (now ticket) s ⌝ }
+    requires { ⌜ Fine (now work) count ⌝ }
     requires { ⌜ (kind ≡ kindAt (now ticket) at) × (size ≡ sizeAt (now ticket) at) × (at + 6 + size ≤ length (now ticket)) ⌝ }
-    ensures stepped { λ r. ⌜ steppedOf (now (ticket .entry)) (asked (now (ticket .entry)) s) (now (work .exit)) r ≡ recordOn (now (ticket .entry)) (asked (now (ticket .entry)) s) (branchOf (now (work .entry)) (b .count)) (waitings (now (ticket .entry)) (asked (now (ticket .entry)) s) (branchOf (now (work .entry)) (b .count)) (stack b)) at ⌝ }
-    ensures ok { λ r. ⌜ OkStepped (now (ticket .entry)) (asked (now (ticket .entry)) s) (now (work .exit)) r ⌝ }
+    ensures number { λ r. ⌜ ((ss : List (Waiting (List Fact) (List Fact))) → length ss ≡ pending → numberOf r ≡ fault (checker (asked (now (ticket .entry)) s)) (now (ticket .entry)) (asked (now (ticket .entry)) s) (proving (working (branchOf (now (work .entry)) count) ss)) at) ⌝ }
+    ensures acts { λ r. ⌜ Acts (now (ticket .entry)) (asked (now (ticket .entry)) s) at pending (now (work .entry)) count (now (work .exit)) r ⌝ }
 {
     let place = open_fault(ticket.len(), at + 6 + size, kind, size);
     if place != 0 {
-        return Stepped {
-            verdict: Verdict::Refused(place),
-            branch: b,
-        };
+        return Action::Refused(place);
     }
     let form = step_fault_one(ticket, s, at + 6, size);
     if form != 0 {
-        return Stepped {
-            verdict: Verdict::Refused(form),
-            branch: b,
-        };
+        return Action::Refused(form);
     }
-    take_step(ticket, s, at, size, work, b)
+    take_step(ticket, s, at, size, work, count, pending)
 }
 
 // Refused: the number and the record. Closed: every branch is closed; the position and the number of the record behind.
@@ -151,18 +146,27 @@ pub fn walk(ticket: &[u8], s: Progress, at: usize, r: usize, work: &mut [i64]) -
         let Found::Whole(kind, size) = read_at(ticket, i) else {
             return Walked::Refused(3, k);
         };
-        let done = walk_record(ticket, s, i, kind, size, work, b);
-        let verdict = done.verdict;
-        let next = done.branch;
-        i = i + 6 + size;
-        match verdict {
-            Verdict::Refused(c) => return Walked::Refused(c, k),
-            Verdict::Closed => return Walked::Closed(i, k + 1),
-            Verdict::Next => {
-                b = next;
-                k += 1;
+        let count = b.count as usize;
+        let pending = b.depth as usize;
+        let action = walk_record(ticket, s, i, kind, size, work, count, pending);
+        match action {
+            Action::Refused(c) => return Walked::Refused(c, k),
+            Action::Closes => {
+                if pending == 0 {
+                    return Walked::Closed(i + 6 + size, k + 1);
+                }
+                b = next_child(ticket, s, work, b);
+            }
+            Action::Extends(facts) => {
+                b = b.extend(facts);
+            }
+            Action::Splits(facts, last) => {
+                b = b.mark(i, last);
+                b = b.extend(facts);
             }
         }
+        i = i + 6 + size;
+        k += 1;
     }
 }
 

@@ -10,12 +10,12 @@ use mathlib.Core.List.{List}
 use lib.IntN.{ℤ, pos, negℤ}
 use borrow.Author.Tests.{eq-eqb, ne-eqb}
 use Rattle.calculus.specs.Rows.{column, number, minus}
-use Rattle.calculus.specs.Facts.{Question, Fact, Branch, arithmetic, ge, eq, Function, literal, apply, codeOf, valueOf}
+use Rattle.calculus.specs.Facts.{Question, Fact, Branch, arithmetic, eq, Function, literal, apply, codeOf, valueOf}
 use Rattle.calculus.specs.Chains.{varNode}
 use Rattle.calculus.specs.Classes.{labels, sameClass, lowest, classLiteral}
 use Rattle.calculus.specs.Children.{one, sPropChild, literalChild}
 use Rattle.calculus.specs.Steps.{Sum, SProp}
-use Rattle.calculus.specs.Rules.{guard, then, sumOf, divided, children}
+use Rattle.calculus.specs.Rules.{guard, then, children}
 use Rattle.format.specs.Fields.{u32s}
 use Rattle.format.specs.StepForms.{functionOf}
 use Rattle.format.specs.Places.{literalsFrom}
@@ -24,11 +24,10 @@ use Rattle.format.proofs.Fields.{length-u32s}
 use Rattle.rows.specs.Rows.{factOf}
 use Rattle.rows.specs.Work.{single, difference}
 use Rattle.rows.proofs.Forms.{minus-number, columns-difference}
-use Rattle.sums.specs.declared.Summed.{Summed}
 use Rattle.sums.specs.Sums.{factIn, sumFact}
+use Rattle.sums.proofs.Totals.{sum-children}
 use Rattle.question.specs.declared.Progress.{Progress}
 use Rattle.question.specs.Progress.{progressOf}
-use Rattle.conclusions.specs.declared.Made.{Made}
 use Rattle.conclusions.specs.Made.{madeOf, columnOf, literalChildren}
 
 -- ---- columns
@@ -55,22 +54,13 @@ columns-apart p q (suc f) x y n e = n (omega arith)
 -- ---- Sum
 
 -- a summed row, as what is made of it
-pub sum-made : (u : Question) (b : Branch) (d : ℕ) (ts : List (ℕ × ℤ)) (r : Summed) (m : Made) → m .fits ≡ r .fits → m .row ≡ r .row → factIn r ≡ sumFact b d ts → madeOf m ≡ children u b (Sum d ts)
-unfolding madeOf factIn sumFact
-sum-made u b d ts r m ef er e =
-    ap₂ (λ (t : Bool) (row : List ℤ). guard t (one (factOf row))) ef er ∙ made (r .fits) (factOf (r .row)) ∙ ap (λ (o : Option Fact). then o (λ f. some (one f))) e ∙ given (sumOf b ts)
+pub sum-made : (u : Question) (b : Branch) (d : ℕ) (ts : List (ℕ × ℤ)) (t : Bool) (row : List ℤ) → factIn t row ≡ sumFact b d ts → madeOf t row ≡ children u b (Sum d ts)
+unfolding madeOf factIn
+sum-made u b d ts t row e = made t (factOf row) ∙ ap (λ (o : Option Fact). then o (λ f. some (one f))) e ∙ sym (sum-children u b d ts)
   where
     made : (t : Bool) (f : Fact) → guard t (one f) ≡ then (guard t f) (λ g. some (one g))
     made true f = refl
     made false f = refl
-
-    divides : (o : Option (List ℤ)) → then (then o (λ e. some (arithmetic ge e))) (λ f. some (one f)) ≡ then o (λ e. some (one (arithmetic ge e)))
-    divides none = refl
-    divides (some e) = refl
-
-    given : (o : Option (List ℤ)) → then (then o (λ s. then (divided d s) (λ e. some (arithmetic ge e)))) (λ f. some (one f)) ≡ then o (λ s. then (divided d s) (λ e. some (one (arithmetic ge e))))
-    given none = refl
-    given (some s) = divides (divided d s)
 
 -- ---- S-Prop
 

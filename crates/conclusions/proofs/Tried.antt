@@ -10,7 +10,7 @@ use lib.ListN.{length, getElem?}
 use lib.Dec.{leb, eqb}
 use borrow.Author.Tests.{le-leb, lt-leb}
 use Rattle.calculus.specs.Limits.{factLimit}
-use lib.IntN.{negsuc}
+use lib.IntN.{ℤ, negsuc}
 use Rattle.calculus.specs.Rows.{scale, eqRow, minus}
 use Rattle.calculus.specs.Facts.{Question, Fact, Branch, arithmetic, ge, eq, ne, same, apart, isLiteral, apply}
 use Rattle.calculus.specs.Chains.{varNode}
@@ -23,7 +23,6 @@ use Rattle.format.specs.StepForms as forms
 use Rattle.format.specs.StepForms.{Rule, rule, stepOf, stepAt}
 use Rattle.format.specs.Checking.{factWithin, factsWithin, childrenWithin, roomForAll, allTried, takenTried, nth, orNone}
 use Rattle.rows.specs.Rows.{factOf}
-use Rattle.conclusions.specs.declared.Made.{Made}
 use Rattle.conclusions.specs.Made.{isConcluding, madeOf}
 
 -- ---- 8 to 10 of what was made
@@ -32,24 +31,24 @@ tried : (br : Branch) (f : Fact) (w r : Bool) → factWithin f ≡ w → leb (le
 unfolding factsWithin
 tried br f w r ew er = sym (ap₂ (λ (s t : Bool). need 9 (s && true) (need 10 t 0)) ew er)
 
-module _ (br : Branch) (o : Option (List (List Fact))) (m : Made) (e : madeOf m ≡ o) where
-  by-fit : (t : Bool) → m .fits ≡ t → guard t (one (factOf (m .row))) ≡ o
+module _ (br : Branch) (o : Option (List (List Fact))) (t : Bool) (row : List ℤ) (e : madeOf t row ≡ o) where
+  by-fit : (s : Bool) → t ≡ s → guard s (one (factOf row)) ≡ o
   unfolding madeOf
-  by-fit t f = ap (λ (s : Bool). guard s (one (factOf (m .row)))) (sym f) ∙ e
+  by-fit s f = ap (λ (r : Bool). guard r (one (factOf row))) (sym f) ∙ e
 
-  pub eight : m .fits ≡ false → 8 ≡ takenTried br (nth o 1)
+  pub eight : t ≡ false → 8 ≡ takenTried br (nth o 1)
   eight f = ap (λ (p : Option (List (List Fact))). takenTried br (nth p 1)) (by-fit false f)
 
-  pub nine : m .fits ≡ true → factWithin (factOf (m .row)) ≡ false → 9 ≡ takenTried br (nth o 1)
-  nine f w = tried br (factOf (m .row)) false (leb (length br + 1) factLimit) w refl ∙ ap (λ (p : Option (List (List Fact))). takenTried br (nth p 1)) (by-fit true f)
+  pub nine : t ≡ true → factWithin (factOf row) ≡ false → 9 ≡ takenTried br (nth o 1)
+  nine f w = tried br (factOf row) false (leb (length br + 1) factLimit) w refl ∙ ap (λ (p : Option (List (List Fact))). takenTried br (nth p 1)) (by-fit true f)
 
-  pub ten : m .fits ≡ true → factWithin (factOf (m .row)) ≡ true → factLimit ≤ length br → 10 ≡ takenTried br (nth o 1)
-  ten f w h = tried br (factOf (m .row)) true false w (lt-leb (length br + 1) factLimit (omega arith)) ∙ ap (λ (p : Option (List (List Fact))). takenTried br (nth p 1)) (by-fit true f)
+  pub ten : t ≡ true → factWithin (factOf row) ≡ true → factLimit ≤ length br → 10 ≡ takenTried br (nth o 1)
+  ten f w h = tried br (factOf row) true false w (lt-leb (length br + 1) factLimit (omega arith)) ∙ ap (λ (p : Option (List (List Fact))). takenTried br (nth p 1)) (by-fit true f)
 
-  pub none-of-these : m .fits ≡ true → factWithin (factOf (m .row)) ≡ true → length br < factLimit → 0 ≡ takenTried br (nth o 1)
-  none-of-these f w h = tried br (factOf (m .row)) true true w (le-leb (length br + 1) factLimit (omega arith)) ∙ ap (λ (p : Option (List (List Fact))). takenTried br (nth p 1)) (by-fit true f)
+  pub none-of-these : t ≡ true → factWithin (factOf row) ≡ true → length br < factLimit → 0 ≡ takenTried br (nth o 1)
+  none-of-these f w h = tried br (factOf row) true true w (le-leb (length br + 1) factLimit (omega arith)) ∙ ap (λ (p : Option (List (List Fact))). takenTried br (nth p 1)) (by-fit true f)
 
-  pub its-fact : m .fits ≡ true → factOf (m .row) ∷ [] ≡ orNone (nth o 1)
+  pub its-fact : t ≡ true → factOf row ∷ [] ≡ orNone (nth o 1)
   its-fact f = ap (λ (p : Option (List (List Fact))). orNone (nth p 1)) (by-fit true f)
 
 -- ---- a rule with one conclusion has one child with one fact, where it fits

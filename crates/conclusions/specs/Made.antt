@@ -3,13 +3,13 @@ use Prim.Native.Nat.{ℕ, zero, suc, _+_}
 use mathlib.Core.Bool.{Bool, true, false}
 use mathlib.Core.Option.{Option, some}
 use mathlib.Core.List.{List, []}
+use lib.IntN.{ℤ}
 use Rattle.calculus.specs.Facts.{Question, Fact, Branch, Function}
 use Rattle.calculus.specs.Classes.{classLiteral}
 use Rattle.calculus.specs.Children.{one, literalChild}
 use Rattle.calculus.specs.Rules.{guard, then}
 use Rattle.format.specs.StepForms.{Rule, sum, branch, apart, aConf, sConf, sProp, lIntro, lValid, cCollapse, cValid, cInj, card, join, unknown}
 use Rattle.rows.specs.Rows.{factOf}
-use Rattle.conclusions.specs.declared.Made.{Made}
 
 -- the rules that close a branch: 4 A-Conf and 5 S-Conf
 abbrev pub isClosing : Rule → Bool
@@ -49,9 +49,9 @@ isConcluding unknown = false
 unfoldable pub closingOf : Bool → Option (List (List Fact))
 closingOf t = guard t []
 
--- one child with one fact where the step fits
-unfoldable pub madeOf : Made → Option (List (List Fact))
-madeOf m = guard (m .fits) (one (factOf (m .row)))
+-- one child with the one fact of the row where the step fits
+unfoldable pub madeOf : Bool → List ℤ → Option (List (List Fact))
+madeOf t row = guard t (one (factOf row))
 
 -- "Columns: the q integer variables, then len of each string variable, then code of each": that of function f (0 len, 1 code) of x
 unfoldable pub columnOf : ℕ → ℕ → ℕ → ℕ → ℕ

@@ -1,12 +1,12 @@
 // The rules that close a branch, 4 and 5, and those with one conclusion: 1, 6, 7, 9 and 13.
 ghost use mathlib.Core.Path.{_≡_};
-ghost use mathlib.Core.Option.{none};
 ghost use mathlib.Core.Bool.{true};
 ghost use mathlib.Core.List.{_++_};
 ghost use Prim.Native.Nat.{ℕ, _+_, _*_, _<_, _≤_};
 ghost use lib.ListN.{length};
 ghost use lib.IntN.{negℤ};
 ghost use Rattle.calculus.specs.Limits.{variableLimit, literalLimit, columnLimit};
+ghost use Rattle.calculus.specs.Rows.{zeros};
 ghost use Rattle.calculus.specs.Facts.{Question, valueOf};
 ghost use Rattle.calculus.specs.Steps.{Sum, AConf, SConf, SProp, Join};
 ghost use Rattle.calculus.specs.Rules.{children};
@@ -17,7 +17,7 @@ ghost use Rattle.format.specs.StepForms as forms;
 ghost use Rattle.format.specs.StepForms.{formFor, fitsForm, sumPairs, functionOf, rule, lengthFits, operandsInRange, stepAt};
 ghost use Rattle.format.specs.Checking.{nth, orNone, takenTried};
 ghost use Rattle.question.specs.Progress.{progressOf};
-ghost use Rattle.rows.specs.Rows.{branchOf};
+ghost use Rattle.rows.specs.Rows.{rowLength, branchOf};
 ghost use Rattle.rows.specs.Work.{Fine};
 ghost use Rattle.conclusions.specs.Made.{isClosing, isConcluding, closingOf, madeOf, columnOf, literalChildren};
 use classes::Lowest;
@@ -68,36 +68,17 @@ pub fn closes(
     s_conf(s.literals, work, count)
 }
 
-// ---- rules with one conclusion
+// ---- rules with one conclusion: each fills a row with the fact that the step adds, and says whether it fits
 
-// What a step gives: whether it fits, and then the row of the fact that it adds.
-pub struct Made {
-    pub fits: bool,
-    pub row: [i64; ROW_LENGTH],
-}
-
-fn misfit() -> Made
-    ensures { λ r. ⌜ madeOf r ≡ none ⌝ }
-{
-    Made {
-        fits: false,
-        row: [0; ROW_LENGTH],
-    }
-}
-
-// Sum: "Adds a ≥ fact".
-fn sum(ticket: &[u8], at: usize, size: usize, work: &[i64], count: usize) -> Made
+// Sum: "Adds a ≥ fact", in a row of zeros.
+fn sum(row: &mut [i64], ticket: &[u8], at: usize, size: usize, work: &[i64], count: usize) -> bool
+    requires { ⌜ now row ≡ zeros rowLength ⌝ }
     requires { ⌜ (at + size ≤ length (now ticket)) × (fitsForm (formFor forms.sum) size ≡ true) × (operandsInRange (now ticket) 0 0 forms.sum at size ≡ true) ⌝ }
     requires { ⌜ Fine (now work) count ⌝ }
-    ensures { λ r. ⌜ ((u : Question) → madeOf r ≡ children u (branchOf (now (work .entry)) count) (Sum (u32 (now (ticket .entry)) (at + 4)) (sumPairs (now (ticket .entry)) at size))) ⌝ }
+    ensures { λ r. ⌜ ((u : Question) → madeOf r (now (row .exit)) ≡ children u (branchOf (now (work .entry)) count) (Sum (u32 (now (ticket .entry)) (at + 4)) (sumPairs (now (ticket .entry)) at size))) ⌝ }
 {
     let divisor = u32_at(ticket, at + 4);
-    let summed = sums::sum_row(ticket, at + 8, (size - 8) / 6, divisor, work, count);
-    let row = summed.row;
-    Made {
-        fits: summed.fits,
-        row,
-    }
+    sums::sum_row(row, ticket, at + 8, (size - 8) / 6, divisor, work, count)
 }
 
 // The column of function (0 len, 1 code) of variable x.
@@ -113,6 +94,7 @@ fn column_of(p: usize, q: usize, function: usize, x: usize) -> usize
 
 // S-Prop: "Adds f(x) − f(y) = 0", for different variables of one class.
 fn s_prop(
+    row: &mut [i64],
     p: usize,
     q: usize,
     function: usize,
@@ -120,25 +102,25 @@ fn s_prop(
     y: usize,
     work: &[i64],
     count: usize,
-) -> Made
+) -> bool
+    requires { ⌜ length (now row) ≡ rowLength ⌝ }
     requires { ⌜ Fine (now work) count × (p ≤ variableLimit) × (q ≤ variableLimit) × (x < p) × (y < p) ⌝ }
-    ensures { λ r. ⌜ ((u : Question) → u .p ≡ p → u .q ≡ q → madeOf r ≡ children u (branchOf (now (work .entry)) count) (SProp (functionOf function) x y)) ⌝ }
+    ensures { λ r. ⌜ ((u : Question) → u .p ≡ p → u .q ≡ q → madeOf r (now (row .exit)) ≡ children u (branchOf (now (work .entry)) count) (SProp (functionOf function) x y)) ⌝ }
 {
     if x == y {
-        return misfit();
+        return false;
     }
     let labels = classes::labels(work, count);
     if !classes::same_class(labels, 2 * x, 2 * y) {
-        return misfit();
+        return false;
     }
-    Made {
-        fits: true,
-        row: rows::difference_row(
-            1,
-            column_of(p, q, function, x),
-            column_of(p, q, function, y),
-        ),
-    }
+    rows::fill_difference(
+        row,
+        1,
+        column_of(p, q, function, x),
+        column_of(p, q, function, y),
+    );
+    true
 }
 
 // The negative of function (0 len, 1 code) of a text.
@@ -154,80 +136,81 @@ fn less_text(ticket: &[u8], function: usize, at: usize, count: usize) -> i64
 
 // L-Intro, with function 0: "Adds len(x) = length of l"; C-Collapse, with function 1: "Adds code(x) = code of l, or −1".
 fn of_literal(
+    row: &mut [i64],
     ticket: &[u8],
     s: Progress,
     function: usize,
     x: usize,
     work: &[i64],
     count: usize,
-) -> Made
+) -> bool
+    requires { ⌜ length (now row) ≡ rowLength ⌝ }
     requires { ⌜ Fine (now work) count × (s .p ≤ variableLimit) × (s .q ≤ variableLimit) × (x < s .p) ⌝ }
     requires { ⌜ (s .literals ≤ literalLimit) × (skip (now ticket) (s .literals) literalsFrom ≤ length (now ticket)) ⌝ }
-    ensures { λ r. ⌜ madeOf r ≡ literalChildren (progressOf (now (ticket .entry)) s .question) (branchOf (now (work .entry)) count) (functionOf function) x ⌝ }
+    ensures { λ r. ⌜ madeOf r (now (row .exit)) ≡ literalChildren (progressOf (now (ticket .entry)) s .question) (branchOf (now (work .entry)) count) (functionOf function) x ⌝ }
 {
     let labels = classes::labels(work, count);
     let found = classes::class_literal(labels, s.literals + 1, x);
     match found {
-        Lowest::Nothing => misfit(),
+        Lowest::Nothing => false,
         Lowest::Literal(l) => {
             let text = question::literal_text(ticket, l);
             let constant = less_text(ticket, function, text.at, text.count);
-            Made {
-                fits: true,
-                row: rows::single_row(1, constant, column_of(s.p, s.q, function, x), 1),
-            }
+            rows::fill_single(row, 1, constant, column_of(s.p, s.q, function, x), 1);
+            true
         }
     }
 }
 
 // Join: "Adds the first as an equation", of two ≥ facts, one the negative of the other.
-fn join(j: usize, k: usize, work: &[i64], count: usize) -> Made
+fn join(row: &mut [i64], j: usize, k: usize, work: &[i64], count: usize) -> bool
+    requires { ⌜ length (now row) ≡ rowLength ⌝ }
     requires { ⌜ Fine (now work) count ⌝ }
-    ensures { λ r. ⌜ ((u : Question) → madeOf r ≡ children u (branchOf (now (work .entry)) count) (Join j k)) ⌝ }
+    ensures { λ r. ⌜ ((u : Question) → madeOf r (now (row .exit)) ≡ children u (branchOf (now (work .entry)) count) (Join j k)) ⌝ }
 {
     if count <= j {
-        return misfit();
+        return false;
     }
     if count <= k {
-        return misfit();
+        return false;
     }
-    let row = rows::row_at(work, j);
-    if !rows::joins(row, rows::row_at(work, k)) {
-        return misfit();
+    let first = rows::row_at(work, j);
+    if !rows::joins(first, rows::row_at(work, k)) {
+        return false;
     }
-    Made {
-        fits: true,
-        row: rows::equation_row(row),
-    }
+    rows::fill_equation(row, first);
+    true
 }
 
-// What a step of a rule with one conclusion gives. Its body stands at a position and is of proper form.
+// A step of a rule with one conclusion, in a row of zeros. Its body stands at a position and is of proper form.
 fn conclusion(
+    row: &mut [i64],
     ticket: &[u8],
     s: Progress,
     at: usize,
     size: usize,
     work: &[i64],
     count: usize,
-) -> Made
+) -> bool
+    requires { ⌜ now row ≡ zeros rowLength ⌝ }
     requires { ⌜ (at + size ≤ length (now ticket)) × (lengthFits (now ticket) at size ≡ true) × (isConcluding (rule (now ticket) at) ≡ true) ⌝ }
     requires { ⌜ operandsInRange (now ticket) (s .p) (columnCount (progressOf (now ticket) s .question)) (rule (now ticket) at) at size ≡ true ⌝ }
     requires { ⌜ (s .p ≤ variableLimit) × (s .q ≤ variableLimit) × (s .literals ≤ literalLimit) × (skip (now ticket) (s .literals) literalsFrom ≤ length (now ticket)) ⌝ }
     requires { ⌜ Fine (now work) count ⌝ }
-    ensures { λ r. ⌜ madeOf r ≡ children (progressOf (now (ticket .entry)) s .question) (branchOf (now (work .entry)) count) (stepAt (now (ticket .entry)) at size) ⌝ }
+    ensures { λ r. ⌜ madeOf r (now (row .exit)) ≡ children (progressOf (now (ticket .entry)) s .question) (branchOf (now (work .entry)) count) (stepAt (now (ticket .entry)) at size) ⌝ }
 {
     let number = u16_at(ticket, at);
     let first = u16_at(ticket, at + 4);
     match number {
-        1 => sum(ticket, at, size, work, count),
+        1 => sum(row, ticket, at, size, work, count),
         6 => {
             let x = u16_at(ticket, at + 6);
             let y = u16_at(ticket, at + 8);
-            s_prop(s.p, s.q, first, x, y, work, count)
+            s_prop(row, s.p, s.q, first, x, y, work, count)
         }
-        7 => of_literal(ticket, s, 0, first, work, count),
-        9 => of_literal(ticket, s, 1, first, work, count),
-        _ => join(first, u16_at(ticket, at + 6), work, count),
+        7 => of_literal(row, ticket, s, 0, first, work, count),
+        9 => of_literal(row, ticket, s, 1, first, work, count),
+        _ => join(row, first, u16_at(ticket, at + 6), work, count),
     }
 }
 
@@ -249,17 +232,16 @@ pub fn conclude(
     ensures fine { λ r. ⌜ (r ≡ 0 → Fine (now (work .exit)) (count + 1)) ⌝ }
     ensures kept { λ r. ⌜ ((j : ℕ) → j ≤ count → branchOf (now (work .exit)) j ≡ branchOf (now (work .entry)) j) ⌝ }
 {
-    let made = conclusion(ticket, s, at, size, work, count);
-    if !made.fits {
+    let mut row = [0i64; ROW_LENGTH];
+    if !conclusion(&mut row, ticket, s, at, size, work, count) {
         return 8;
     }
-    let row = made.row;
     if !rows::fact_within(&row) {
         return 9;
     }
     if FACT_LIMIT <= count {
         return 10;
     }
-    rows::put_row(work, count, row);
+    rows::put_row(work, count, &row);
     0
 }

@@ -1,51 +1,66 @@
 // The rows of facts that are written in the ticket: constraints of the question, and the form of a Branch.
 ghost use mathlib.Core.Path.{_≡_};
 ghost use mathlib.Core.Bool.{true};
+ghost use mathlib.Core.List.{[], _∷_, _++_};
 ghost use Prim.Native.Nat.{_+_, _*_, _≤_, _<_};
 ghost use lib.ListN.{length};
-ghost use Rattle.calculus.specs.Limits.{columnLimit, workNumbers};
+ghost use Rattle.calculus.specs.Limits.{columnLimit, factLimit, workNumbers};
 ghost use Rattle.calculus.specs.Facts.{arithmetic};
 ghost use Rattle.format.specs.Fields.{pairsAt};
 ghost use Rattle.format.specs.Question.{rising, relationOf, formOf, constraintOf};
-ghost use Rattle.rows.specs.Rows.{factOf, branchOf};
+ghost use Rattle.rows.specs.Rows.{rowLength, factOf, branchOf};
 ghost use Rattle.rows.specs.Work.{Fine};
 ghost use Rattle.question.specs.Posed.{asked, Posed};
 ghost use Rattle.constraints.specs.Constraints.{constraintFault};
 use limits::ROW_LENGTH;
 use question::Progress;
 
-// A form at a position, the constant and then pairs, related to 0: relation 0 is ≥, 1 is =, 2 is ≠.
-pub fn form_row(b: &[u8], relation: usize, at: usize, pairs: usize) -> [i64; ROW_LENGTH]
+// A form at a position, the constant and then pairs, related to 0: relation 0 is ≥, 1 is =, 2 is ≠. It fills a row's stretch with any contents.
+pub fn fill_form(row: &mut [i64], b: &[u8], relation: usize, at: usize, pairs: usize)
+    requires { ⌜ length (now row) ≡ rowLength ⌝ }
     requires { ⌜ (relation ≤ 2) × (at + 4 + 6 * pairs ≤ length (now b)) ⌝ }
     requires { ⌜ rising columnLimit 0 (pairsAt (now b) (at + 4) pairs) ≡ true ⌝ }
-    ensures { λ r. ⌜ factOf r ≡ arithmetic (relationOf relation) (formOf (now (b .entry)) at pairs) ⌝ }
+    ensures { λ _. ⌜ factOf (now (row .exit)) ≡ arithmetic (relationOf relation) (formOf (now (b .entry)) at pairs) ⌝ }
 {
-    let mut out = [0i64; ROW_LENGTH];
-    out[0] = relation as i64;
-    out[1] = records::i32_at(b, at);
+    rows::clear_row(row);
+    row[0] = relation as i64;
+    row[1] = records::i32_at(b, at);
     let mut i = 0;
     while i < pairs {
         let place = at + 4 + 6 * i;
         let column = records::u16_at(b, place);
         let coefficient = records::i32_at(b, place + 2);
-        out[column + 2] = coefficient;
+        row[column + 2] = coefficient;
         i += 1;
     }
-    out
 }
 
-// The constraint of a record of kind 3 or 4, by its body.
-pub fn constraint_row(b: &[u8], kind: usize, at: usize, size: usize) -> [i64; ROW_LENGTH]
+// A form related to 0, behind the first k facts.
+fn put_form(work: &mut [i64], k: usize, b: &[u8], relation: usize, at: usize, pairs: usize)
+    requires { ⌜ (k < factLimit) × (workNumbers ≤ length (now work)) ⌝ }
+    requires { ⌜ (relation ≤ 2) × (at + 4 + 6 * pairs ≤ length (now b)) ⌝ }
+    requires { ⌜ rising columnLimit 0 (pairsAt (now b) (at + 4) pairs) ≡ true ⌝ }
+    ensures { λ _. ⌜ branchOf (now (work .exit)) (k + 1) ≡ branchOf (now (work .entry)) k ++ (arithmetic (relationOf relation) (formOf (now (b .entry)) at pairs) ∷ []) ⌝ }
+{
+    let from = ROW_LENGTH * k;
+    let to = from + ROW_LENGTH;
+    fill_form(&mut work[from..to], b, relation, at, pairs);
+}
+
+// The constraint of a record of kind 3 or 4, by its body, behind the first k facts.
+fn put_constraint(work: &mut [i64], k: usize, b: &[u8], kind: usize, at: usize, size: usize)
+    requires { ⌜ (k < factLimit) × (workNumbers ≤ length (now work)) ⌝ }
     requires { ⌜ (at + size ≤ length (now b)) × (constraintFault (now b) kind at size ≡ 0) ⌝ }
-    ensures { λ r. ⌜ factOf r ≡ constraintOf (now (b .entry)) kind at size ⌝ }
+    ensures { λ _. ⌜ branchOf (now (work .exit)) (k + 1) ≡ branchOf (now (work .entry)) k ++ (constraintOf (now (b .entry)) kind at size ∷ []) ⌝ }
 {
     let relation = records::u16_at(b, at);
     if kind == 3 {
         let x = records::u16_at(b, at + 2);
         let y = records::u16_at(b, at + 4);
-        return rows::string_row(relation, x, y);
+        rows::put_string(work, k, relation, x, y);
+        return;
     }
-    form_row(b, relation, at + 2, size / 6 - 1)
+    put_form(work, k, b, relation, at + 2, size / 6 - 1);
 }
 
 // "Its constraints are facts 0, 1 and on": each goes into its row, in the order of the records.
@@ -60,8 +75,7 @@ pub fn load(ticket: &[u8], s: Progress, work: &mut [i64])
     while k < count {
         let size = records::u32_at(ticket, at);
         let kind = records::u16_at(ticket, at + 4);
-        let row = constraint_row(ticket, kind, at + 6, size);
-        rows::put_row(work, k, row);
+        put_constraint(work, k, ticket, kind, at + 6, size);
         at = at + 6 + size;
         k += 1;
     }

@@ -19,16 +19,15 @@ use Rattle.branch.specs.declared.Branch as code
 use Rattle.branch.specs.Stack.{lastFirst, stack, latestOf, begunOf}
 use Rattle.branch.proofs.Stacks.{stack-top, length-stack}
 use Rattle.derivation.specs.State.{childOn, waitings, walkOf, stateOf}
-use Rattle.derivation.specs.Ok.{Splits, Pends, Ok}
-use Rattle.derivation.specs.Moves.{moved, Holds}
+use Rattle.derivation.specs.Ok.{Splits, Pends, Ok, Holds}
 use Rattle.derivation.proofs.Pending.{its-pends, within-take, ok-begun}
 use Rattle.derivation.proofs.Walks.{cut-back}
 use Rattle.derivation.proofs.Holding.{few-facts, Puts, puts}
 
 -- with none pending, the last branch is closed
-pub none-left : (b : List ℕ) (s : Progress) (w : List ℤ) (c : code.Branch) → c .depth ≡ 0 → moved closed ≡ moved (cutBack _++_ (waitings b (asked b s) (branchOf w (c .count)) (stack c)))
+pub none-left : (b : List ℕ) (s : Progress) (w : List ℤ) (c : code.Branch) → c .depth ≡ 0 → closed ≡ cutBack _++_ (waitings b (asked b s) (branchOf w (c .count)) (stack c))
 unfolding stack lastFirst waitings
-none-left b s w c e = ap (λ (d : ℕ). moved (cutBack _++_ (waitings b (asked b s) (branchOf w (c .count)) (lastFirst d (c .splits))))) (sym e)
+none-left b s w c e = ap (λ (d : ℕ). cutBack _++_ (waitings b (asked b s) (branchOf w (c .count)) (lastFirst d (c .splits)))) (sym e)
 
 pub open-depth : (c : code.Branch) → (c .depth ≡ 0 → ⊥) → 0 < c .depth
 open-depth c n = omega arith
@@ -75,25 +74,25 @@ module _ {b : List ℕ} {s : Progress} {w : List ℤ} {c : code.Branch} (h : Hol
   record-stands = omega (arith, pends .splits .formed .within)
 
   -- its next child can be put
-  pub puts-next : (m count : ℕ) → m ≡ size b (t .at) → count ≡ latestOf (stack c) .mark → Puts b s (t .at + 6) m w count (t .child)
-  puts-next m count em ec =
-      puts b s w (t .at) (t .last) (t .child) m count (t .mark) (h .posed) cut-splits (pends .several) cut-fine (pends .some-begun) (pends .some-left) em (ec ∙ sym (ap (λ (x : Split). x .mark) e))
+  pub puts-next : (m : ℕ) → m ≡ size b (t .at) → Puts b s (t .at + 6) m w (t .mark) (t .child)
+  puts-next m em = puts b s w (t .at) (t .last) (t .child) m (t .mark) (h .posed) cut-splits (pends .several) cut-fine (pends .some-begun) (pends .some-left) em
 
   -- and then the walk is the one cut back
-  pub next-begins : (v : List ℤ) (r : code.Branch) (m count : ℕ) → m ≡ size b (t .at) → count ≡ latestOf (stack c) .mark
-      → branchOf v (r .count) ≡ branchOf w count ++ offeredChild b (asked b s) (branchOf w count) (t .at + 6) m (t .child) → stack r ≡ begunOf (stack c)
-      → (moved (stateOf b (asked b s) v r) ≡ moved (cutBack _++_ (waitings b (asked b s) br (stack c)))) × Ok b (asked b s) (branchOf v (r .count)) (stack r)
+  pub next-begins : (v : List ℤ) (r : code.Branch) (m k : ℕ) → m ≡ size b (t .at) → r .count ≡ k
+      → branchOf v k ≡ branchOf w (t .mark) ++ offeredChild b (asked b s) (branchOf w (t .mark)) (t .at + 6) m (t .child) → Fine v k → stack r ≡ begunOf (stack c)
+      → (stateOf b (asked b s) v r ≡ cutBack _++_ (waitings b (asked b s) br (stack c))) × Holds b s v r
   unfolding stateOf
-  next-begins v r m count em ec er es =
+  next-begins v r m k em er e f es =
       let u = asked b s in
-      let kept : branchOf w count ≡ take (t .mark) br = ap (branchOf w) (ec ∙ sym (ap (λ (x : Split). x .mark) e)) ∙ sym cut-rows in
       let rows : branchOf v (r .count) ≡ take (t .mark) br ++ childOn b u (take (t .mark) br) (t .at) (t .child) =
-      er ∙ ap₂ (λ (l : Branch) (i : ℕ). l ++ offeredChild b u l (t .at + 6) i (t .child)) kept em in
+      ap (branchOf v) er ∙ e ∙ ap₂ (λ (l : Branch) (i : ℕ). l ++ offeredChild b u l (t .at + 6) i (t .child)) (sym cut-rows) em in
       let begun : stack r ≡ begunOf (t ∷ others) = es ∙ ap begunOf on-top in (
-        ap moved
-            (ap₂ (walkOf b u) rows begun
-            ∙ cut-back b u br t others ok-top
-            ∙ ap (λ (l : List Split). cutBack _++_ (waitings b u br l)) (sym on-top)),
-        subst (λ (l : Branch). Ok b u l (stack r)) (sym rows)
-            (subst (λ (l : List Split). Ok b u (take (t .mark) br ++ childOn b u (take (t .mark) br) (t .at) (t .child)) l) (sym begun) (ok-begun b u br t others ok-top)),
+        ap₂ (walkOf b u) rows begun ∙ cut-back b u br t others ok-top ∙ ap (λ (l : List Split). cutBack _++_ (waitings b u br l)) (sym on-top),
+        record {
+          posed = h .posed;
+          room = f .room;
+          ok =
+              subst (λ (l : Branch). Ok b u l (stack r)) (sym rows)
+              (subst (λ (l : List Split). Ok b u (take (t .mark) br ++ childOn b u (take (t .mark) br) (t .at) (t .child)) l) (sym begun) (ok-begun b u br t others ok-top));
+        },
       )

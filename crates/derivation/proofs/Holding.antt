@@ -24,8 +24,7 @@ use Rattle.branch.specs.Stack.{stack}
 use Rattle.branch.proofs.Stacks.{length-stack}
 use Rattle.splits.specs.Splits.{isSplit}
 use Rattle.derivation.specs.State.{waitings}
-use Rattle.derivation.specs.Ok.{Splits}
-use Rattle.derivation.specs.Moves.{Holds}
+use Rattle.derivation.specs.Ok.{Splits, Holds}
 use Rattle.derivation.proofs.Children.{none-of-these}
 use Rattle.derivation.proofs.Pending.{length-waitings}
 
@@ -57,9 +56,6 @@ abbrev pub Puts : List ℕ → Progress → ℕ → ℕ → List ℤ → ℕ →
 Puts b s at m w count k =
     Posed b s × ((Formed b (asked b s) at m × (isSplit (rule b at) ≡ true)) × (Fine w count × (takenTried (branchOf w count) (nth (offered b (asked b s) (branchOf w count) at m) k) ≡ 0)))
 
-pub puts : (b : List ℕ) (s : Progress) (w : List ℤ) (at n k m count mark : ℕ) → Posed b s → Splits b (asked b s) (branchOf w mark) at n → isSplit (rule b (at + 6)) ≡ true → Fine w mark → 1 ≤ k → k ≤ n
-    → m ≡ size b at → count ≡ mark → Puts b s (at + 6) m w count k
-puts b s w at n k m count mark p sp r f l h em ec =
-    subst (λ (i : ℕ). Puts b s (at + 6) i w count k) (sym em)
-    (subst (λ (i : ℕ). Puts b s (at + 6) (size b at) w i k) (sym ec)
-    (p, ((sp .formed, r), (f, none-of-these sp k l h))))
+pub puts : (b : List ℕ) (s : Progress) (w : List ℤ) (at n k m count : ℕ) → Posed b s → Splits b (asked b s) (branchOf w count) at n → isSplit (rule b (at + 6)) ≡ true → Fine w count → 1 ≤ k → k ≤ n
+    → m ≡ size b at → Puts b s (at + 6) m w count k
+puts b s w at n k m count p sp r f l h em = subst (λ (i : ℕ). Puts b s (at + 6) i w count k) (sym em) (p, ((sp .formed, r), (f, none-of-these sp k l h)))

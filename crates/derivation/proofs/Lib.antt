@@ -5,3 +5,4 @@ pub mod Holding
 pub mod Closing
 pub mod Beginning
 pub mod Taking
+pub mod Acting

@@ -1,66 +1,68 @@
 -- A step by its rule's kind: closing, with one conclusion, or with several. Its body has m bytes, as its record says.
-use Prim.Native.Nat.{ℕ, zero, suc, _+_, _≤_, _<_}
+use Prim.Native.Nat.{ℕ, _+_, _≤_, _<_}
 use native.Mathlib.Omega.{arith}
-use mathlib.Core.Path.{_≡_, refl, sym, _∙_, ap, ap₂, subst}
+use mathlib.Core.Path.{_≡_, refl, sym, _∙_, ap, subst}
 use mathlib.Core.Logic.{inl, inr}
 use mathlib.Core.Bool.{Bool, true, false, _||_}
 use mathlib.Core.Option.{Option, none, some}
-use mathlib.Core.List.{List, _++_}
+use mathlib.Core.List.{List, [], _++_}
 use lib.ListN.{length, length-map}
 use lib.Dec.{leb, ltb}
+use lib.IntN.{ℤ}
 use borrow.Author.Tests.{ltb-true, lt-leb}
 use Rattle.lists.proofs.Options.{some-none}
 use Rattle.calculus.specs.Limits.{pendingLimit}
 use Rattle.calculus.specs.Facts.{Question, Fact, Branch}
 use Rattle.calculus.specs.Steps.{shape}
-use Rattle.calculus.specs.Walk.{Waiting, cutBack, enter}
 use Rattle.calculus.proofs.Shapes.{children-shape}
 use Rattle.format.specs.Records.{size}
 use Rattle.format.specs.StepForms.{rule, stepAt}
-use Rattle.format.specs.Checking.{fits, orNone, childrenWithin, roomForAll, roomToPend, allTried, takenTried, nth}
+use Rattle.format.specs.Checking.{fits, childrenWithin, roomForAll, roomToPend, allTried, takenTried, nth}
 use Rattle.format.proofs.Faults.{none-applies, and-true, not-both}
+use Rattle.rows.specs.Rows.{branchOf}
+use Rattle.rows.specs.Work.{Fine}
 use Rattle.steps.specs.Forms.{Formed}
-use Rattle.steps.specs.Offered.{offered}
+use Rattle.steps.specs.Offered.{offered, offeredChild}
 use Rattle.conclusions.specs.Made.{isConcluding, closingOf}
 use Rattle.conclusions.proofs.Tried.{Single, one-conclusion, tried-once}
-use Rattle.derivation.specs.State.{childrenOn}
+use Rattle.derivation.specs.State.{offeredIn}
 use Rattle.derivation.specs.Ok.{Splits}
-use Rattle.derivation.specs.Moves.{moved, refused, movedBy, stepOn}
+use Rattle.derivation.specs.Actions.{Begins}
 
--- ---- refused, or not, with so many splits pending
+-- ---- the number that refuses it, with so many splits pending
 
-module _ (b : List ℕ) (u : Question) (br : Branch) (ss : List (Waiting Branch (List Fact))) (at m pending : ℕ) (em : m ≡ size b at) (ep : length ss ≡ pending) where
+module _ (b : List ℕ) (u : Question) (br : Branch) (at m : ℕ) (em : m ≡ size b at) where
   abbrev given : Option (List (List Fact))
   given = offered b u br (at + 6) m
 
-  by-number : (f : ℕ) → f ≡ allTried br pending given → movedBy f (enter _++_ br (orNone given) ss) ≡ stepOn b u br ss at
-  unfolding stepOn
-  by-number f e =
-      ap (λ (i : ℕ). movedBy i (enter _++_ br (orNone given) ss)) e
-      ∙ ap₂ (λ (p i : ℕ). movedBy (allTried br p (offered b u br (at + 6) i)) (enter _++_ br (orNone (offered b u br (at + 6) i)) ss)) (sym ep) em
-
-  pub step-refused : (f : ℕ) → (f ≡ 0 → ⊥) → f ≡ allTried br pending given → refused f ≡ stepOn b u br ss at
-  step-refused zero n e = absurd (n refl)
-  step-refused (suc f) n e = by-number (suc f) e
-
-  pub step-moved : 0 ≡ allTried br pending given → moved (enter _++_ br (childrenOn b u br at) ss) ≡ stepOn b u br ss at
-  step-moved e = ap (λ (i : ℕ). moved (enter _++_ br (orNone (offered b u br (at + 6) i)) ss)) (sym em) ∙ by-number 0 e
+  pub numbered : (pending f : ℕ) → f ≡ allTried br pending given → f ≡ allTried br pending (offeredIn b u br at)
+  numbered pending f e = e ∙ ap (λ (i : ℕ). allTried br pending (offered b u br (at + 6) i)) em
 
   -- a rule that closes
-  pub step-open : closingOf false ≡ given → refused 8 ≡ stepOn b u br ss at
+  pub step-open : closingOf false ≡ given → (pending : ℕ) → 8 ≡ allTried br pending (offeredIn b u br at)
   unfolding closingOf
-  step-open e = by-number 8 (ap (λ (o : Option (List (List Fact))). allTried br pending o) e)
+  step-open e pending = numbered pending 8 (ap (λ (o : Option (List (List Fact))). allTried br pending o) e)
 
-  pub step-closes : closingOf true ≡ given → moved (cutBack _++_ ss) ≡ stepOn b u br ss at
+  pub step-closes : closingOf true ≡ given → (pending : ℕ) → 0 ≡ allTried br pending (offeredIn b u br at)
   unfolding closingOf childrenWithin roomForAll
-  step-closes e =
-      ap (λ (o : Option (List (List Fact))). moved (enter _++_ br (orNone o) ss)) e
-      ∙ by-number 0 (ap (λ (o : Option (List (List Fact))). allTried br pending o) e)
+  step-closes e pending = numbered pending 0 (ap (λ (o : Option (List (List Fact))). allTried br pending o) e)
+
+  pub no-children : closingOf true ≡ given → offeredIn b u br at ≡ some []
+  unfolding closingOf
+  no-children e = sym (e ∙ ap (λ (i : ℕ). offered b u br (at + 6) i) em)
 
   -- a rule with one conclusion: "all children" are the one
-  pub one-tried : isConcluding (rule b (at + 6)) ≡ true → takenTried br (nth given 1) ≡ allTried br pending given
+  pub one-tried : isConcluding (rule b (at + 6)) ≡ true → (f : ℕ) → f ≡ takenTried br (nth given 1) → (pending : ℕ) → f ≡ allTried br pending given
   unfolding offered
-  one-tried c = sym (tried-once br pending given (one-conclusion u br b (at + 6) m c))
+  one-tried c f e pending = e ∙ sym (tried-once br pending given (one-conclusion u br b (at + 6) m c))
+
+  -- its first child stands behind the branch
+  pub first-begins : (n : ℕ) → Splits b u br at n → (w : List ℤ) (k : ℕ) → branchOf w k ≡ br ++ offeredChild b u br (at + 6) m 1 → Fine w k → Begins b u br at n w k
+  first-begins n sp w k e f = record {
+    splits = sp;
+    rows = e ∙ ap (λ (i : ℕ). br ++ offeredChild b u br (at + 6) i 1) em;
+    fine = f;
+  }
 
 -- ---- a step to which none of 8 to 10 applies
 

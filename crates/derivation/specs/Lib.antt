@@ -1,3 +1,3 @@
 pub mod State
 pub mod Ok
-pub mod Moves
+pub mod Actions

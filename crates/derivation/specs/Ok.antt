@@ -5,14 +5,20 @@ use mathlib.Core.Bool.{true}
 use mathlib.Core.Option.{some}
 use mathlib.Core.List.{List, [], _∷_}
 use lib.ListN.{length, take}
-use Rattle.calculus.specs.Limits.{factLimit, pendingLimit}
+use lib.IntN.{ℤ}
+use Rattle.calculus.specs.Limits.{factLimit, pendingLimit, workNumbers}
 use Rattle.calculus.specs.Facts.{Question, Fact, Branch}
 use Rattle.format.specs.Records.{size}
 use Rattle.format.specs.StepForms.{rule}
 use Rattle.format.specs.Checking.{factsWithin, childrenWithin, roomForAll}
+use Rattle.rows.specs.Rows.{branchOf}
+use Rattle.question.specs.declared.Progress.{Progress}
+use Rattle.question.specs.Posed.{asked, Posed}
 use Rattle.steps.specs.Forms.{Formed}
 use Rattle.splits.specs.Splits.{isSplit}
 use Rattle.branch.specs.declared.Split.{Split}
+use Rattle.branch.specs.declared.Branch as code
+use Rattle.branch.specs.Stack.{stack}
 use Rattle.derivation.specs.State.{offeredIn}
 
 -- the step in the record at a position fits on a branch with n children, and each of them is within the limits
@@ -42,3 +48,9 @@ pub record Ok (b : List ℕ) (u : Question) (br : Branch) (ss : List Split) : Ty
   pub small : factsWithin br ≡ true
   pub few-pending : length ss ≤ pendingLimit
   pub pend : AllPend b u br ss
+
+-- a question that stands in the ticket, and a state in order
+pub record Holds (b : List ℕ) (s : Progress) (w : List ℤ) (c : code.Branch) : Type 0 where
+  pub posed : Posed b s
+  pub room : workNumbers ≤ length w
+  pub ok : Ok b (asked b s) (branchOf w (c .count)) (stack c)

@@ -2,20 +2,21 @@
 ghost use mathlib.Core.Path.{_≡_};
 ghost use mathlib.Core.Bool.{true};
 ghost use mathlib.Core.List.{_++_};
-ghost use Prim.Native.Nat.{_+_, _≤_, _<_};
-ghost use Rattle.calculus.specs.Limits.{pendingLimit};
-ghost use Rattle.calculus.specs.Walk.{cutBack, enter};
+ghost use Prim.Native.Nat.{ℕ, _+_, _<_};
+ghost use Rattle.calculus.specs.Walk.{cutBack};
 ghost use Rattle.format.specs.Records.{size as sizeOf};
 ghost use Rattle.format.specs.StepForms.{rule};
+ghost use Rattle.format.specs.Checking.{allTried};
 ghost use Rattle.rows.specs.Rows.{branchOf};
-ghost use Rattle.question.specs.Posed.{asked};
+ghost use Rattle.rows.specs.Work.{Fine};
+ghost use Rattle.question.specs.Posed.{asked, Posed};
 ghost use Rattle.steps.specs.Forms.{Formed};
 ghost use Rattle.branch.specs.Stack.{stack};
 ghost use Rattle.conclusions.specs.Made.{isClosing, isConcluding};
 ghost use Rattle.splits.specs.Splits.{isSplit};
-ghost use Rattle.derivation.specs.State.{childrenOn, waitings};
-ghost use Rattle.derivation.specs.Ok.{Splits};
-ghost use Rattle.derivation.specs.Moves.{moved, stepOn, steppedOf, Holds, OkStepped};
+ghost use Rattle.derivation.specs.State.{offeredIn, waitings, stateOf};
+ghost use Rattle.derivation.specs.Ok.{Holds};
+ghost use Rattle.derivation.specs.Actions.{numberOf, Acts};
 use branch::Branch;
 use question::Progress;
 use records::u16_at;
@@ -23,83 +24,16 @@ use records::u32_at;
 use rules::put_child;
 use rules::split_fault;
 
-// Next: the walk goes on. Closed: the last branch is closed. Refused: the number.
-pub enum Verdict {
-    Next,
-    Closed,
+// What a step comes to. Refused: the number. Closes: the branch is closed. Extends: the number of facts on the branch then. Splits: the number
+// of facts on the branch of its first child, and that of its children.
+pub enum Action {
     Refused(usize),
+    Closes,
+    Extends(usize),
+    Splits(usize, usize),
 }
 
-pub struct Stepped {
-    pub verdict: Verdict,
-    pub branch: Branch,
-}
-
-// "a closed branch is cut back to the mark of its last pending split", and its next child begins. With none pending, the last branch is closed.
-fn close(ticket: &[u8], s: Progress, work: &mut [i64], b: Branch) -> Stepped
-    requires { ⌜ Holds (now ticket) s (now work) b ⌝ }
-    ensures stepped { λ r. ⌜ steppedOf (now (ticket .entry)) (asked (now (ticket .entry)) s) (now (work .exit)) r ≡ moved (cutBack _++_ (waitings (now (ticket .entry)) (asked (now (ticket .entry)) s) (branchOf (now (work .entry)) (b .count)) (stack b))) ⌝ }
-    ensures ok { λ r. ⌜ OkStepped (now (ticket .entry)) (asked (now (ticket .entry)) s) (now (work .exit)) r ⌝ }
-{
-    if b.depth == 0 {
-        return Stepped {
-            verdict: Verdict::Closed,
-            branch: b,
-        };
-    }
-    let split = b.latest();
-    let cut = b.cut_back();
-    let at = split.at as usize;
-    let size = u32_at(ticket, at);
-    let count = put_child(
-        ticket,
-        s,
-        at + 6,
-        size,
-        work,
-        cut.count as usize,
-        split.child as usize,
-    );
-    let begun = cut.take_next_child();
-    let next = begun.extend(count);
-    Stepped {
-        verdict: Verdict::Next,
-        branch: next,
-    }
-}
-
-// "children are worked left to right": the first child of a step that fits. With more children the split is pending.
-fn begin(
-    ticket: &[u8],
-    s: Progress,
-    at: usize,
-    size: usize,
-    work: &mut [i64],
-    b: Branch,
-    last: usize,
-) -> Stepped
-    requires { ⌜ Holds (now ticket) s (now work) b ⌝ }
-    requires { ⌜ (size ≡ sizeOf (now ticket) at) × (isSplit (rule (now ticket) (at + 6)) ≡ true) ⌝ }
-    requires { ⌜ Splits (now ticket) (asked (now ticket) s) (branchOf (now work) (b .count)) at last ⌝ }
-    requires { ⌜ (1 ≤ last) × (last < 256) × (2 ≤ last → b .depth < pendingLimit) ⌝ }
-    ensures stepped { λ r. ⌜ steppedOf (now (ticket .entry)) (asked (now (ticket .entry)) s) (now (work .exit)) r ≡ moved (enter _++_ (branchOf (now (work .entry)) (b .count)) (childrenOn (now (ticket .entry)) (asked (now (ticket .entry)) s) (branchOf (now (work .entry)) (b .count)) at) (waitings (now (ticket .entry)) (asked (now (ticket .entry)) s) (branchOf (now (work .entry)) (b .count)) (stack b))) ⌝ }
-    ensures ok { λ r. ⌜ OkStepped (now (ticket .entry)) (asked (now (ticket .entry)) s) (now (work .exit)) r ⌝ }
-{
-    let count = put_child(ticket, s, at + 6, size, work, b.count as usize, 1);
-    if last <= 1 {
-        let only = b.extend(count);
-        return Stepped {
-            verdict: Verdict::Next,
-            branch: only,
-        };
-    }
-    let marked = b.mark(at, last);
-    let first = marked.extend(count);
-    Stepped {
-        verdict: Verdict::Next,
-        branch: first,
-    }
-}
+// ---- a step on the branch of the first rows, with so many splits pending
 
 // A step of A-Conf or S-Conf, which closes the branch; 8 where it does not fit.
 fn take_closing(
@@ -107,21 +41,19 @@ fn take_closing(
     s: Progress,
     at: usize,
     size: usize,
-    work: &mut [i64],
-    b: Branch,
-) -> Stepped
-    requires { ⌜ Holds (now ticket) s (now work) b ⌝ }
+    work: &[i64],
+    count: usize,
+) -> Action
+    requires { ⌜ Posed (now ticket) s ⌝ }
     requires { ⌜ (size ≡ sizeOf (now ticket) at) × Formed (now ticket) (asked (now ticket) s) (at + 6) size × (isClosing (rule (now ticket) (at + 6)) ≡ true) ⌝ }
-    ensures stepped { λ r. ⌜ steppedOf (now (ticket .entry)) (asked (now (ticket .entry)) s) (now (work .exit)) r ≡ stepOn (now (ticket .entry)) (asked (now (ticket .entry)) s) (branchOf (now (work .entry)) (b .count)) (waitings (now (ticket .entry)) (asked (now (ticket .entry)) s) (branchOf (now (work .entry)) (b .count)) (stack b)) at ⌝ }
-    ensures ok { λ r. ⌜ OkStepped (now (ticket .entry)) (asked (now (ticket .entry)) s) (now (work .exit)) r ⌝ }
+    requires { ⌜ Fine (now work) count ⌝ }
+    ensures number { λ r. ⌜ ((pending : ℕ) → numberOf r ≡ allTried (branchOf (now (work .entry)) count) pending (offeredIn (now (ticket .entry)) (asked (now (ticket .entry)) s) (branchOf (now (work .entry)) count) at)) ⌝ }
+    ensures acts { λ r. ⌜ ((pending : ℕ) → Acts (now (ticket .entry)) (asked (now (ticket .entry)) s) at pending (now (work .entry)) count (now (work .entry)) r) ⌝ }
 {
-    if !conclusions::closes(ticket, s, at + 6, size, work, b.count as usize) {
-        return Stepped {
-            verdict: Verdict::Refused(8),
-            branch: b,
-        };
+    if !conclusions::closes(ticket, s, at + 6, size, work, count) {
+        return Action::Refused(8);
     }
-    close(ticket, s, work, b)
+    Action::Closes
 }
 
 // A step of a rule with one conclusion: its fact is added, where none of 8 to 10 applies.
@@ -131,26 +63,19 @@ fn take_conclusion(
     at: usize,
     size: usize,
     work: &mut [i64],
-    b: Branch,
-) -> Stepped
-    requires { ⌜ Holds (now ticket) s (now work) b ⌝ }
+    count: usize,
+) -> Action
+    requires { ⌜ Posed (now ticket) s ⌝ }
     requires { ⌜ (size ≡ sizeOf (now ticket) at) × Formed (now ticket) (asked (now ticket) s) (at + 6) size × (isConcluding (rule (now ticket) (at + 6)) ≡ true) ⌝ }
-    ensures stepped { λ r. ⌜ steppedOf (now (ticket .entry)) (asked (now (ticket .entry)) s) (now (work .exit)) r ≡ stepOn (now (ticket .entry)) (asked (now (ticket .entry)) s) (branchOf (now (work .entry)) (b .count)) (waitings (now (ticket .entry)) (asked (now (ticket .entry)) s) (branchOf (now (work .entry)) (b .count)) (stack b)) at ⌝ }
-    ensures ok { λ r. ⌜ OkStepped (now (ticket .entry)) (asked (now (ticket .entry)) s) (now (work .exit)) r ⌝ }
+    requires { ⌜ Fine (now work) count ⌝ }
+    ensures number { λ r. ⌜ ((pending : ℕ) → numberOf r ≡ allTried (branchOf (now (work .entry)) count) pending (offeredIn (now (ticket .entry)) (asked (now (ticket .entry)) s) (branchOf (now (work .entry)) count) at)) ⌝ }
+    ensures acts { λ r. ⌜ ((pending : ℕ) → Acts (now (ticket .entry)) (asked (now (ticket .entry)) s) at pending (now (work .entry)) count (now (work .exit)) r) ⌝ }
 {
-    let count = b.count as usize;
     let fault = conclusions::conclude(ticket, s, at + 6, size, work, count);
     if fault != 0 {
-        return Stepped {
-            verdict: Verdict::Refused(fault),
-            branch: b,
-        };
+        return Action::Refused(fault);
     }
-    let longer = b.extend(count + 1);
-    Stepped {
-        verdict: Verdict::Next,
-        branch: longer,
-    }
+    Action::Extends(count + 1)
 }
 
 // A step of a rule with several conclusions: its first child begins, where none of 8 to 10 applies to any of them.
@@ -160,52 +85,74 @@ fn take_split(
     at: usize,
     size: usize,
     work: &mut [i64],
-    b: Branch,
-) -> Stepped
-    requires { ⌜ Holds (now ticket) s (now work) b ⌝ }
+    count: usize,
+    pending: usize,
+) -> Action
+    requires { ⌜ Posed (now ticket) s ⌝ }
     requires { ⌜ (size ≡ sizeOf (now ticket) at) × Formed (now ticket) (asked (now ticket) s) (at + 6) size × (isSplit (rule (now ticket) (at + 6)) ≡ true) ⌝ }
-    ensures stepped { λ r. ⌜ steppedOf (now (ticket .entry)) (asked (now (ticket .entry)) s) (now (work .exit)) r ≡ stepOn (now (ticket .entry)) (asked (now (ticket .entry)) s) (branchOf (now (work .entry)) (b .count)) (waitings (now (ticket .entry)) (asked (now (ticket .entry)) s) (branchOf (now (work .entry)) (b .count)) (stack b)) at ⌝ }
-    ensures ok { λ r. ⌜ OkStepped (now (ticket .entry)) (asked (now (ticket .entry)) s) (now (work .exit)) r ⌝ }
+    requires { ⌜ Fine (now work) count ⌝ }
+    ensures number { λ r. ⌜ numberOf r ≡ allTried (branchOf (now (work .entry)) count) pending (offeredIn (now (ticket .entry)) (asked (now (ticket .entry)) s) (branchOf (now (work .entry)) count) at) ⌝ }
+    ensures acts { λ r. ⌜ Acts (now (ticket .entry)) (asked (now (ticket .entry)) s) at pending (now (work .entry)) count (now (work .exit)) r ⌝ }
 {
-    let fault = split_fault(
-        ticket,
-        s,
-        at + 6,
-        size,
-        work,
-        b.count as usize,
-        b.depth as usize,
-    );
+    let fault = split_fault(ticket, s, at + 6, size, work, count, pending);
     if fault != 0 {
-        return Stepped {
-            verdict: Verdict::Refused(fault),
-            branch: b,
-        };
+        return Action::Refused(fault);
     }
     let last = steps::child_count(ticket, s.n, at + 6, size);
-    begin(ticket, s, at, size, work, b, last)
+    let begun = put_child(ticket, s, at + 6, size, work, count, 1);
+    if last <= 1 {
+        return Action::Extends(begun);
+    }
+    Action::Splits(begun, last)
 }
 
-// The step in the record at a position, whose body is of proper form, on a branch with its pending splits.
+// The step in the record at a position, whose body is of proper form.
 pub fn take_step(
     ticket: &[u8],
     s: Progress,
     at: usize,
     size: usize,
     work: &mut [i64],
-    b: Branch,
-) -> Stepped
-    requires { ⌜ Holds (now ticket) s (now work) b ⌝ }
+    count: usize,
+    pending: usize,
+) -> Action
+    requires { ⌜ Posed (now ticket) s ⌝ }
     requires { ⌜ (size ≡ sizeOf (now ticket) at) × Formed (now ticket) (asked (now ticket) s) (at + 6) size ⌝ }
-    ensures stepped { λ r. ⌜ steppedOf (now (ticket .entry)) (asked (now (ticket .entry)) s) (now (work .exit)) r ≡ stepOn (now (ticket .entry)) (asked (now (ticket .entry)) s) (branchOf (now (work .entry)) (b .count)) (waitings (now (ticket .entry)) (asked (now (ticket .entry)) s) (branchOf (now (work .entry)) (b .count)) (stack b)) at ⌝ }
-    ensures ok { λ r. ⌜ OkStepped (now (ticket .entry)) (asked (now (ticket .entry)) s) (now (work .exit)) r ⌝ }
+    requires { ⌜ Fine (now work) count ⌝ }
+    ensures number { λ r. ⌜ numberOf r ≡ allTried (branchOf (now (work .entry)) count) pending (offeredIn (now (ticket .entry)) (asked (now (ticket .entry)) s) (branchOf (now (work .entry)) count) at) ⌝ }
+    ensures acts { λ r. ⌜ Acts (now (ticket .entry)) (asked (now (ticket .entry)) s) at pending (now (work .entry)) count (now (work .exit)) r ⌝ }
 {
     let number = u16_at(ticket, at + 6);
     if rules::is_closing(number) {
-        return take_closing(ticket, s, at, size, work, b);
+        return take_closing(ticket, s, at, size, work, count);
     }
     if rules::is_concluding(number) {
-        return take_conclusion(ticket, s, at, size, work, b);
+        return take_conclusion(ticket, s, at, size, work, count);
     }
-    take_split(ticket, s, at, size, work, b)
+    take_split(ticket, s, at, size, work, count, pending)
+}
+
+// ---- a closed branch
+
+// "a closed branch is cut back to the mark of its last pending split", and its next child begins.
+pub fn next_child(ticket: &[u8], s: Progress, work: &mut [i64], b: Branch) -> Branch
+    requires { ⌜ Holds (now ticket) s (now work) b × (0 < b .depth) ⌝ }
+    ensures state { λ r. ⌜ stateOf (now (ticket .entry)) (asked (now (ticket .entry)) s) (now (work .exit)) r ≡ cutBack _++_ (waitings (now (ticket .entry)) (asked (now (ticket .entry)) s) (branchOf (now (work .entry)) (b .count)) (stack b)) ⌝ }
+    ensures holds { λ r. ⌜ Holds (now (ticket .entry)) s (now (work .exit)) r ⌝ }
+{
+    let split = b.latest();
+    let at = split.at as usize;
+    let size = u32_at(ticket, at);
+    let count = put_child(
+        ticket,
+        s,
+        at + 6,
+        size,
+        work,
+        split.mark as usize,
+        split.child as usize,
+    );
+    let cut = b.cut_back();
+    let begun = cut.take_next_child();
+    begun.extend(count)
 }

@@ -1,18 +1,19 @@
 -- Laws of the tests by values, and of loops over variables.
 use mathlib.Core.Path.{_≡_, refl, sym, _∙_, ap, ap₂}
-use mathlib.Core.Bool.{Bool, true, false, not, cond, _&&_, _||_, and-false}
+use mathlib.Core.Bool.{Bool, true, false, not, cond, _&&_, _||_, and-false, or-true}
 use mathlib.Core.Option.{Option, none, some}
 use mathlib.Core.List.{List, [], _∷_}
-use Prim.Native.Nat.{ℕ, zero, suc, _+_, _≤_, _<_}
+use Prim.Native.Nat.{ℕ, zero, suc, _+_, _-_, _^_, _≤_, _<_}
 use native.Mathlib.Omega.{arith}
 use native.Mathlib.Numerals.{add-one}
 use native.Mathlib.Decide.{decLt}
-use borrow.Author.Tests.{eq-eqb, ne-eqb, le-leb, lt-leb}
+use borrow.Author.Tests.{eq-eqb, ne-eqb, le-leb, lt-leb, leb-true, leb-false}
 use lib.ListN.{length}
 use lib.Dec.{eqb, leb}
 use lib.IntN.{ℤ, pos, negsuc, natAbs}
 use lib.Signed.{ltZ}
-use Rattle.calculus.specs.Alphabet.{lastCharacter}
+use Rattle.lists.proofs.Tests.{true→}
+use Rattle.calculus.specs.Alphabet.{lastCharacter, characterCount}
 use Rattle.calculus.specs.Rows.{eqℤ}
 use Rattle.calculus.specs.Facts.{Question, Branch, codeOf, literal, len, code}
 use Rattle.calculus.specs.Chains.{varNode, litNode}
@@ -20,12 +21,13 @@ use Rattle.calculus.specs.Classes.{labels, sameClass, lowest, conflict}
 use Rattle.calculus.specs.Rules.{logUp}
 use Rattle.calculus.specs.Model.{modelOf}
 use Rattle.calculus.specs.SaturationTest.{every, lowestVar, lowestOf, saturatedCard}
+use Rattle.calculus.proofs.Powers.{least-power}
 use Rattle.format.specs.Places.{literalsFrom}
 use Rattle.format.proofs.Places.{length-texts}
 use Rattle.classes.specs.Classes.{clash}
 use Rattle.leaf.specs.declared.Leaf.{Leaf}
 use Rattle.leaf.specs.Leaf.{asked}
-use Rattle.leaf.specs.Values.{textFits, literalFits, lengthFits, codeBy, codeFits, varFits, pairBy, pairFits}
+use Rattle.leaf.specs.Values.{textFits, literalFits, lengthFits, codeBy, codeFits, roomy, varFits, pairBy, pairFits}
 
 -- ---- tests of a variable
 
@@ -110,22 +112,55 @@ module _ (u : Question) (ls : List ℕ) (m : List ℤ) (z : ℤ) where
       go true = add-one (length (lowestOf u ls m z y))
       go false = omega arith
 
+-- Card's bound
+pub room-unary : (n k size : ℕ) → n ≤ 1 → roomy n k size ≡ false
+unfolding roomy
+room-unary n k size h = rw (le-leb n 1 h)
+
+pub room-by : (n k size : ℕ) → 1 < n → roomy n k size ≡ leb (logUp k n k 0) size
+unfolding roomy
+room-by n k size h = rw (lt-leb n 1 h)
+
+-- room for p strings is room for fewer
+room-fewer : (n p k size : ℕ) → k ≤ p → roomy n p size ≡ true → roomy n k size ≡ true
+room-fewer n p k size h e = go (leb n 1) refl
+  where
+    go : (t : Bool) → leb n 1 ≡ t → roomy n k size ≡ true
+    go true f = absurd (true→ (sym (room-unary n p size (leb-true n 1 f)) ∙ e))
+    go false f =
+        let l : 1 < n = leb-false n 1 f in
+        let a : logUp p n p 0 ≤ size = leb-true (logUp p n p 0) size (sym (room-by n p size l) ∙ e) in
+        let b : p ≤ n ^ logUp p n p 0 = least-power n p l .reaches in
+        let c : logUp k n k 0 ≤ logUp p n p 0 = least-power n k l .least (logUp p n p 0) (omega arith) in
+        room-by n k size l ∙ le-leb (logUp k n k 0) size (omega arith)
+
 -- Card, by the count k of the classes of the length of x
 module _ (u : Question) (ls : List ℕ) (m : List ℤ) (x k : ℕ) (e : k ≡ length (lowestOf u ls m (modelOf u m len x) (u .p))) where
-  abbrev byCount : ℕ → Bool
-  byCount k = leb k 1 || (not (leb (u .n) 1) && leb (logUp k (u .n) k 0) (natAbs (modelOf u m len x)))
-
-  counted : saturatedCard u ls m x ≡ byCount k
-  counted = ap byCount (sym e)
+  counted : saturatedCard u ls m x ≡ (leb k 1 || roomy (u .n) k (natAbs (modelOf u m len x)))
+  unfolding roomy
+  counted = ap (λ (i : ℕ). leb i 1 || roomy (u .n) i (natAbs (modelOf u m len x))) (sym e)
 
   pub card-few : k ≤ 1 → saturatedCard u ls m x ≡ true
   card-few h = counted ∙ rw (le-leb k 1 h)
 
-  pub card-unary : 1 < k → u .n ≤ 1 → saturatedCard u ls m x ≡ false
-  card-unary h g = counted ∙ rw (lt-leb k 1 h, le-leb (u .n) 1 g)
+  pub card-many : 1 < k → saturatedCard u ls m x ≡ roomy (u .n) k (natAbs (modelOf u m len x))
+  card-many h = counted ∙ rw (lt-leb k 1 h)
 
-  pub card-many : 1 < k → 1 < u .n → saturatedCard u ls m x ≡ leb (logUp k (u .n) k 0) (natAbs (modelOf u m len x))
-  card-many h g = counted ∙ rw (lt-leb k 1 h, lt-leb (u .n) 1 g)
+few-lowest : (u : Question) (ls : List ℕ) (m : List ℤ) (z : ℤ) (k : ℕ) → length (lowestOf u ls m z k) ≤ k
+few-lowest u ls m z zero = omega arith
+few-lowest u ls m z (suc k) = go (eqℤ (modelOf u m len k) z && eqb (lowestVar ls k) k) (few-lowest u ls m z k)
+  where
+    go : (t : Bool) → length (lowestOf u ls m z k) ≤ k → length {A = ℕ} (elim t as (λ _. List ℕ) [ true ↦ k ∷ lowestOf u ls m z k | false ↦ lowestOf u ls m z k ]) ≤ suc k
+    go true h = omega arith
+    go false h = omega arith
+
+-- no count is needed where there is room for a string of each variable
+pub card-roomy : (u : Question) (ls : List ℕ) (m : List ℤ) (x : ℕ) → roomy (u .n) (u .p) (natAbs (modelOf u m len x)) ≡ true → saturatedCard u ls m x ≡ true
+card-roomy u ls m x e =
+    let k = length (lowestOf u ls m (modelOf u m len x) (u .p)) in
+    counted u ls m x k refl
+    ∙ ap (λ (t : Bool). leb k 1 || t) (room-fewer (u .n) (u .p) k (natAbs (modelOf u m len x)) (few-lowest u ls m (modelOf u m len x) (u .p)) e)
+    ∙ or-true (leb k 1)
 
 -- ---- every variable
 

@@ -12,6 +12,7 @@ use Rattle.calculus.specs.Rows.{eqℤ}
 use Rattle.calculus.specs.Facts.{Question, literal, codeOf, len, code}
 use Rattle.calculus.specs.Chains.{varNode, litNode}
 use Rattle.calculus.specs.Classes.{sameClass, lowest}
+use Rattle.calculus.specs.Rules.{logUp}
 use Rattle.calculus.specs.Model.{modelOf}
 use Rattle.calculus.specs.SaturationTest.{every, saturatedCard}
 
@@ -36,6 +37,10 @@ codeBy false n c = eqℤ c (negsuc 0)
 
 abbrev pub codeFits : ℕ → ℤ → ℤ → Bool
 codeFits n z c = codeBy (eqℤ z (pos 1)) n c
+
+-- Card's bound: n characters and a length for k different strings
+unfoldable pub roomy : ℕ → ℕ → ℕ → Bool
+roomy n k size = not (leb n 1) && leb (logUp k n k 0) size
 
 -- the rules with one variable
 unfoldable pub varFits : Question → List ℕ → List ℤ → ℕ → Bool

@@ -18,7 +18,7 @@ ghost use Rattle.format.specs.Places.{skip, literalsFrom};
 ghost use Rattle.format.specs.Checking.{shortLengths};
 ghost use Rattle.rows.specs.Rows.{rowLength, branchOf};
 ghost use Rattle.leaf.specs.Leaf.{asked, Modelled, Ready};
-ghost use Rattle.leaf.specs.Values.{textFits, literalFits, lengthFits, codeFits, varFits, pairBy, pairFits, byValues};
+ghost use Rattle.leaf.specs.Values.{textFits, literalFits, lengthFits, codeFits, roomy, varFits, pairBy, pairFits, byValues};
 use classes::Lowest;
 use limits::LENGTH_LIMIT;
 
@@ -159,22 +159,33 @@ fn classes_of(model: &[i64], leaf: Leaf, wanted: i64) -> usize
     count
 }
 
-// Card for the length of variable x.
+// Are there n characters and a length for k different strings?
+fn has_room(n: usize, k: usize, size: usize) -> bool
+    requires { ⌜ (n ≤ alphabetLimit) × (k ≤ variableLimit) ⌝ }
+    ensures { λ r. ⌜ r ≡ roomy n k size ⌝ }
+{
+    if n <= 1 {
+        return false;
+    }
+    let least = classes::log_up(n, k);
+    least <= size
+}
+
+// Card for the length of variable x. It has at most p classes, which are counted only where there is no room for p strings.
 fn card_fits(model: &[i64], leaf: Leaf, x: usize) -> bool
     requires { ⌜ Modelled (now model) leaf × (leaf .n ≤ alphabetLimit) × (x < leaf .p) ⌝ }
     ensures { λ r. ⌜ r ≡ saturatedCard (asked [] leaf) (leaf .labels) (now (model .entry)) x ⌝ }
 {
     let len = len_of(model, leaf.q, x);
+    let size = magnitude(len);
+    if has_room(leaf.n, leaf.p, size) {
+        return true;
+    }
     let count = classes_of(model, leaf, len);
     if count <= 1 {
         return true;
     }
-    if leaf.n <= 1 {
-        return false;
-    }
-    let least = classes::log_up(leaf.n, count);
-    let size = magnitude(len);
-    least <= size
+    has_room(leaf.n, count, size)
 }
 
 // L-Intro, C-Collapse, L-Valid, C-Valid and Card for variable x.

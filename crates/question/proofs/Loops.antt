@@ -1,6 +1,6 @@
 -- One turn of each loop over a body's fields: what is left from a position equals what is left from the next.
-use mathlib.Core.Path.{_≡_, refl, ap}
-use mathlib.Core.Bool.{true, false, and-false}
+use mathlib.Core.Path.{_≡_, refl, sym, ap}
+use mathlib.Core.Bool.{Bool, true, false, _&&_, and-false}
 use mathlib.Core.List.{List}
 use Prim.Native.Nat.{ℕ, zero, suc, _+_, _-_, _≤_, _<_}
 use native.Mathlib.Omega.{arith}
@@ -43,15 +43,10 @@ module _ (a b : List ℕ) (x y : ℕ) where
   same-done zero h = refl
   same-done (suc k) h = absurd (omega arith)
 
-  pub same-yes : (k : ℕ) → 0 < k → u32 a x ≡ u32 b y → eqString (u32s a x k) (u32s b y k) ≡ eqString (u32s a (x + 4) (k - 1)) (u32s b (y + 4) (k - 1))
+  pub same-more : (k : ℕ) → 0 < k → eqString (u32s a x k) (u32s b y k) ≡ (eqb (u32 a x) (u32 b y) && eqString (u32s a (x + 4) (k - 1)) (u32s b (y + 4) (k - 1)))
   unfolding u32s
-  same-yes zero h g = absurd (omega arith)
-  same-yes (suc k) h g = rw (eq-eqb (u32 a x) (u32 b y) g, down k)
-
-  pub same-no : (k : ℕ) → 0 < k → (u32 a x ≡ u32 b y → ⊥) → eqString (u32s a x k) (u32s b y k) ≡ false
-  unfolding u32s
-  same-no zero h g = absurd (omega arith)
-  same-no (suc k) h g = rw (ne-eqb (u32 a x) (u32 b y) g)
+  same-more zero h = absurd (omega arith)
+  same-more (suc k) h = ap (λ (n : ℕ). eqb (u32 a x) (u32 b y) && eqString (u32s a (x + 4) n) (u32s b (y + 4) n)) (sym (down k))
 
 -- texts of different lengths differ
 pub same-lengths : (a b : List ℕ) (m k x y : ℕ) → (m ≡ k → ⊥) → eqString (u32s a x m) (u32s b y k) ≡ false

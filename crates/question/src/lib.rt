@@ -73,7 +73,7 @@ pub fn all_characters(b: &[u8], n: usize, at: usize, count: usize) -> bool
     true
 }
 
-// Whether the m characters at one position and the k at another are the same.
+// Whether the m characters at one position and the k at another are the same. The loop has no exit, so that it is compiled to compare several characters at once.
 pub fn same_text(a: &[u8], x: usize, m: usize, b: &[u8], y: usize, k: usize) -> bool
     requires { ⌜ (x + 4 * m ≤ length (now a)) × (y + 4 * k ≤ length (now b)) ⌝ }
     ensures { λ r. ⌜ r ≡ eqString (u32s (now (a .entry)) x m) (u32s (now (b .entry)) y k) ⌝ }
@@ -81,20 +81,20 @@ pub fn same_text(a: &[u8], x: usize, m: usize, b: &[u8], y: usize, k: usize) -> 
     if m != k {
         return false;
     }
+    let mut same = true;
     let mut i = x;
     let mut j = y;
     let mut left = m;
     while 0 < left {
         let c = u32_at(a, i);
         let d = u32_at(b, j);
-        if c != d {
-            return false;
-        }
+        let one = c == d;
+        same = same & one;
         i += 4;
         j += 4;
         left -= 1;
     }
-    true
+    same
 }
 
 // Whether the text of a body is one of those of the first k literals, which start at position 14.

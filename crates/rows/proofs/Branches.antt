@@ -1,5 +1,5 @@
 -- The branch as a function of the work area and the count.
-use Prim.Native.Nat.{ℕ, zero, suc, _+_, _*_, _≤_, _<_}
+use Prim.Native.Nat.{ℕ, zero, suc, _+_, _-_, _*_, _≤_, _<_}
 use native.Mathlib.Numerals.{add-one}
 use native.Mathlib.Omega.{arith}
 use native.Mathlib.Decide.{decLt}
@@ -7,7 +7,7 @@ use mathlib.Core.Path.{_≡_, refl, sym, _∙_, ap, ap₂}
 use mathlib.Core.Option.{none, some}
 use mathlib.Core.List.{List, [], _∷_, _++_}
 use lib.ListN.{length, getD, take, drop, getElem?, length-append, length-take, length-drop}
-use lib.Seq.{take-append-le, take-all, take-at, drop-at, take-take, length-take-le, getD-take, getD-drop}
+use lib.Seq.{take-append-le, take-all, take-at, drop-at, drop-drop, take-take, length-take-le, getD-take, getD-drop}
 use lib.IntN.{ℤ}
 use Rattle.calculus.specs.Facts.{Fact}
 use Rattle.lists.proofs.Filled.{drop-take}
@@ -100,6 +100,13 @@ branch-put w row k h n =
     let its : rowAt new k ≡ row =
     ap (λ (l : List ℤ). take rowLength l) (drop-at (take (rowLength * k) w) rest (rowLength * k) front) ∙ take-at row (drop (rowLength * k + rowLength) w) rowLength n in
     branch-more new k ∙ ap₂ (λ (b : List Fact) (r : List ℤ). b ++ (factOf r ∷ [])) same its
+
+-- a row's own stretch is lent and comes back as a row that states f: the facts before it and f
+pub branch-filled : (w row : List ℤ) (k : ℕ) (f : Fact) → rowLength * k + rowLength ≤ length w → length row ≡ rowLength → factOf row ≡ f
+    → branchOf (take (rowLength * k) w ++ (row ++ drop (rowLength * k + rowLength - rowLength * k) (drop (rowLength * k) w))) (k + 1) ≡ branchOf w k ++ (f ∷ [])
+branch-filled w row k f h n e =
+    let m : rowLength * k + rowLength - rowLength * k ≡ rowLength = omega arith in
+    rw (m, drop-drop) (branch-put w row k h n) ∙ ap (λ (g : Fact). branchOf w k ++ (g ∷ [])) e
 
 -- the facts before it stay
 pub branch-kept : (w v : List ℤ) (k j : ℕ) (f : Fact) → branchOf v (k + 1) ≡ branchOf w k ++ (f ∷ []) → j ≤ k → branchOf v j ≡ branchOf w j

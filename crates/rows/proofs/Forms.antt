@@ -34,7 +34,7 @@ difference-fact r i j h =
 
 -- ---- entries of zeros and columns
 
-entry-zeros : (n i : ℕ) → entry (zeros n) i ≡ pos 0
+pub entry-zeros : (n i : ℕ) → entry (zeros n) i ≡ pos 0
 entry-zeros zero i = refl
 entry-zeros (suc n) zero = refl
 entry-zeros (suc n) (suc i) = entry-zeros n i

@@ -7,7 +7,7 @@ ghost use Prim.Native.Nat.{ℕ, _+_, _*_, _≤_, _<_};
 ghost use lib.ListN.{length, getD, drop};
 ghost use lib.IntN.{pos, negsuc, natAbs};
 ghost use Rattle.calculus.specs.Limits.{variableLimit, columnLimit, numberLimit, valueLimit, factLimit, workNumbers};
-ghost use Rattle.calculus.specs.Rows.{column, scale, minus, less, below, allZero, eqRow};
+ghost use Rattle.calculus.specs.Rows.{zeros, column, scale, minus, less, below, allZero, eqRow};
 ghost use Rattle.calculus.specs.Facts.{holds, arithmetic, ge, eq};
 ghost use Rattle.calculus.specs.Model.{valueIn};
 ghost use Rattle.calculus.specs.Rules.{falsum, joined, statesZero, anyFact};
@@ -33,27 +33,27 @@ pub fn row_at(work: &[i64], k: usize) -> &[i64]
     &work[from..to]
 }
 
-// The row's own stretch is filled.
-fn fill(row: &mut [i64], from: [i64; ROW_LENGTH])
-    requires { ⌜ length (now row) ≡ rowLength ⌝ }
-    ensures { λ _. ⌜ now (row .exit) ≡ from ⌝ }
+// A row becomes another one.
+fn fill_row(out: &mut [i64], row: &[i64])
+    requires { ⌜ (length (now out) ≡ rowLength) × (length (now row) ≡ rowLength) ⌝ }
+    ensures { λ _. ⌜ now (out .exit) ≡ now (row .entry) ⌝ }
 {
     let mut j = 0;
     while j < ROW_LENGTH {
-        let x = from[j];
-        row[j] = x;
+        let x = row[j];
+        out[j] = x;
         j += 1;
     }
 }
 
 // Row k becomes the given one, behind the facts before it.
-pub fn put_row(work: &mut [i64], k: usize, row: [i64; ROW_LENGTH])
-    requires { ⌜ (k < factLimit) × (workNumbers ≤ length (now work)) ⌝ }
-    ensures { λ _. ⌜ branchOf (now (work .exit)) (k + 1) ≡ branchOf (now (work .entry)) k ++ (factOf row ∷ []) ⌝ }
+pub fn put_row(work: &mut [i64], k: usize, row: &[i64])
+    requires { ⌜ (k < factLimit) × (workNumbers ≤ length (now work)) × (length (now row) ≡ rowLength) ⌝ }
+    ensures { λ _. ⌜ branchOf (now (work .exit)) (k + 1) ≡ branchOf (now (work .entry)) k ++ (factOf (now (row .entry)) ∷ []) ⌝ }
 {
     let from = ROW_LENGTH * k;
     let to = from + ROW_LENGTH;
-    fill(&mut work[from..to], row);
+    fill_row(&mut work[from..to], row);
 }
 
 // What a row says by its tag: 0 is ≥, 1 is =, 2 is ≠, 3 is variable ≈ variable, 4 is ≉, 5 is variable ≈ literal.
@@ -80,113 +80,153 @@ pub fn kind_of(row: &[i64]) -> usize
     2
 }
 
-// A row's numbers by value.
-pub fn copy_of(row: &[i64]) -> [i64; ROW_LENGTH]
+// ---- new rows, each in a stretch of 50 numbers with any contents
+
+// A row becomes all zero.
+pub fn clear_row(row: &mut [i64])
     requires { ⌜ length (now row) ≡ rowLength ⌝ }
-    ensures { λ r. ⌜ r ≡ now (row .entry) ⌝ }
+    ensures { λ _. ⌜ now (row .exit) ≡ zeros rowLength ⌝ }
 {
-    let mut out = [0i64; ROW_LENGTH];
     let mut j = 0;
     while j < ROW_LENGTH {
-        let x = row[j];
-        out[j] = x;
+        row[j] = 0;
         j += 1;
     }
-    out
 }
 
-// ---- new rows
-
 // A string fact: relation 0 is variable ≈ variable, 1 is ≉, 2 is variable ≈ literal.
-pub fn string_row(relation: usize, a: usize, b: usize) -> [i64; ROW_LENGTH]
+pub fn fill_string(row: &mut [i64], relation: usize, a: usize, b: usize)
+    requires { ⌜ length (now row) ≡ rowLength ⌝ }
     requires { ⌜ (relation ≤ 2) × (a < variableLimit) × (b < variableLimit) ⌝ }
-    ensures { λ r. ⌜ factOf r ≡ stringFact relation a b ⌝ }
+    ensures { λ _. ⌜ factOf (now (row .exit)) ≡ stringFact relation a b ⌝ }
 {
-    let mut out = [0i64; ROW_LENGTH];
-    out[0] = (relation + 3) as i64;
-    out[1] = a as i64;
-    out[2] = b as i64;
-    out
+    clear_row(row);
+    row[0] = (relation + 3) as i64;
+    row[1] = a as i64;
+    row[2] = b as i64;
 }
 
 // A constant and one coefficient related to 0: relation 0 is ≥, 1 is =, 2 is ≠.
-pub fn single_row(
+pub fn fill_single(row: &mut [i64], relation: usize, constant: i64, column: usize, coefficient: i64)
+    requires { ⌜ length (now row) ≡ rowLength ⌝ }
+    requires { ⌜ (relation ≤ 2) × (column < columnLimit) ⌝ }
+    ensures { λ _. ⌜ factOf (now (row .exit)) ≡ arithmetic (relationOf relation) (single constant column coefficient) ⌝ }
+{
+    clear_row(row);
+    row[0] = relation as i64;
+    row[1] = constant;
+    row[column + 2] = coefficient;
+}
+
+// The difference of two columns related to 0.
+pub fn fill_difference(row: &mut [i64], relation: usize, i: usize, j: usize)
+    requires { ⌜ length (now row) ≡ rowLength ⌝ }
+    requires { ⌜ (relation ≤ 2) × (i < columnLimit) × (j < columnLimit) ⌝ }
+    ensures { λ _. ⌜ factOf (now (row .exit)) ≡ arithmetic (relationOf relation) (difference i j) ⌝ }
+{
+    clear_row(row);
+    row[0] = relation as i64;
+    row[i + 2] = 1;
+    row[j + 2] = -1;
+}
+
+// e − 1 ≥ 0, of the row of e.
+pub fn fill_less(out: &mut [i64], row: &[i64])
+    requires { ⌜ (length (now out) ≡ rowLength) × (length (now row) ≡ rowLength) ⌝ }
+    requires { ⌜ rowWithin (drop 1 (now row)) ≡ true ⌝ }
+    ensures { λ _. ⌜ factOf (now (out .exit)) ≡ arithmetic ge (less (drop 1 (now (row .entry)))) ⌝ }
+{
+    fill_row(out, row);
+    let c = row[1];
+    out[0] = 0;
+    out[1] = c - 1;
+}
+
+// −e behind the tag 0, in place of e.
+fn negate(row: &mut [i64])
+    requires { ⌜ length (now row) ≡ rowLength ⌝ }
+    requires { ⌜ rowWithin (drop 1 (now row)) ≡ true ⌝ }
+    ensures { λ _. ⌜ now (row .exit) ≡ pos 0 ∷ scale (negsuc 0) (drop 1 (now (row .entry))) ⌝ }
+{
+    row[0] = 0;
+    let mut j = 1;
+    while j < ROW_LENGTH {
+        let x = row[j];
+        row[j] = 0 - x;
+        j += 1;
+    }
+}
+
+// −e − 1 ≥ 0, in place of the row of e.
+pub fn turn_below(row: &mut [i64])
+    requires { ⌜ length (now row) ≡ rowLength ⌝ }
+    requires { ⌜ rowWithin (drop 1 (now row)) ≡ true ⌝ }
+    ensures { λ _. ⌜ factOf (now (row .exit)) ≡ arithmetic ge (below (drop 1 (now (row .entry)))) ⌝ }
+{
+    let c = row[1];
+    negate(row);
+    row[1] = -1 - c;
+}
+
+// −e − 1 ≥ 0, of the row of e.
+pub fn fill_below(out: &mut [i64], row: &[i64])
+    requires { ⌜ (length (now out) ≡ rowLength) × (length (now row) ≡ rowLength) ⌝ }
+    requires { ⌜ rowWithin (drop 1 (now row)) ≡ true ⌝ }
+    ensures { λ _. ⌜ factOf (now (out .exit)) ≡ arithmetic ge (below (drop 1 (now (row .entry)))) ⌝ }
+{
+    fill_row(out, row);
+    turn_below(out);
+}
+
+// e = 0, of the row of e.
+pub fn fill_equation(out: &mut [i64], row: &[i64])
+    requires { ⌜ (length (now out) ≡ rowLength) × (length (now row) ≡ rowLength) ⌝ }
+    ensures { λ _. ⌜ factOf (now (out .exit)) ≡ arithmetic eq (drop 1 (now (row .entry))) ⌝ }
+{
+    fill_row(out, row);
+    out[0] = 1;
+}
+
+// ---- new facts, each in its own stretch of the work area
+
+// A string fact behind the first k facts.
+pub fn put_string(work: &mut [i64], k: usize, relation: usize, a: usize, b: usize)
+    requires { ⌜ (k < factLimit) × (workNumbers ≤ length (now work)) ⌝ }
+    requires { ⌜ (relation ≤ 2) × (a < variableLimit) × (b < variableLimit) ⌝ }
+    ensures { λ _. ⌜ branchOf (now (work .exit)) (k + 1) ≡ branchOf (now (work .entry)) k ++ (stringFact relation a b ∷ []) ⌝ }
+{
+    let from = ROW_LENGTH * k;
+    let to = from + ROW_LENGTH;
+    fill_string(&mut work[from..to], relation, a, b);
+}
+
+// A constant and one coefficient related to 0, behind the first k facts.
+pub fn put_single(
+    work: &mut [i64],
+    k: usize,
     relation: usize,
     constant: i64,
     column: usize,
     coefficient: i64,
-) -> [i64; ROW_LENGTH]
+)
+    requires { ⌜ (k < factLimit) × (workNumbers ≤ length (now work)) ⌝ }
     requires { ⌜ (relation ≤ 2) × (column < columnLimit) ⌝ }
-    ensures { λ r. ⌜ factOf r ≡ arithmetic (relationOf relation) (single constant column coefficient) ⌝ }
+    ensures { λ _. ⌜ branchOf (now (work .exit)) (k + 1) ≡ branchOf (now (work .entry)) k ++ (arithmetic (relationOf relation) (single constant column coefficient) ∷ []) ⌝ }
 {
-    let mut out = [0i64; ROW_LENGTH];
-    out[0] = relation as i64;
-    out[1] = constant;
-    out[column + 2] = coefficient;
-    out
+    let from = ROW_LENGTH * k;
+    let to = from + ROW_LENGTH;
+    fill_single(&mut work[from..to], relation, constant, column, coefficient);
 }
 
-// The difference of two columns related to 0.
-pub fn difference_row(relation: usize, i: usize, j: usize) -> [i64; ROW_LENGTH]
+// The difference of two columns related to 0, behind the first k facts.
+pub fn put_difference(work: &mut [i64], k: usize, relation: usize, i: usize, j: usize)
+    requires { ⌜ (k < factLimit) × (workNumbers ≤ length (now work)) ⌝ }
     requires { ⌜ (relation ≤ 2) × (i < columnLimit) × (j < columnLimit) ⌝ }
-    ensures { λ r. ⌜ factOf r ≡ arithmetic (relationOf relation) (difference i j) ⌝ }
+    ensures { λ _. ⌜ branchOf (now (work .exit)) (k + 1) ≡ branchOf (now (work .entry)) k ++ (arithmetic (relationOf relation) (difference i j) ∷ []) ⌝ }
 {
-    let mut out = [0i64; ROW_LENGTH];
-    out[0] = relation as i64;
-    out[i + 2] = 1;
-    out[j + 2] = -1;
-    out
-}
-
-// e − 1 ≥ 0, of the row of e.
-pub fn less_row(row: &[i64]) -> [i64; ROW_LENGTH]
-    requires { ⌜ length (now row) ≡ rowLength ⌝ }
-    requires { ⌜ rowWithin (drop 1 (now row)) ≡ true ⌝ }
-    ensures { λ r. ⌜ factOf r ≡ arithmetic ge (less (drop 1 (now (row .entry)))) ⌝ }
-{
-    let mut out = copy_of(row);
-    let c = row[1];
-    out[0] = 0;
-    out[1] = c - 1;
-    out
-}
-
-// −e behind the tag 0, of the row of e.
-fn negative(row: &[i64]) -> [i64; ROW_LENGTH]
-    requires { ⌜ length (now row) ≡ rowLength ⌝ }
-    requires { ⌜ rowWithin (drop 1 (now row)) ≡ true ⌝ }
-    ensures { λ r. ⌜ r ≡ pos 0 ∷ scale (negsuc 0) (drop 1 (now (row .entry))) ⌝ }
-{
-    let mut out = [0i64; ROW_LENGTH];
-    let mut j = 1;
-    while j < ROW_LENGTH {
-        let x = row[j];
-        out[j] = 0 - x;
-        j += 1;
-    }
-    out
-}
-
-// −e − 1 ≥ 0, of the row of e.
-pub fn below_row(row: &[i64]) -> [i64; ROW_LENGTH]
-    requires { ⌜ length (now row) ≡ rowLength ⌝ }
-    requires { ⌜ rowWithin (drop 1 (now row)) ≡ true ⌝ }
-    ensures { λ r. ⌜ factOf r ≡ arithmetic ge (below (drop 1 (now (row .entry)))) ⌝ }
-{
-    let mut out = negative(row);
-    let c = row[1];
-    out[1] = -1 - c;
-    out
-}
-
-// e = 0, of the row of e.
-pub fn equation_row(row: &[i64]) -> [i64; ROW_LENGTH]
-    requires { ⌜ length (now row) ≡ rowLength ⌝ }
-    ensures { λ r. ⌜ factOf r ≡ arithmetic eq (drop 1 (now (row .entry))) ⌝ }
-{
-    let mut out = copy_of(row);
-    out[0] = 1;
-    out
+    let from = ROW_LENGTH * k;
+    let to = from + ROW_LENGTH;
+    fill_difference(&mut work[from..to], relation, i, j);
 }
 
 // ---- the limit
@@ -334,7 +374,8 @@ pub fn states_difference(work: &[i64], count: usize, i: usize, j: usize) -> bool
     requires { ⌜ (i < columnLimit) × (j < columnLimit) × (i ≢ j) ⌝ }
     ensures { λ r. ⌜ r ≡ anyFact (statesZero (minus (column i) (column j))) (branchOf (now (work .entry)) count) ⌝ }
 {
-    let wanted = difference_row(1, i, j);
+    let mut wanted = [0i64; ROW_LENGTH];
+    fill_difference(&mut wanted, 1, i, j);
     let mut k = 0;
     while k < count {
         if same_row(&wanted, row_at(work, k)) {

@@ -8,7 +8,7 @@ use mathlib.Core.Option.{some}
 use mathlib.Core.List.{List, [], _∷_, _++_, append-assoc}
 use borrow.Author.Tests.{le-leb, lt-leb, eq-eqb, ne-eqb}
 use lib.ListN.{length, getD, set, drop, getElem?}
-use lib.Dec.{eqb}
+use lib.Dec.{eqb, leb}
 use lib.IntN.{ℤ, pos, negsuc, negℤ, natAbs}
 use Rattle.calculus.specs.Limits.{numberLimit}
 use Rattle.calculus.specs.Rows.{number}
@@ -122,17 +122,15 @@ c-valid-size s x (suc (suc (suc k))) h g = absurd (omega arith)
 
 -- ---- facts put one behind the other
 
-pub put-two : (v w x : List ℤ) (k : ℕ) (f g f' g' : Fact) → branchOf w (k + 1) ≡ branchOf v k ++ (f ∷ []) → branchOf x (k + 1 + 1) ≡ branchOf w (k + 1) ++ (g ∷ []) → f ≡ f' → g ≡ g'
-    → branchOf x (k + 2) ≡ branchOf v k ++ (f' ∷ g' ∷ [])
-put-two v w x k f g f' g' p q a b =
+pub put-two : (v w x : List ℤ) (k : ℕ) (f g : Fact) → branchOf w (k + 1) ≡ branchOf v k ++ (f ∷ []) → branchOf x (k + 1 + 1) ≡ branchOf w (k + 1) ++ (g ∷ []) → branchOf x (k + 2) ≡ branchOf v k ++ (f ∷ g ∷ [])
+put-two v w x k f g p q =
     let e : k + 2 ≡ k + 1 + 1 = omega arith in
-    ap (branchOf x) e ∙ q ∙ ap (λ l. l ++ (g ∷ [])) p ∙ append-assoc (branchOf v k) (f ∷ []) (g ∷ []) ∙ ap₂ (λ y z. branchOf v k ++ (y ∷ z ∷ [])) a b
+    ap (branchOf x) e ∙ q ∙ ap (λ l. l ++ (g ∷ [])) p ∙ append-assoc (branchOf v k) (f ∷ []) (g ∷ [])
 
-pub put-three : (v x y : List ℤ) (k : ℕ) (f g h h' : Fact) → branchOf x (k + 2) ≡ branchOf v k ++ (f ∷ g ∷ []) → branchOf y (k + 2 + 1) ≡ branchOf x (k + 2) ++ (h ∷ []) → h ≡ h'
-    → branchOf y (k + 3) ≡ branchOf v k ++ (f ∷ g ∷ h' ∷ [])
-put-three v x y k f g h h' p q a =
+pub put-three : (v x y : List ℤ) (k : ℕ) (f g h : Fact) → branchOf x (k + 2) ≡ branchOf v k ++ (f ∷ g ∷ []) → branchOf y (k + 2 + 1) ≡ branchOf x (k + 2) ++ (h ∷ []) → branchOf y (k + 3) ≡ branchOf v k ++ (f ∷ g ∷ h ∷ [])
+put-three v x y k f g h p q =
     let e : k + 3 ≡ k + 2 + 1 = omega arith in
-    ap (branchOf y) e ∙ q ∙ ap (λ l. l ++ (h ∷ [])) p ∙ append-assoc (branchOf v k) (f ∷ g ∷ []) (h ∷ []) ∙ ap (λ z. branchOf v k ++ (f ∷ g ∷ z ∷ [])) a
+    ap (branchOf y) e ∙ q ∙ ap (λ l. l ++ (h ∷ [])) p ∙ append-assoc (branchOf v k) (f ∷ g ∷ []) (h ∷ [])
 
 -- ---- Card's last child
 
@@ -144,6 +142,13 @@ last-is s x m h g =
 
 pub last-none : (s : Progress) (x m : ℕ) → s .n ≤ 1 → lastChild (numbered s) x m ≡ []
 last-none s x m h = ap (λ (t : Bool). elim t [ true ↦ [] | false ↦ boundChild (numbered s) x (logUp m (s .n) m 0) ]) (le-leb (s .n) 1 h)
+
+pub last-short : (s : Progress) (x m : ℕ) → length (lastChild (numbered s) x m) ≤ 1
+last-short s x m = go (leb (s .n) 1)
+  where
+    go : (t : Bool) → length {A = List Fact} (elim t as (λ _. List (List Fact)) [ true ↦ [] | false ↦ boundChild (numbered s) x (logUp m (s .n) m 0) ]) ≤ 1
+    go true = omega arith
+    go false = omega arith
 
 pub last-some : (s : Progress) (x m j : ℕ) → j < length (lastChild (numbered s) x m) → 2 ≤ s .n
 last-some s x m j h = go (decLt 1 (s .n))

@@ -2,29 +2,31 @@
 use Prim.Native.Nat.{ℕ, zero, suc, _+_, _-_, _/_, _^_, _≤_, _<_}
 use native.Mathlib.Omega.{arith}
 use native.Mathlib.Decide.{ℕ-discrete, decLt}
-use mathlib.Core.Path.{_≡_, refl, sym, _∙_, ap, subst}
+use mathlib.Core.Path.{_≡_, refl, sym, _∙_, ap, ap₂, subst}
 use mathlib.Core.Bool.{Bool, true, false, _&&_}
 use mathlib.Core.Option.{Option, some}
 use mathlib.Core.List.{List, [], _∷_}
-use lib.ListN.{getD}
+use lib.ListN.{length, getD}
 use lib.Dec.{leb}
-use lib.IntN.{ℤ, pos, negsuc, negℤ, natAbs}
-use Rattle.integers.proofs.Laws.{abs-neg}
+use lib.IntN.{ℤ, pos, negsuc, negℤ, natAbs, _+ℤ_, _*ℤ_}
+use Rattle.integers.proofs.Laws.{abs-neg, minus-one-*ℤ}
+use Rattle.calculus.specs.Limits.{numberLimit}
+use Rattle.calculus.specs.Rows.{number, scale, less, below}
 use Rattle.calculus.specs.Facts.{Fact, isLiteral, arithmetic, ge}
 use Rattle.calculus.specs.Children.{lValidChildren, cValidChildren, cInjChildren, pairsWith, pairs}
 use Rattle.calculus.specs.Rules.{logUp, lastChild, children}
-use Rattle.format.specs.Fields.{u16, u16s}
+use Rattle.format.specs.Fields.{u16, u16s, within}
 use Rattle.format.specs.StepForms.{rule, stepOf}
-use Rattle.format.specs.Checking.{fits, orNone, factWithin, factsWithin, childrenWithin}
+use Rattle.format.specs.Checking.{fits, orNone, rowWithin, factWithin, factsWithin, childrenWithin}
 use Rattle.format.proofs.Faults.{and-true}
 use Rattle.rows.specs.Rows.{branchOf}
-use Rattle.rows.proofs.Forms.{less-column, minus-number, columns-difference}
+use Rattle.rows.proofs.Forms.{less-form, below-form, less-column, minus-number, columns-difference}
 use Rattle.question.specs.declared.Progress.{Progress}
 use Rattle.question.specs.Posed.{asked}
 use Rattle.splits.specs.Splits.{Ready, numbered, childOf}
 use Rattle.splits.proofs.Variables.{below-first}
 use Rattle.splits.proofs.Forms.{first-is, last-is, last-none, within-single, within-difference}
-use Rattle.splits.proofs.Operands.{card-left, l-valid-operands, c-valid-operands, c-inj-operands, card-operands, branch-child, apart-child, l-valid-child, c-valid-child, c-inj-differ, c-inj-child, card-child}
+use Rattle.splits.proofs.Operands.{card-left, branch-number, l-valid-operands, c-valid-operands, c-inj-operands, card-operands, branch-child, apart-child, l-valid-child, c-valid-child, c-inj-differ, c-inj-child, card-child}
 
 -- ---- one child of all
 
@@ -51,6 +53,31 @@ unfolding childOf childrenWithin
 two-within o c d e =
     subst (λ p. childrenWithin (orNone p) ≡ (factsWithin (getD (orNone p) (1 - 1) []) && factsWithin (getD (orNone p) (2 - 1) []))) (sym e)
     (ap (λ t. factsWithin c && t) (sym (and-one (factsWithin d))))
+
+-- ---- Branch and Apart: only the constant of e − 1 and of −e − 1 can pass the limit
+
+scale-within : (e : List ℤ) → rowWithin (scale (negsuc 0) e) ≡ rowWithin e
+unfolding rowWithin
+scale-within [] = refl
+scale-within (z ∷ e) = ap₂ (λ (n : ℕ) (t : Bool). leb n numberLimit && t) (ap natAbs (minus-one-*ℤ z) ∙ abs-neg z) (scale-within e)
+
+first-within : (v : ℤ) (cs : List ℤ) → rowWithin cs ≡ true → within numberLimit v ≡ factsWithin (arithmetic ge (v ∷ cs) ∷ [])
+unfolding factsWithin rowWithin
+first-within v cs h = and-one (within numberLimit v) ∙ ap (λ t. within numberLimit v && t) (sym h) ∙ and-one (within numberLimit v && rowWithin cs)
+
+pub less-within : (e : List ℤ) (v : ℤ) → length e ≡ 49 → rowWithin e ≡ true → v ≡ getD e 0 (pos 0) +ℤ negsuc 0 → within numberLimit v ≡ factsWithin (arithmetic ge (less e) ∷ [])
+unfolding rowWithin
+less-within [] v l h q = absurd (omega arith)
+less-within (c ∷ cs) v l h q =
+    first-within v cs (and-true (within numberLimit c) (rowWithin cs) h .1)
+    ∙ ap (λ (r : List ℤ). factsWithin (arithmetic ge r ∷ [])) (ap (λ (z : ℤ). z ∷ cs) q ∙ sym (less-form c cs (omega arith)))
+
+pub below-within : (e : List ℤ) (v : ℤ) → length e ≡ 49 → rowWithin e ≡ true → v ≡ (negsuc 0 *ℤ getD e 0 (pos 0)) +ℤ negsuc 0 → within numberLimit v ≡ factsWithin (arithmetic ge (below e) ∷ [])
+unfolding rowWithin
+below-within [] v l h q = absurd (omega arith)
+below-within (c ∷ cs) v l h q =
+    first-within v (scale (negsuc 0) cs) (scale-within cs ∙ and-true (within numberLimit c) (rowWithin cs) h .1)
+    ∙ ap (λ (r : List ℤ). factsWithin (arithmetic ge r ∷ [])) (ap (λ (z : ℤ). z ∷ scale (negsuc 0) cs) q ∙ sym (below-form c cs (omega arith)))
 
 -- ---- the children of each rule
 
@@ -150,9 +177,8 @@ module _ (b : List ℕ) (s : Progress) (at m : ℕ) (w : List ℤ) (count : ℕ)
           of _ (card-child b s at m w count h f (sym e)) (pairs-within (u16s b (at + 4) ((m - 4) / 2)) (lastChild (numbered s) (u16 b (at + 4)) ((m - 4) / 2)) ∙ last-within s (u16 b (at + 4)) ((m - 4) / 2) (omega arith) most)
 
   pub two-children : u16 b at ≤ 3 → (c : List Fact) × (d : List Fact) × (children (asked b s) (branchOf w count) (stepOf b (rule b at) at m) ≡ some (c ∷ d ∷ []))
-  two-children g = go (ℕ-discrete (u16 b at) 2) (ℕ-discrete (u16 b at) 3)
+  two-children g = go (ℕ-discrete (u16 b at) 3)
     where
-      go : Dec (u16 b at ≡ 2) → Dec (u16 b at ≡ 3) → (c : List Fact) × (d : List Fact) × (children (asked b s) (branchOf w count) (stepOf b (rule b at) at m) ≡ some (c ∷ d ∷ []))
-      go (yes e) d = (_, _, branch-child b s at m w count h f (sym e))
-      go (no n2) (yes e) = (_, _, apart-child b s at m w count h f (sym e))
-      go (no n2) (no n3) = absurd (let e = card-left (u16 b at) (h .splits) n2 n3 (λ q. omega arith) (λ q. omega arith) (λ q. omega arith) in omega (arith, e))
+      go : Dec (u16 b at ≡ 3) → (c : List Fact) × (d : List Fact) × (children (asked b s) (branchOf w count) (stepOf b (rule b at) at m) ≡ some (c ∷ d ∷ []))
+      go (yes e) = (_, _, apart-child b s at m w count h f (sym e))
+      go (no n) = (_, _, branch-child b s at m w count h f (branch-number b s at m w count h (u16 b at) refl g n))

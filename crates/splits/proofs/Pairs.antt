@@ -1,14 +1,14 @@
 -- Card's children by number.
 use Prim.Native.Nat.{ℕ, zero, suc, _+_, _*_, _-_, _≤_, _<_}
 use native.Mathlib.Omega.{arith}
-use mathlib.Core.Path.{_≡_, refl, sym, _∙_, ap, subst}
+use mathlib.Core.Path.{_≡_, refl, sym, _∙_, ap}
 use mathlib.Core.List.{List, [], _∷_}
 use lib.ListN.{length, getD}
 use Rattle.calculus.specs.Facts.{Fact, same}
 use Rattle.calculus.specs.Children.{pairsWith, pairs}
 use Rattle.format.specs.Fields.{u16, u16s}
 use Rattle.format.proofs.Fields.{length-u16s}
-use Rattle.splits.proofs.Variables.{u16s-more, u16s-one-more, u16s-at}
+use Rattle.splits.proofs.Variables.{u16s-one-more, u16s-at}
 
 with-here : (x : ℕ) (ys : List ℕ) (more : List (List Fact)) (j : ℕ) → j < length ys → getD (pairsWith x ys more) j [] ≡ same x (getD ys j 0) ∷ []
 with-here x [] more j h = absurd (omega arith)
@@ -55,10 +55,3 @@ module _ (b : List ℕ) (i others : ℕ) (more : List (List Fact)) where
   pub pairs-none : others ≤ 0 → pairs (u16s b i (others + 1)) more ≡ more
   unfolding u16s
   pairs-none h = let e : others ≡ 0 = omega arith in ap (λ n. pairs (u16s b i (n + 1)) more) e
-
--- the only one
-pub only : {A : Type 0} (d c : A) (more : List A) (j : ℕ) → c ∷ [] ≡ more → j < length more → c ≡ getD more j d
-only d c more j e h = subst (λ l. j < length l → c ≡ getD l j d) e go h
-  where
-    go : j < length (c ∷ []) → c ≡ getD (c ∷ []) j d
-    go g = let q : j ≡ 0 = omega arith in ap (λ i. getD (c ∷ []) i d) (sym q)

@@ -15,7 +15,7 @@ ghost use Rattle.format.specs.Fields.{u16, u16s};
 ghost use Rattle.format.specs.Question.{formRange, formOf};
 ghost use Rattle.format.specs.StepForms.{allBelow, stepAt};
 ghost use Rattle.format.specs.Checking.{fits as fitting, orNone, factWithin, factsWithin, childrenWithin};
-ghost use Rattle.rows.specs.Rows.{factOf, rowAt, branchOf};
+ghost use Rattle.rows.specs.Rows.{rowLength, factOf, rowAt, branchOf};
 ghost use Rattle.rows.specs.Work.{kindOf, single};
 ghost use Rattle.question.specs.Posed.{asked};
 ghost use Rattle.splits.specs.Splits.{Ready, Numbered, numbered, childOf};
@@ -128,75 +128,104 @@ pub fn fits(ticket: &[u8], s: Progress, at: usize, size: usize, work: &[i64], co
     }
 }
 
-// ---- children with one fact
+// ---- children with one fact, behind the first count facts
 
-// Branch: "Children e ≥ 0; −e−1 ≥ 0", of the form at a position.
-fn branch_row(b: &[u8], s: Progress, at: usize, count: usize, k: usize) -> [i64; ROW_LENGTH]
-    requires { ⌜ (at + 4 + 6 * count ≤ length (now b)) × (s .p ≤ variableLimit) × (s .q ≤ variableLimit) × (1 ≤ k) × (k ≤ 2) ⌝ }
-    requires { ⌜ formRange (now b) (s .q + (s .p + s .p)) at count ≡ true ⌝ }
-    ensures { λ r. ⌜ factOf r ∷ [] ≡ childOf (some (splitChildren (formOf (now (b .entry)) at count))) k ⌝ }
+// Branch: "Children e ≥ 0; −e−1 ≥ 0", of the form at a position, in a row's stretch with any contents.
+fn fill_branch(row: &mut [i64], b: &[u8], at: usize, pairs: usize, k: usize)
+    requires { ⌜ (length (now row) ≡ rowLength) × (at + 4 + 6 * pairs ≤ length (now b)) × (1 ≤ k) × (k ≤ 2) ⌝ }
+    requires { ⌜ formRange (now b) columnLimit at pairs ≡ true ⌝ }
+    ensures { λ _. ⌜ factOf (now (row .exit)) ∷ [] ≡ childOf (some (splitChildren (formOf (now (b .entry)) at pairs))) k ⌝ }
 {
-    let row = constraints::form_row(b, 0, at, count);
+    constraints::fill_form(row, b, 0, at, pairs);
     if k == 1 {
-        return row;
+        return;
     }
-    rows::below_row(&row)
+    rows::turn_below(row);
 }
 
-// Apart: "Children e−1 ≥ 0; −e−1 ≥ 0".
-fn apart_row(work: &[i64], fact: usize, k: usize) -> [i64; ROW_LENGTH]
-    requires { ⌜ (fact < factLimit) × (workNumbers ≤ length (now work)) × (1 ≤ k) × (k ≤ 2) ⌝ }
+fn put_branch(work: &mut [i64], count: usize, b: &[u8], at: usize, pairs: usize, k: usize)
+    requires { ⌜ (count < factLimit) × (workNumbers ≤ length (now work)) × (at + 4 + 6 * pairs ≤ length (now b)) × (1 ≤ k) × (k ≤ 2) ⌝ }
+    requires { ⌜ formRange (now b) columnLimit at pairs ≡ true ⌝ }
+    ensures { λ _. ⌜ branchOf (now (work .exit)) (count + 1) ≡ branchOf (now (work .entry)) count ++ childOf (some (splitChildren (formOf (now (b .entry)) at pairs))) k ⌝ }
+{
+    let from = ROW_LENGTH * count;
+    let to = from + ROW_LENGTH;
+    fill_branch(&mut work[from..to], b, at, pairs, k);
+}
+
+// Apart: "Children e−1 ≥ 0; −e−1 ≥ 0", in a row.
+fn fill_apart(out: &mut [i64], work: &[i64], fact: usize, k: usize)
+    requires { ⌜ (length (now out) ≡ rowLength) × (fact < factLimit) × (workNumbers ≤ length (now work)) × (1 ≤ k) × (k ≤ 2) ⌝ }
     requires { ⌜ (kindOf (factOf (rowAt (now work) fact)) ≡ 2) × (factWithin (factOf (rowAt (now work) fact)) ≡ true) ⌝ }
-    ensures { λ r. ⌜ factOf r ∷ [] ≡ childOf (some (apartChildren (drop 1 (rowAt (now (work .entry)) fact)))) k ⌝ }
+    ensures { λ _. ⌜ factOf (now (out .exit)) ∷ [] ≡ childOf (some (apartChildren (drop 1 (rowAt (now (work .entry)) fact)))) k ⌝ }
 {
     let row = rows::row_at(work, fact);
     if k == 1 {
-        return rows::less_row(row);
+        rows::fill_less(out, row);
+        return;
     }
-    rows::below_row(row)
+    rows::fill_below(out, row);
+}
+
+// The fact stands in the work area itself, so its child is built aside.
+fn put_apart(work: &mut [i64], count: usize, fact: usize, k: usize)
+    requires { ⌜ (count < factLimit) × (fact < factLimit) × (workNumbers ≤ length (now work)) × (1 ≤ k) × (k ≤ 2) ⌝ }
+    requires { ⌜ (kindOf (factOf (rowAt (now work) fact)) ≡ 2) × (factWithin (factOf (rowAt (now work) fact)) ≡ true) ⌝ }
+    ensures { λ _. ⌜ branchOf (now (work .exit)) (count + 1) ≡ branchOf (now (work .entry)) count ++ childOf (some (apartChildren (drop 1 (rowAt (now (work .entry)) fact)))) k ⌝ }
+{
+    let mut row = [0i64; ROW_LENGTH];
+    fill_apart(&mut row, work, fact, k);
+    rows::put_row(work, count, &row);
 }
 
 // L-Valid: "Children x ≈ literal 0; len(x) − 1 ≥ 0".
-fn l_valid_row(s: Progress, x: usize, k: usize) -> [i64; ROW_LENGTH]
+fn put_l_valid(work: &mut [i64], count: usize, s: Progress, x: usize, k: usize)
+    requires { ⌜ (count < factLimit) × (workNumbers ≤ length (now work)) ⌝ }
     requires { ⌜ (x < variableLimit) × (s .q ≤ variableLimit) × (1 ≤ k) × (k ≤ 2) ⌝ }
-    ensures { λ r. ⌜ factOf r ∷ [] ≡ childOf (some (lValidChildren (numbered s) x)) k ⌝ }
+    ensures { λ _. ⌜ branchOf (now (work .exit)) (count + 1) ≡ branchOf (now (work .entry)) count ++ childOf (some (lValidChildren (numbered s) x)) k ⌝ }
 {
     if k == 1 {
-        return rows::string_row(2, x, 0);
+        rows::put_string(work, count, 2, x, 0);
+        return;
     }
-    rows::single_row(0, -1, s.q + x, 1)
+    rows::put_single(work, count, 0, -1, s.q + x, 1);
 }
 
 // C-Inj: "Children code(x) = −1; code(x) − code(y) ≠ 0; x ≈ y".
-fn c_inj_row(s: Progress, x: usize, y: usize, k: usize) -> [i64; ROW_LENGTH]
+fn put_c_inj(work: &mut [i64], count: usize, s: Progress, x: usize, y: usize, k: usize)
+    requires { ⌜ (count < factLimit) × (workNumbers ≤ length (now work)) ⌝ }
     requires { ⌜ (x < variableLimit) × (y < variableLimit) × (x ≢ y) × (s .p ≤ variableLimit) × (s .q ≤ variableLimit) × (1 ≤ k) × (k ≤ 3) ⌝ }
-    ensures { λ r. ⌜ factOf r ∷ [] ≡ childOf (some (cInjChildren (numbered s) x y)) k ⌝ }
+    ensures { λ _. ⌜ branchOf (now (work .exit)) (count + 1) ≡ branchOf (now (work .entry)) count ++ childOf (some (cInjChildren (numbered s) x y)) k ⌝ }
 {
     let first = s.q + (s.p + x);
     if k == 1 {
-        return rows::single_row(1, 1, first, 1);
+        rows::put_single(work, count, 1, 1, first, 1);
+        return;
     }
     if k == 2 {
-        return rows::difference_row(2, first, s.q + (s.p + y));
+        rows::put_difference(work, count, 2, first, s.q + (s.p + y));
+        return;
     }
-    rows::string_row(0, x, y)
+    rows::put_string(work, count, 0, x, y);
 }
 
 // Card: "last, len(x_1) ≥ L", of m variables.
-fn bound_row(s: Progress, x: usize, m: usize) -> [i64; ROW_LENGTH]
+fn put_bound(work: &mut [i64], count: usize, s: Progress, x: usize, m: usize)
+    requires { ⌜ (count < factLimit) × (workNumbers ≤ length (now work)) ⌝ }
     requires { ⌜ (x < variableLimit) × (m ≤ variableLimit) × (2 ≤ s .n) × (s .n ≤ alphabetLimit) × (s .q ≤ variableLimit) ⌝ }
-    ensures { λ r. ⌜ (factOf r ∷ []) ∷ [] ≡ lastChild (numbered s) x m ⌝ }
+    ensures { λ _. ⌜ branchOf (now (work .exit)) (count + 1) ≡ branchOf (now (work .entry)) count ++ childOf (some (lastChild (numbered s) x m)) 1 ⌝ }
 {
     let bound = classes::log_up(s.n, m) as i64;
-    rows::single_row(0, 0 - bound, s.q + x, 1)
+    rows::put_single(work, count, 0, 0 - bound, s.q + x, 1);
 }
 
 // Card: "Children, for each pair i < j in lexicographic order, x_i ≈ x_j; last, len(x_1) ≥ L", of the m variables from a position.
-fn card_row(b: &[u8], s: Progress, at: usize, m: usize, k: usize) -> [i64; ROW_LENGTH]
+fn put_card(work: &mut [i64], count: usize, b: &[u8], s: Progress, at: usize, m: usize, k: usize)
+    requires { ⌜ (count < factLimit) × (workNumbers ≤ length (now work)) ⌝ }
     requires { ⌜ (2 ≤ m) × (m ≤ variableLimit) × (at + 2 * m ≤ length (now b)) × (allBelow (s .p) (u16s (now b) at m) ≡ true) ⌝ }
     requires { ⌜ (s .p ≤ variableLimit) × (s .q ≤ variableLimit) × (1 ≤ s .n) × (s .n ≤ alphabetLimit) ⌝ }
     requires { ⌜ (1 ≤ k) × (k ≤ length (pairs (u16s (now b) at m) (lastChild (numbered s) (u16 (now b) at) m))) ⌝ }
-    ensures { λ r. ⌜ factOf r ∷ [] ≡ childOf (some (pairs (u16s (now (b .entry)) at m) (lastChild (numbered s) (u16 (now (b .entry)) at) m))) k ⌝ }
+    ensures { λ _. ⌜ branchOf (now (work .exit)) (count + 1) ≡ branchOf (now (work .entry)) count ++ childOf (some (pairs (u16s (now (b .entry)) at m) (lastChild (numbered s) (u16 (now (b .entry)) at) m))) k ⌝ }
 {
     let mut i = at;
     let mut others = m - 1;
@@ -205,49 +234,57 @@ fn card_row(b: &[u8], s: Progress, at: usize, m: usize, k: usize) -> [i64; ROW_L
         if left < others {
             let x = u16_at(b, i);
             let y = u16_at(b, i + 2 + 2 * left);
-            return rows::string_row(0, x, y);
+            rows::put_string(work, count, 0, x, y);
+            return;
         }
         left -= others;
         i += 2;
         others -= 1;
     }
-    bound_row(s, u16_at(b, at), m)
+    put_bound(work, count, s, u16_at(b, at), m);
 }
 
-// ---- children by number
-
 // The only fact of child k, for every rule but C-Valid.
-fn child_row(
+fn put_fact(
     ticket: &[u8],
     s: Progress,
     at: usize,
     size: usize,
-    work: &[i64],
+    work: &mut [i64],
     count: usize,
     k: usize,
-) -> [i64; ROW_LENGTH]
+)
     requires { ⌜ Ready (now ticket) s at size (now work) count ⌝ }
-    requires { ⌜ u16 (now ticket) at ≢ 10 ⌝ }
+    requires { ⌜ (u16 (now ticket) at ≢ 10) × (count < factLimit) ⌝ }
     requires { ⌜ Numbered (children (asked (now ticket) s) (branchOf (now work) count) (stepAt (now ticket) at size)) k ⌝ }
-    ensures { λ r. ⌜ factOf r ∷ [] ≡ childOf (children (asked (now (ticket .entry)) s) (branchOf (now (work .entry)) count) (stepAt (now (ticket .entry)) at size)) k ⌝ }
+    ensures { λ _. ⌜ branchOf (now (work .exit)) (count + 1) ≡ branchOf (now (work .entry)) count ++ childOf (children (asked (now (ticket .entry)) s) (branchOf (now (work .entry)) count) (stepAt (now (ticket .entry)) at size)) k ⌝ }
 {
     let number = u16_at(ticket, at);
     match number {
-        2 => branch_row(ticket, s, at + 4, (size - 8) / 6, k),
-        3 => apart_row(work, u16_at(ticket, at + 4), k),
-        8 => l_valid_row(s, u16_at(ticket, at + 4), k),
-        11 => c_inj_row(s, u16_at(ticket, at + 4), u16_at(ticket, at + 6), k),
-        _ => card_row(ticket, s, at + 4, (size - 4) / 2, k),
+        2 => put_branch(work, count, ticket, at + 4, (size - 8) / 6, k),
+        3 => put_apart(work, count, u16_at(ticket, at + 4), k),
+        8 => put_l_valid(work, count, s, u16_at(ticket, at + 4), k),
+        11 => put_c_inj(
+            work,
+            count,
+            s,
+            u16_at(ticket, at + 4),
+            u16_at(ticket, at + 6),
+            k,
+        ),
+        _ => put_card(work, count, ticket, s, at + 4, (size - 4) / 2, k),
     }
 }
+
+// ---- children by number
 
 // C-Valid, child 1: "len(x) ≠ 1 and code(x) = −1".
 fn put_codeless(work: &mut [i64], count: usize, len: usize, code: usize)
     requires { ⌜ (count + 2 ≤ factLimit) × (workNumbers ≤ length (now work)) × (len < columnLimit) × (code < columnLimit) ⌝ }
     ensures { λ _. ⌜ branchOf (now (work .exit)) (count + 2) ≡ branchOf (now (work .entry)) count ++ (arithmetic ne (single (negsuc 0) len (pos 1)) ∷ arithmetic eq (single (pos 1) code (pos 1)) ∷ []) ⌝ }
 {
-    rows::put_row(work, count, rows::single_row(2, -1, len, 1));
-    rows::put_row(work, count + 1, rows::single_row(1, 1, code, 1));
+    rows::put_single(work, count, 2, -1, len, 1);
+    rows::put_single(work, count + 1, 1, 1, code, 1);
 }
 
 // C-Valid, child 2: "len(x) = 1, code(x) ≥ 0 and n−1−code(x) ≥ 0".
@@ -255,9 +292,9 @@ fn put_coded(work: &mut [i64], count: usize, len: usize, code: usize, last: usiz
     requires { ⌜ (count + 3 ≤ factLimit) × (workNumbers ≤ length (now work)) × (len < columnLimit) × (code < columnLimit) × (last < alphabetLimit) ⌝ }
     ensures { λ _. ⌜ branchOf (now (work .exit)) (count + 3) ≡ branchOf (now (work .entry)) count ++ (arithmetic eq (single (negsuc 0) len (pos 1)) ∷ arithmetic ge (single (pos 0) code (pos 1)) ∷ arithmetic ge (single (pos last) code (negsuc 0)) ∷ []) ⌝ }
 {
-    rows::put_row(work, count, rows::single_row(1, -1, len, 1));
-    rows::put_row(work, count + 1, rows::single_row(0, 0, code, 1));
-    rows::put_row(work, count + 2, rows::single_row(0, last as i64, code, -1));
+    rows::put_single(work, count, 1, -1, len, 1);
+    rows::put_single(work, count + 1, 0, 0, code, 1);
+    rows::put_single(work, count + 2, 0, last as i64, code, -1);
 }
 
 // C-Valid's child k behind the facts of the branch; the number of facts then.
@@ -295,14 +332,28 @@ pub fn put_child(
     if number == 10 {
         return put_c_valid(work, count, s, u16_at(ticket, at + 4), k);
     }
-    let row = child_row(ticket, s, at, size, work, count, k);
-    rows::put_row(work, count, row);
+    put_fact(ticket, s, at, size, work, count, k);
     count + 1
 }
 
 // ---- the limits
 
-// "9 when a new number passes the limit": of child k. Only Branch and Apart make numbers from numbers of the ticket.
+// Apart: is child k within the limit? The coefficients are those of the fact or their negatives, so only the constant can pass it.
+fn apart_within(work: &[i64], fact: usize, k: usize) -> bool
+    requires { ⌜ (fact < factLimit) × (workNumbers ≤ length (now work)) × (1 ≤ k) × (k ≤ 2) ⌝ }
+    requires { ⌜ (kindOf (factOf (rowAt (now work) fact)) ≡ 2) × (factWithin (factOf (rowAt (now work) fact)) ≡ true) ⌝ }
+    ensures { λ r. ⌜ r ≡ factsWithin (childOf (some (apartChildren (drop 1 (rowAt (now (work .entry)) fact)))) k) ⌝ }
+{
+    let row = rows::row_at(work, fact);
+    let c = row[1];
+    if k == 1 {
+        return rows::in_limit(c - 1);
+    }
+    rows::in_limit(-1 - c)
+}
+
+// "9 when a new number passes the limit": of child k. Only Branch and Apart make numbers from numbers of the ticket. Branch's first child
+// is its form, which is in range; of the second only the constant can pass the limit.
 pub fn child_within(
     ticket: &[u8],
     s: Progress,
@@ -320,8 +371,13 @@ pub fn child_within(
     if 3 < number {
         return true;
     }
-    let row = child_row(ticket, s, at, size, work, count, k);
-    rows::fact_within(&row)
+    if number == 3 {
+        return apart_within(work, u16_at(ticket, at + 4), k);
+    }
+    if k == 1 {
+        return true;
+    }
+    rows::in_limit(-1 - records::i32_at(ticket, at + 4))
 }
 
 // "Under claim 1 all children of a split are tried for 9".

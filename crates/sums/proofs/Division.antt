@@ -4,9 +4,9 @@ use native.Mathlib.Omega.{arith}
 use mathlib.Core.Path.{_≡_, refl, sym, _∙_, ap, ap₂}
 use mathlib.Core.Bool.{Bool, true, false, _&&_, and-false}
 use mathlib.Core.Option.{Option, none, some}
-use mathlib.Core.List.{List, [], _∷_}
+use mathlib.Core.List.{List, [], _∷_, _++_}
 use borrow.Author.Tests.{le-leb}
-use lib.ListN.{length, getD, drop}
+use lib.ListN.{length, getD, take, drop, set}
 use lib.Dec.{leb}
 use lib.IntN.{ℤ, pos, natAbs, _*ℤ_, *ℤ-comm}
 use lib.Signed.{_≤ℤ_, quotZ}
@@ -21,7 +21,7 @@ use Rattle.calculus.specs.Instances.{entry}
 use Rattle.calculus.proofs.Entries.{entry-scale, length-scale, floor-same, length-divRow, →divided}
 use Rattle.rows.specs.Rows.{factOf}
 use Rattle.rows.proofs.Tags.{relation-fact}
-use Rattle.sums.specs.Sums.{geRow}
+use Rattle.sums.specs.Sums.{geRow, rowIn, factIn}
 
 -- a positive number
 pub positive-is : (d : ℤ) → pos 1 ≤ℤ d → (d ≡ pos (natAbs d)) × (1 ≤ natAbs d)
@@ -52,17 +52,37 @@ divided-number (x ∷ a) n (suc j) h = divided-number a n j (omega arith)
 abbrev pub quotients : List ℤ → ℕ → List ℤ
 quotients row n = pos 0 ∷ floorDiv (getD row 1 (pos 0)) n ∷ divRow (drop 2 row) n
 
-pub length-quotients : (row : List ℤ) (n : ℕ) → length row ≡ 50 → length (quotients row n) ≡ 50
-length-quotients [] n h = absurd (omega arith)
-length-quotients (x ∷ []) n h = absurd (omega arith)
-length-quotients (x ∷ c ∷ cs) n h = ap (λ k. suc (suc k)) (length-divRow cs n) ∙ h
+-- the row with its columns divided, and its constant as it was
+abbrev pub partly : List ℤ → ℕ → List ℤ
+partly row n = take 2 row ++ divRow (drop 2 row) n
 
-pub quotient-number : (row : List ℤ) (n j : ℕ) → 2 ≤ j → j < length row → getD (quotients row n) j (pos 0) ≡ floorDiv (getD row j (pos 0)) n
-quotient-number row n zero h k = absurd (omega arith)
-quotient-number row n (suc zero) h k = absurd (omega arith)
-quotient-number [] n (suc (suc j)) h k = absurd (omega arith)
-quotient-number (x ∷ []) n (suc (suc j)) h k = absurd (omega arith)
-quotient-number (x ∷ c ∷ cs) n (suc (suc j)) h k = divided-number cs n j (omega arith)
+pub partly-first : (row : List ℤ) (n : ℕ) → length row ≡ 50 → take 2 row ≡ take 2 (partly row n)
+partly-first [] n h = absurd (omega arith)
+partly-first (x ∷ []) n h = absurd (omega arith)
+partly-first (x ∷ c ∷ cs) n h = refl
+
+pub length-partly : (row : List ℤ) (n : ℕ) → length row ≡ 50 → length (partly row n) ≡ 50
+length-partly [] n h = absurd (omega arith)
+length-partly (x ∷ []) n h = absurd (omega arith)
+length-partly (x ∷ c ∷ cs) n h = ap (λ k. suc (suc k)) (length-divRow cs n) ∙ h
+
+pub partly-number : (row : List ℤ) (n j : ℕ) → 2 ≤ j → j < length row → getD (partly row n) j (pos 0) ≡ floorDiv (getD row j (pos 0)) n
+partly-number row n zero h k = absurd (omega arith)
+partly-number row n (suc zero) h k = absurd (omega arith)
+partly-number [] n (suc (suc j)) h k = absurd (omega arith)
+partly-number (x ∷ []) n (suc (suc j)) h k = absurd (omega arith)
+partly-number (x ∷ c ∷ cs) n (suc (suc j)) h k = divided-number cs n j (omega arith)
+
+pub partly-constant : (row : List ℤ) (n : ℕ) → length row ≡ 50 → getD (partly row n) 1 (pos 0) ≡ getD row 1 (pos 0)
+partly-constant [] n h = absurd (omega arith)
+partly-constant (x ∷ []) n h = absurd (omega arith)
+partly-constant (x ∷ c ∷ cs) n h = refl
+
+-- then the constant too
+pub partly-whole : (row : List ℤ) (n : ℕ) (q : ℤ) → length row ≡ 50 → getD row 0 (pos 0) ≡ pos 0 → q ≡ floorDiv (getD row 1 (pos 0)) n → set (partly row n) 1 q ≡ quotients row n
+partly-whole [] n q h t e = absurd (omega arith)
+partly-whole (x ∷ []) n q h t e = absurd (omega arith)
+partly-whole (x ∷ c ∷ cs) n q h t e = ap₂ (λ y z. y ∷ z ∷ divRow cs n) t e
 
 -- the quotients times the divisor
 abbrev pub multiples : List ℤ → ℕ → List ℤ
@@ -102,17 +122,20 @@ tag-first (x ∷ row) z h e = ap (λ y. y ∷ row) e
 
 -- ---- from rows to facts
 
-pub no-row : (o : Option (List ℤ)) → none ≡ geRow o → o ≡ none
-no-row none e = refl
-no-row (some a) e = absurd (none-some e)
+pub no-row : (t : Bool) (row : List ℤ) (o : Option (List ℤ)) → t ≡ false → rowIn t row ≡ geRow o → o ≡ none
+unfolding rowIn
+no-row t row none f e = refl
+no-row t row (some a) f e = absurd (none-some (ap (λ s. guard s row) (sym f) ∙ e))
 
-pub some-row : (row : List ℤ) (o : Option (List ℤ)) → some row ≡ geRow o → (o ≡ some (drop 1 row)) × (getD row 0 (pos 0) ≡ pos 0)
-some-row row none e = absurd (some-none e)
-some-row row (some a) e =
-    let q : row ≡ pos 0 ∷ a = some-injective e in
+pub some-row : (t : Bool) (row : List ℤ) (o : Option (List ℤ)) → t ≡ true → rowIn t row ≡ geRow o → (o ≡ some (drop 1 row)) × (getD row 0 (pos 0) ≡ pos 0)
+unfolding rowIn
+some-row t row none f e = absurd (some-none (ap (λ s. guard s row) (sym f) ∙ e))
+some-row t row (some a) f e =
+    let q : row ≡ pos 0 ∷ a = some-injective (ap (λ s. guard s row) (sym f) ∙ e) in
     (ap (λ (l : List ℤ). some (drop 1 l)) (sym q), ap (λ (l : List ℤ). getD l 0 (pos 0)) q)
 
-pub row-fact : (t : Bool) (row : List ℤ) (o : Option (List ℤ)) → guard t row ≡ geRow o → guard t (factOf row) ≡ then o (λ e. some (arithmetic ge e))
+pub row-fact : (t : Bool) (row : List ℤ) (o : Option (List ℤ)) → rowIn t row ≡ geRow o → factIn t row ≡ then o (λ e. some (arithmetic ge e))
+unfolding rowIn factIn
 row-fact true row none e = absurd (some-none e)
 row-fact true row (some a) e = ap some (ap factOf (some-injective e) ∙ relation-fact 0 a (omega arith))
 row-fact false row none e = refl

@@ -1,5 +1,6 @@
 -- What the functions of rule 1 give, from the definitions of the rule.
 use Prim.Native.Nat.{ℕ}
+use mathlib.Core.Bool.{Bool}
 use mathlib.Core.Option.{Option, none, some}
 use mathlib.Core.List.{List, _∷_, _++_}
 use lib.ListN.{take, drop}
@@ -8,7 +9,6 @@ use Rattle.calculus.specs.Rows.{plus, scale}
 use Rattle.calculus.specs.Facts.{Fact, Branch, arithmetic, ge}
 use Rattle.calculus.specs.Rules.{guard, then, sumOf, divided}
 use Rattle.rows.specs.Rows.{factOf}
-use Rattle.sums.specs.declared.Summed.{Summed}
 
 -- a row's form times m added to a sum behind its tag
 unfoldable pub added : List ℤ → ℤ → List ℤ → List ℤ
@@ -20,11 +20,11 @@ geRow none = none
 geRow (some e) = some (pos 0 ∷ e)
 
 -- the row, and the fact, where the step fits
-unfoldable pub rowIn : Summed → Option (List ℤ)
-rowIn r = guard (r .fits) (r .row)
+unfoldable pub rowIn : Bool → List ℤ → Option (List ℤ)
+rowIn t row = guard t row
 
-unfoldable pub factIn : Summed → Option Fact
-factIn r = guard (r .fits) (factOf (r .row))
+unfoldable pub factIn : Bool → List ℤ → Option Fact
+factIn t row = guard t (factOf row)
 
 -- the fact that a Sum with divisor d adds
 unfoldable pub sumFact : Branch → ℕ → List (ℕ × ℤ) → Option Fact

@@ -7,7 +7,7 @@ ghost use lib.ListN.{length, getD, drop};
 ghost use lib.IntN.{pos, natAbs};
 ghost use lib.Signed.{_≤ℤ_};
 ghost use Rattle.calculus.specs.Limits.{numberLimit, summandLimit};
-ghost use Rattle.calculus.specs.Rows.{floorDiv};
+ghost use Rattle.calculus.specs.Rows.{zeros, floorDiv};
 ghost use Rattle.calculus.specs.Rules.{summand, sumOf, divided};
 ghost use Rattle.format.specs.Fields.{pairsAt};
 ghost use Rattle.format.specs.StepForms.{multipliersWithin};
@@ -16,12 +16,6 @@ ghost use Rattle.rows.specs.Rows.{rowLength, factOf, branchOf};
 ghost use Rattle.rows.specs.Work.{Within, Fine};
 ghost use Rattle.sums.specs.Sums.{added, geRow, rowIn, factIn, sumFact};
 use limits::ROW_LENGTH;
-
-// A new row, where the step fits.
-pub struct Summed {
-    pub fits: bool,
-    pub row: [i64; ROW_LENGTH],
-}
 
 // Does a fact take the multiplier: at least 1 on a ≥ fact, nonzero on an equation?
 fn takes(row: &[i64], multiplier: i64) -> bool
@@ -39,7 +33,7 @@ fn takes(row: &[i64], multiplier: i64) -> bool
 }
 
 // A row times a multiplier is added to the sum.
-fn add_multiple(sum: &mut [i64; ROW_LENGTH], row: &[i64], multiplier: i64)
+fn add_multiple(sum: &mut [i64], row: &[i64], multiplier: i64)
     requires { ⌜ (length (now row) ≡ rowLength) × (rowWithin (drop 1 (now row)) ≡ true) ⌝ }
     requires { ⌜ natAbs multiplier ≤ numberLimit ⌝ }
     requires { ⌜ (length (now sum) ≡ rowLength) × Within 7000000000000000000 (now sum) ⌝ }
@@ -54,39 +48,30 @@ fn add_multiple(sum: &mut [i64; ROW_LENGTH], row: &[i64], multiplier: i64)
     }
 }
 
-// The sum of the pairs (fact, multiplier).
-fn sum_of(b: &[u8], at: usize, pairs: usize, work: &[i64], count: usize) -> Summed
+// The sum of the pairs (fact, multiplier), added to a row of zeros, and whether they fit.
+fn sum_of(sum: &mut [i64], b: &[u8], at: usize, pairs: usize, work: &[i64], count: usize) -> bool
+    requires { ⌜ now sum ≡ zeros rowLength ⌝ }
     requires { ⌜ (1 ≤ pairs) × (pairs ≤ summandLimit) × (at + 6 * pairs ≤ length (now b)) ⌝ }
     requires { ⌜ multipliersWithin (pairsAt (now b) at pairs) ≡ true ⌝ }
     requires { ⌜ Fine (now work) count ⌝ }
-    ensures { λ r. ⌜ rowIn r ≡ geRow (sumOf (branchOf (now (work .entry)) count) (pairsAt (now (b .entry)) at pairs)) ⌝ }
+    ensures { λ r. ⌜ rowIn r (now (sum .exit)) ≡ geRow (sumOf (branchOf (now (work .entry)) count) (pairsAt (now (b .entry)) at pairs)) ⌝ }
 {
-    let mut sum = [0i64; ROW_LENGTH];
     let mut i = 0;
     while i < pairs {
         let place = at + 6 * i;
         let fact = records::u16_at(b, place);
         let multiplier = records::i32_at(b, place + 2);
         if fact >= count {
-            return Summed {
-                fits: false,
-                row: sum,
-            };
+            return false;
         }
         let row = rows::row_at(work, fact);
         if !takes(row, multiplier) {
-            return Summed {
-                fits: false,
-                row: sum,
-            };
+            return false;
         }
-        add_multiple(&mut sum, row, multiplier);
+        add_multiple(sum, row, multiplier);
         i += 1;
     }
-    Summed {
-        fits: true,
-        row: sum,
-    }
+    true
 }
 
 // Division rounding down.
@@ -97,55 +82,48 @@ fn floor_div(c: i64, d: i64) -> i64
     if c >= 0 { c / d } else { -1 - (-1 - c) / d }
 }
 
-// A sum divided: columns exactly, the constant rounding down.
-fn divided_row(row: [i64; ROW_LENGTH], d: i64) -> Summed
-    requires { ⌜ (pos 1 ≤ℤ d) × (getD row 0 (pos 0) ≡ pos 0) ⌝ }
-    ensures { λ r. ⌜ rowIn r ≡ geRow (divided (natAbs d) (drop 1 row)) ⌝ }
+// A sum divided in place, columns exactly and the constant rounding down, and whether they divide.
+fn divide(row: &mut [i64], d: i64) -> bool
+    requires { ⌜ (pos 1 ≤ℤ d) × (length (now row) ≡ rowLength) × (getD (now row) 0 (pos 0) ≡ pos 0) ⌝ }
+    ensures { λ r. ⌜ rowIn r (now (row .exit)) ≡ geRow (divided (natAbs d) (drop 1 (now (row .entry)))) ⌝ }
 {
-    if d == 1 {
-        return Summed { fits: true, row };
-    }
-    let mut out = [0i64; ROW_LENGTH];
-    let c = row[1];
-    out[1] = floor_div(c, d);
     let mut j = 2;
     while j < ROW_LENGTH {
         let x = row[j];
         let q = x / d;
         if q * d != x {
-            return Summed {
-                fits: false,
-                row: out,
-            };
+            return false;
         }
-        out[j] = q;
+        row[j] = q;
         j += 1;
     }
-    Summed {
-        fits: true,
-        row: out,
-    }
+    let c = row[1];
+    row[1] = floor_div(c, d);
+    true
 }
 
-// The row of the fact that a Sum adds.
+// The row of the fact that a Sum adds, in a row of zeros, and whether the step fits.
 pub fn sum_row(
+    row: &mut [i64],
     b: &[u8],
     at: usize,
     pairs: usize,
     divisor: usize,
     work: &[i64],
     count: usize,
-) -> Summed
+) -> bool
+    requires { ⌜ now row ≡ zeros rowLength ⌝ }
     requires { ⌜ (1 ≤ pairs) × (pairs ≤ summandLimit) × (at + 6 * pairs ≤ length (now b)) ⌝ }
     requires { ⌜ (1 ≤ divisor) × (divisor ≤ 2147483647) ⌝ }
     requires { ⌜ multipliersWithin (pairsAt (now b) at pairs) ≡ true ⌝ }
     requires { ⌜ Fine (now work) count ⌝ }
-    ensures { λ r. ⌜ factIn r ≡ sumFact (branchOf (now (work .entry)) count) divisor (pairsAt (now (b .entry)) at pairs) ⌝ }
+    ensures { λ r. ⌜ factIn r (now (row .exit)) ≡ sumFact (branchOf (now (work .entry)) count) divisor (pairsAt (now (b .entry)) at pairs) ⌝ }
 {
-    let sum = sum_of(b, at, pairs, work, count);
-    if !sum.fits {
-        return sum;
+    if !sum_of(row, b, at, pairs, work, count) {
+        return false;
     }
-    let row = sum.row;
-    divided_row(row, divisor as i64)
+    if divisor == 1 {
+        return true;
+    }
+    divide(row, divisor as i64)
 }

@@ -1,15 +1,14 @@
 -- `claims::walk_record` meets its contract.
-use mathlib.Core.Path.{sym, _∙_}
+use Prim.Native.Nat.{_+_}
+use borrow.Author.Needs.{needs}
 use denote.Ref.{now}
+use lib.Dec.{eqb}
+use mathlib.Core.Path.{sym, _∙_}
+use Rattle.format.specs.StepForms.{child}
 use Rattle.rows.specs.Rows.{branchOf}
 use Rattle.question.specs.Posed.{asked}
+use Rattle.derivation.specs.Actions.{Acts}
 use Rattle.claims.proofs.Records.{its-form, record-place, record-form, record-step}
-use Rattle.derivation.specs.State.{waitings}
-use Rattle.branch.specs.Stack.{stack}
-use lib.Dec.{eqb}
-use Prim.Native.Nat.{_+_}
-use Rattle.format.specs.StepForms.{child}
-use borrow.Author.Needs.{needs}
 use Rattle.claims.proofs.walk_record.Statement.{statement}
 use Rattle.claims.proofs.walk_record.Tie as tie
 
@@ -23,12 +22,13 @@ open-fault-requires : tie.Need-open-fault-requires
 open-fault-requires c κs = search needs
 
 returns : tie.Need-returns
+unfolding Acts
 returns c =
     let s = c .before .before .before in
-    let b = now (s .args .ticket) in
-    let u = asked b (s .args .s) in
-    let br = branchOf (now (s .args .work)) (s .args .b .count) in
-    (record-place b u (s .args .at) (s .args .kind) (s .args .size) (s .pre .1) br (waitings b u br (stack (s .args .b))) _ (c .before .open-fault .ensures) (c .if1 .taken), tt)
+    let a = s .args in
+    let b = now (a .ticket) in
+    let u = asked b (a .s) in
+    (λ ss q. record-place b u (a .at) (a .kind) (a .size) (s .pre .1 .1) (branchOf (now (a .work)) (a .count)) ss _ (c .before .open-fault .ensures) (c .if1 .taken), c .if1 .taken)
 
 add-step-fault-one : tie.Need-add-step-fault-one
 add-step-fault-one c = search needs
@@ -37,21 +37,22 @@ step-fault-one-requires : tie.Need-step-fault-one-requires
 step-fault-one-requires c κs = search needs
 
 returns-2 : tie.Need-returns-2
-unfolding asked
+unfolding asked Acts
 returns-2 c =
     let s = c .before .before .before .before .before in
-    let b = now (s .args .ticket) in
-    let u = asked b (s .args .s) in
-    let br = branchOf (now (s .args .work)) (s .args .b .count) in
-    (record-form b u (s .args .at) (s .args .kind) (s .args .size) (s .pre .1) br (waitings b u br (stack (s .args .b))) (sym (c .before .before .if1 .left) ∙ c .before .before .before .open-fault .ensures) _ (c .before .step-fault-one .ensures) (c .if2 .taken), tt)
+    let a = s .args in
+    let b = now (a .ticket) in
+    let u = asked b (a .s) in
+    (λ ss q. record-form b u (a .at) (a .kind) (a .size) (s .pre .1 .1) (branchOf (now (a .work)) (a .count)) ss (sym (c .before .before .if1 .left) ∙ c .before .before .before .open-fault .ensures) _ (c .before .step-fault-one .ensures) (c .if2 .taken), c .if2 .taken)
 
 take-step-requires : tie.Need-take-step-requires
 unfolding asked
 take-step-requires c κs =
     let s = c .before .before .before .before .before .before in
-    let b = now (s .args .ticket) in
-    let u = asked b (s .args .s) in
-    (s .pre .0, (s .pre .1 .1, its-form b u (s .args .at) (s .args .kind) (s .args .size) (s .pre .1) (eqb (child b (s .args .at + 6)) 0) (sym (c .before .if2 .left) ∙ c .before .before .step-fault-one .ensures)))
+    let a = s .args in
+    let b = now (a .ticket) in
+    let u = asked b (a .s) in
+    (s .pre .0, ((s .pre .1 .1 .1, its-form b u (a .at) (a .kind) (a .size) (s .pre .1 .1) (eqb (child b (a .at + 6)) 0) (sym (c .before .if2 .left) ∙ c .before .before .step-fault-one .ensures)), s .pre .1 .0))
 
 same-length : tie.Need-same-length
 same-length c = search needs
@@ -60,10 +61,11 @@ returns-3 : tie.Need-returns-3
 unfolding asked
 returns-3 c =
     let s = c .before .before .before .before .before .before .before .before in
-    let b = now (s .args .ticket) in
-    let u = asked b (s .args .s) in
-    let br = branchOf (now (s .args .work)) (s .args .b .count) in
-    (c .before .take-step .ensures .0 ∙ record-step b u (s .args .at) (s .args .kind) (s .args .size) (s .pre .1) br (waitings b u br (stack (s .args .b))) (sym (c .before .before .before .before .before .if1 .left) ∙ c .before .before .before .before .before .before .open-fault .ensures) (sym (c .before .before .before .if2 .left) ∙ c .before .before .before .before .step-fault-one .ensures), c .before .take-step .ensures .1)
+    let a = s .args in
+    let b = now (a .ticket) in
+    let u = asked b (a .s) in
+    let f = c .before .take-step in
+    (λ ss q. f .ensures .0 ∙ record-step b u (a .at) (a .kind) (a .size) (s .pre .1 .1) (branchOf (now (a .work)) (a .count)) ss (sym (c .before .before .before .before .before .if1 .left) ∙ c .before .before .before .before .before .before .open-fault .ensures) (sym (c .before .before .before .if2 .left) ∙ c .before .before .before .before .step-fault-one .ensures) (a .pending) q, f .ensures .1)
 
 pub walk-record-spec : {M : Type 1} → statement M
 walk-record-spec =

@@ -2,6 +2,7 @@
 use borrow.Author.Needs.{needs}
 use borrow.Author.Tests.{not-false, not-true}
 use denote.Ref.{now}
+use lib.IntN.{ℤ}
 use mathlib.Core.List.{List, _++_}
 use mathlib.Core.Option.{Option}
 use mathlib.Core.Path.{_∙_, ap, refl, sym}
@@ -17,12 +18,18 @@ use Rattle.rows.specs.Rows.{branchOf, factOf}
 use Rattle.conclusions.proofs.conclude.Statement.{statement}
 use Rattle.conclusions.proofs.conclude.Tie as tie
 
--- the branch, and what the step gives
+-- the branch, what the step gives, and the row
 abbrev before : (c : tie.After-conclusion) → Branch
-before c = branchOf (now (c .before .before .before .args .work)) (c .before .before .before .args .count)
+before c = branchOf (now (c .before .before .before .before .args .work)) (c .before .before .before .before .args .count)
 
 abbrev given : (c : tie.After-conclusion) → Option (List (List Fact))
-given c = children (progressOf (now (c .before .before .before .args .ticket)) (c .before .before .before .args .s) .question) (branchOf (now (c .before .before .before .args .work)) (c .before .before .before .args .count)) (stepAt (now (c .before .before .before .args .ticket)) (c .before .before .before .args .at) (c .before .before .before .args .size))
+given c = children (progressOf (now (c .before .before .before .before .args .ticket)) (c .before .before .before .before .args .s) .question) (branchOf (now (c .before .before .before .before .args .work)) (c .before .before .before .before .args .count)) (stepAt (now (c .before .before .before .before .args .ticket)) (c .before .before .before .before .args .at) (c .before .before .before .before .args .size))
+
+abbrev row : (c : tie.After-conclusion) → List ℤ
+row c = c .conclusion .last .0
+
+slice-aggregate-conclusion : tie.Need-slice-aggregate-conclusion
+slice-aggregate-conclusion c = search needs
 
 conclusion-requires : tie.Need-conclusion-requires
 conclusion-requires c κs = search needs
@@ -31,10 +38,11 @@ same-length : tie.Need-same-length
 same-length c = search needs
 
 returns : tie.Need-returns
-returns c = (
-  eight (before (c .before .before)) (given (c .before .before)) (c .before .before .conclusion .result) (c .before .before .conclusion .ensures) (not-true _ (c .if1 .taken)),
-  ((λ z. absurd (omega arith)), ((λ z. absurd (omega arith)), (λ j h. refl))),
-)
+returns c =
+    let p = c .before .before in (
+      eight (before p) (given p) (p .conclusion .result) (row p) (p .conclusion .ensures) (not-true _ (c .if1 .taken)),
+      ((λ z. absurd (omega arith)), ((λ z. absurd (omega arith)), (λ j h. refl))),
+    )
 
 slice-aggregate-fact-within : tie.Need-slice-aggregate-fact-within
 slice-aggregate-fact-within c = search needs
@@ -46,20 +54,25 @@ same-length-2 : tie.Need-same-length-2
 same-length-2 c = search needs
 
 returns-2 : tie.Need-returns-2
-returns-2 c = (
-  nine (before (c .before .before .before .before .before .before)) (given (c .before .before .before .before .before .before)) (c .before .before .before .before .before .before .conclusion .result) (c .before .before .before .before .before .before .conclusion .ensures) (not-false _ (c .before .before .before .before .if1 .left)) (sym (c .before .fact-within .ensures) ∙ not-true _ (c .if2 .taken)),
-  ((λ z. absurd (omega arith)), ((λ z. absurd (omega arith)), (λ j h. refl))),
-)
+returns-2 c =
+    let p = c .before .before .before .before .before in (
+      nine (before p) (given p) (p .conclusion .result) (row p) (p .conclusion .ensures) (not-false _ (c .before .before .before .if1 .left)) (sym (c .before .fact-within .ensures) ∙ not-true _ (c .if2 .taken)),
+      ((λ z. absurd (omega arith)), ((λ z. absurd (omega arith)), (λ j h. refl))),
+    )
 
 same-length-3 : tie.Need-same-length-3
 same-length-3 c = search needs
 
 returns-3 : tie.Need-returns-3
 returns-3 c =
+    let p = c .before .before .before .before .before .before in
     let n = length-branch (now (c .before .before .before .before .before .before .before .before .before .before .args .work)) (c .before .before .before .before .before .before .before .before .before .before .args .count) in (
-      ten (before (c .before .before .before .before .before .before .before)) (given (c .before .before .before .before .before .before .before)) (c .before .before .before .before .before .before .before .conclusion .result) (c .before .before .before .before .before .before .before .conclusion .ensures) (not-false _ (c .before .before .before .before .before .if1 .left)) (sym (c .before .before .fact-within .ensures) ∙ not-false _ (c .before .if2 .left)) (rw n (c .if3 .taken)),
+      ten (before p) (given p) (p .conclusion .result) (row p) (p .conclusion .ensures) (not-false _ (c .before .before .before .before .if1 .left)) (sym (c .before .before .fact-within .ensures) ∙ not-false _ (c .before .if2 .left)) (rw n (c .if3 .taken)),
       ((λ z. absurd (omega arith)), ((λ z. absurd (omega arith)), (λ j h. refl))),
     )
+
+slice-aggregate-put-row : tie.Need-slice-aggregate-put-row
+slice-aggregate-put-row c = search needs
 
 put-row-requires : tie.Need-put-row-requires
 put-row-requires c κs = search needs
@@ -69,16 +82,16 @@ same-length-4 c = search needs
 
 returns-4 : tie.Need-returns-4
 returns-4 c =
-    let s = c .before .before .before .before .before .before .before .before .before .before .before .before .before in
+    let s = c .before .before .before .before .before .before .before .before .before .before .before .before .before .before in
+    let p = c .before .before .before .before .before .before .before .before .before .before in
     let w = now (s .args .work) in
     let n = length-branch w (s .args .count) in
-    let made = c .before .before .before .before .before .before .before .before .before .before .conclusion .result in
-    let fit = not-false (c .before .before .before .before .before .before .before .before .before .before .conclusion .result .fits) (c .before .before .before .before .before .before .before .before .if1 .left) in
-    let small = sym (c .before .before .before .before .before .fact-within .ensures) ∙ not-false _ (c .before .before .before .before .if2 .left) in (
-      none-of-these (before (c .before .before .before .before .before .before .before .before .before .before)) (given (c .before .before .before .before .before .before .before .before .before .before)) made (c .before .before .before .before .before .before .before .before .before .before .conclusion .ensures) fit small (rw n (omega (arith, c .before .before .before .if3 .left))),
+    let fit = not-false (p .conclusion .result) (c .before .before .before .before .before .before .before .before .if1 .left) in
+    let small = sym (c .before .before .before .before .before .before .fact-within .ensures) ∙ not-false _ (c .before .before .before .before .before .if2 .left) in (
+      none-of-these (before p) (given p) (p .conclusion .result) (row p) (p .conclusion .ensures) fit small (rw n (omega (arith, c .before .before .before .before .if3 .left))),
       (
-        (λ z. c .before .put-row .ensures ∙ ap (λ (l : List Fact). before (c .before .before .before .before .before .before .before .before .before .before) ++ l) (its-fact (before (c .before .before .before .before .before .before .before .before .before .before)) (given (c .before .before .before .before .before .before .before .before .before .before)) made (c .before .before .before .before .before .before .before .before .before .before .conclusion .ensures) fit)),
-        ((λ z. fine-put w _ (s .args .count) (factOf (made .row)) (s .pre .1 .1 .1) (omega (arith, c .before .before .before .if3 .left)) (search needs) (c .before .put-row .ensures) small), (λ j h. branch-kept w _ (s .args .count) j (factOf (made .row)) (c .before .put-row .ensures) h)),
+        (λ z. c .before .put-row .ensures ∙ ap (λ (l : List Fact). before p ++ l) (its-fact (before p) (given p) (p .conclusion .result) (row p) (p .conclusion .ensures) fit)),
+        ((λ z. fine-put w _ (s .args .count) (factOf (row p)) (s .pre .1 .1 .1) (omega (arith, c .before .before .before .before .if3 .left)) (search needs) (c .before .put-row .ensures) small), (λ j h. branch-kept w _ (s .args .count) j (factOf (row p)) (c .before .put-row .ensures) h)),
       ),
     )
 
@@ -86,6 +99,7 @@ pub conclude-spec : {M : Type 1} → statement M
 conclude-spec =
     tie.close
     (tie.spec
+    slice-aggregate-conclusion
     conclusion-requires
     same-length
     returns
@@ -95,6 +109,7 @@ conclude-spec =
     returns-2
     same-length-3
     returns-3
+    slice-aggregate-put-row
     put-row-requires
     same-length-4
     returns-4)

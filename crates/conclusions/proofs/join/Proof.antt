@@ -3,7 +3,7 @@ use borrow.Author.Needs.{needs}
 use borrow.Author.Tests.{not-false, not-true}
 use denote.Ref.{now}
 use lib.IntN.{ℤ}
-use lib.ListN.{drop, length}
+use lib.ListN.{drop, getElem?, length}
 use mathlib.Core.List.{List}
 use mathlib.Core.Option.{Option, some}
 use mathlib.Core.Path.{_∙_, _≡_, ap, ap₂, sym}
@@ -18,7 +18,6 @@ use Rattle.rows.proofs.Branches.{branch-at, branch-beyond, length-row}
 use Rattle.rows.proofs.Small.{fine-at}
 use Rattle.rows.proofs.Tested.{joined-fits, none-fits}
 use Rattle.rows.specs.Rows.{branchOf, factOf, rowAt}
-use lib.ListN.{getElem?}
 use Rattle.conclusions.proofs.join.Statement.{statement}
 use Rattle.conclusions.proofs.join.Tie as tie
 
@@ -32,24 +31,19 @@ both c u =
 test : (c : tie.After-joins) → c .joins .result ≡ fits (joined (factOf (rowAt (now (c .before .before .before .before .before .args .work)) (c .before .before .before .before .before .args .j))) (factOf (rowAt (now (c .before .before .before .before .before .args .work)) (c .before .before .before .before .before .args .k))))
 test c = c .joins .ensures ∙ ap₂ (λ (l r : List ℤ). fits (joined (factOf l) (factOf r))) (c .before .before .row-at .ensures) (c .before .row-at2 .ensures)
 
-misfit-requires : tie.Need-misfit-requires
-misfit-requires c κs = search needs
-
 returns : tie.Need-returns
+unfolding madeOf
 returns c =
-    let s = c .before .before in
+    let s = c .before in
     let b = branchOf (now (s .args .work)) (s .args .count) in
-    λ (u : Question). c .misfit .ensures ∙ sym (ap (λ (o : Option Fact). then o (λ f. then (getElem? b (s .args .k)) (λ g. joined f g))) (branch-beyond (now (s .args .work)) (s .args .count) (s .args .j) (c .before .if1 .taken)))
-
-misfit-requires-2 : tie.Need-misfit-requires-2
-misfit-requires-2 c κs = search needs
+    λ (u : Question). sym (ap (λ (o : Option Fact). then o (λ f. then (getElem? b (s .args .k)) (λ g. joined f g))) (branch-beyond (now (s .args .work)) (s .args .count) (s .args .j) (c .if1 .taken)))
 
 returns-2 : tie.Need-returns-2
+unfolding madeOf
 returns-2 c =
-    let s = c .before .before .before in
-    let b = branchOf (now (s .args .work)) (s .args .count) in
-    λ (u : Question). c .misfit2 .ensures ∙ sym (ap₂ (λ (o r : Option Fact). then o (λ f. then r (λ g. joined f g)))
-    (branch-at (now (s .args .work)) (s .args .count) (s .args .j) (omega (arith, c .before .before .if1 .left))) (branch-beyond (now (s .args .work)) (s .args .count) (s .args .k) (c .before .if2 .taken)))
+    let s = c .before .before in
+    λ (u : Question). sym (ap₂ (λ (o r : Option Fact). then o (λ f. then r (λ g. joined f g)))
+    (branch-at (now (s .args .work)) (s .args .count) (s .args .j) (omega (arith, c .before .if1 .left))) (branch-beyond (now (s .args .work)) (s .args .count) (s .args .k) (c .if2 .taken)))
 
 row-at-requires : tie.Need-row-at-requires
 row-at-requires c κs = search needs
@@ -60,39 +54,40 @@ row-at-requires-2 c κs = search needs
 joins-requires : tie.Need-joins-requires
 joins-requires c κs =
     let s = c .before .before .before .before in
+    let f = s .pre .1 in
     let w = now (s .args .work) in (
-      (ap length (c .before .row-at .ensures) ∙ length-row w (s .args .j) (omega (arith, s .pre .few, s .pre .room)), ap length (c .row-at2 .ensures) ∙ length-row w (s .args .k) (omega (arith, s .pre .few, s .pre .room))),
-      ap (λ (l : List ℤ). factWithin (factOf l)) (c .before .row-at .ensures) ∙ fine-at w (s .args .count) (s .args .j) (s .pre) (omega (arith, c .before .before .before .if1 .left)),
+      (ap length (c .before .row-at .ensures) ∙ length-row w (s .args .j) (omega (arith, f .few, f .room)), ap length (c .row-at2 .ensures) ∙ length-row w (s .args .k) (omega (arith, f .few, f .room))),
+      ap (λ (l : List ℤ). factWithin (factOf l)) (c .before .row-at .ensures) ∙ fine-at w (s .args .count) (s .args .j) f (omega (arith, c .before .before .before .if1 .left)),
     )
 
-misfit-requires-3 : tie.Need-misfit-requires-3
-misfit-requires-3 c κs = search needs
-
 returns-3 : tie.Need-returns-3
-returns-3 c = λ (u : Question). c .misfit3 .ensures ∙ sym (both (c .before .before) u ∙ none-fits _ (sym (test (c .before .before)) ∙ not-true _ (c .before .if3 .taken)))
+unfolding madeOf
+returns-3 c = λ (u : Question). sym (both (c .before) u ∙ none-fits _ (sym (test (c .before)) ∙ not-true _ (c .if3 .taken)))
 
-equation-row-requires : tie.Need-equation-row-requires
-equation-row-requires c κs =
-    let s = c .before .before .before .before .before .before in
-    ap length (c .before .before .before .row-at .ensures) ∙ length-row (now (s .args .work)) (s .args .j) (omega (arith, s .pre .few, s .pre .room))
+fill-equation-requires : tie.Need-fill-equation-requires
+fill-equation-requires c κs =
+    let s = c .before .before .before .before .before .before .before in
+    let f = s .pre .1 in
+    (search needs, ap length (c .before .before .before .before .row-at .ensures) ∙ length-row (now (s .args .work)) (s .args .j) (omega (arith, f .few, f .room)))
+
+same-length : tie.Need-same-length
+same-length c = search needs
 
 returns-4 : tie.Need-returns-4
 unfolding madeOf
-returns-4 c = λ (u : Question). ap (λ (f : Fact). some (one f)) (c .equation-row .ensures ∙ ap (λ (l : List ℤ). arithmetic eq (drop 1 l)) (c .before .before .before .before .row-at .ensures))
-    ∙ sym (both (c .before .before) u ∙ joined-fits _ _ (sym (test (c .before .before)) ∙ not-false _ (c .before .if3 .left)))
+returns-4 c = λ (u : Question). ap (λ (f : Fact). some (one f)) (c .before .fill-equation .ensures ∙ ap (λ (l : List ℤ). arithmetic eq (drop 1 l)) (c .before .before .before .before .before .before .row-at .ensures))
+    ∙ sym (both (c .before .before .before .before) u ∙ joined-fits _ _ (sym (test (c .before .before .before .before)) ∙ not-false _ (c .before .before .before .if3 .left)))
 
 pub join-spec : {M : Type 1} → statement M
 join-spec =
     tie.close
     (tie.spec
-    misfit-requires
     returns
-    misfit-requires-2
     returns-2
     row-at-requires
     row-at-requires-2
     joins-requires
-    misfit-requires-3
     returns-3
-    equation-row-requires
+    fill-equation-requires
+    same-length
     returns-4)

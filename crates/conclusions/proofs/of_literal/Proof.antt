@@ -43,16 +43,13 @@ class-literal-requires c κs = search needs
 enum-told : tie.Need-enum-told
 enum-told c = search needs
 
-misfit-requires : tie.Need-misfit-requires
-misfit-requires c κs = search needs
-
 enum-known-found : tie.Need-enum-known-found
 enum-known-found c = search needs
 
 literal-text-requires : tie.Need-literal-text-requires
 literal-text-requires c κs =
     let s = c .before .before .before .before .before .before .before in
-    omega (arith, s .pre .1 .1, skip-up (now (s .args .ticket)) (c .before .found .given .0 .0) (s .args .s .literals) literalsFrom (few c))
+    omega (arith, s .pre .1 .1 .1, skip-up (now (s .args .ticket)) (c .before .found .given .0 .0) (s .args .s .literals) literalsFrom (few c))
 
 less-text-requires : tie.Need-less-text-requires
 less-text-requires c κs = search needs
@@ -60,26 +57,28 @@ less-text-requires c κs = search needs
 column-of-requires : tie.Need-column-of-requires
 column-of-requires c κs = search needs
 
-single-row-requires : tie.Need-single-row-requires
-single-row-requires c κs = search needs
+fill-single-requires : tie.Need-fill-single-requires
+fill-single-requires c κs = search needs
 
 returns : tie.Need-returns
-unfolding literalOf
+unfolding literalOf madeOf
 returns c =
-    let a = c .before .before .before .before .before .before .before .args in
-    c .misfit .ensures
-    ∙ literal-none (now (a .ticket)) (a .s) (branchOf (now (a .work)) (a .count)) (c .before .before .before .before .before .labels .result) (a .x) (c .before .before .before .before .before .labels .ensures) (functionOf (a .function)) (sym (c .before .before .before .class-literal .ensures) ∙ ap literalOf (c .before .enum-told .given .1))
+    let a = c .before .before .before .before .before .before .args in
+    literal-none (now (a .ticket)) (a .s) (branchOf (now (a .work)) (a .count)) (c .before .before .before .before .labels .result) (a .x) (c .before .before .before .before .labels .ensures) (functionOf (a .function)) (sym (c .before .before .class-literal .ensures) ∙ ap literalOf (c .enum-told .given .1))
+
+same-length : tie.Need-same-length
+same-length c = search needs
 
 returns-2 : tie.Need-returns-2
 unfolding madeOf
 returns-2 c =
-    let a = c .before .before .before .before .before .before .before .before .before .before .before .args in
+    let a = c .before .before .before .before .before .before .before .before .before .before .before .before .before .args in
     let b = now (a .ticket) in
-    ap (λ (f : Fact). some (one f)) (c .single-row .ensures
-    ∙ ap (λ (z : ℤ). arithmetic eq (single z (c .before .column-of .result) (pos 1))) (toZ-ofZ (record { sfits = c .before .before .less-text .ok }) ∙ c .before .before .less-text .ensures))
-    ∙ literal-adds b (a .s) (branchOf (now (a .work)) (a .count)) (c .before .before .before .before .before .before .before .before .before .labels .result) (a .x) (c .before .before .before .before .before .before .before .before .before .labels .ensures) (a .function) (c .before .before .before .before .before .found .given .0 .0) (c .before .column-of .result)
-    (u32s b (c .before .before .before .literal-text .result .at) (c .before .before .before .literal-text .result .count)) (found-is (c .before .before .before .before)) (c .before .column-of .ensures .0) (c .before .column-of .ensures .1)
-    (c .before .before .before .literal-text .ensures .1 (a .s .literals) (few (c .before .before .before .before)))
+    ap (λ (f : Fact). some (one f)) (c .before .fill-single .ensures
+    ∙ ap (λ (z : ℤ). arithmetic eq (single z (c .before .before .column-of .result) (pos 1))) (toZ-ofZ (record { sfits = c .before .before .before .before .less-text .ok }) ∙ c .before .before .before .before .less-text .ensures))
+    ∙ literal-adds b (a .s) (branchOf (now (a .work)) (a .count)) (c .before .before .before .before .before .before .before .before .before .before .before .labels .result) (a .x) (c .before .before .before .before .before .before .before .before .before .before .before .labels .ensures) (a .function) (c .before .before .before .before .before .before .before .found .given .0 .0) (c .before .before .column-of .result)
+    (u32s b (c .before .before .before .before .before .literal-text .result .at) (c .before .before .before .before .before .literal-text .result .count)) (found-is (c .before .before .before .before .before .before)) (c .before .before .column-of .ensures .0) (c .before .before .column-of .ensures .1)
+    (c .before .before .before .before .before .literal-text .ensures .1 (a .s .literals) (few (c .before .before .before .before .before .before)))
 
 pub of-literal-spec : {M : Type 1} → statement M
 of-literal-spec =
@@ -89,11 +88,11 @@ of-literal-spec =
     add-class-literal
     class-literal-requires
     enum-told
-    misfit-requires
     enum-known-found
     literal-text-requires
     less-text-requires
     column-of-requires
-    single-row-requires
+    fill-single-requires
     returns
+    same-length
     returns-2)

@@ -18,13 +18,11 @@ use Rattle.rows.specs.Rows.{branchOf}
 use Rattle.conclusions.proofs.s_prop.Statement.{statement}
 use Rattle.conclusions.proofs.s_prop.Tie as tie
 
-misfit-requires : tie.Need-misfit-requires
-misfit-requires c κs = search needs
-
 returns : tie.Need-returns
+unfolding madeOf
 returns c =
-    let s = c .before .before in
-    λ (u : Question) (ep : u .p ≡ s .args .p) (eq : u .q ≡ s .args .q). c .misfit .ensures ∙ s-prop-same u (branchOf (now (s .args .work)) (s .args .count)) (functionOf (s .args .function)) (s .args .x) (s .args .y) (c .before .if1 .taken)
+    let s = c .before in
+    λ (u : Question) (ep : u .p ≡ s .args .p) (eq : u .q ≡ s .args .q). s-prop-same u (branchOf (now (s .args .work)) (s .args .count)) (functionOf (s .args .function)) (s .args .x) (s .args .y) (c .if1 .taken)
 
 labels-requires : tie.Need-labels-requires
 labels-requires c κs = search needs
@@ -38,16 +36,14 @@ mul-same-class-2 c = search needs
 same-class-requires : tie.Need-same-class-requires
 same-class-requires c κs = search needs
 
-misfit-requires-2 : tie.Need-misfit-requires-2
-misfit-requires-2 c κs = search needs
-
 returns-2 : tie.Need-returns-2
+unfolding madeOf
 returns-2 c =
-    let s = c .before .before .before .before .before in
+    let s = c .before .before .before .before in
     let b = branchOf (now (s .args .work)) (s .args .count) in
     let t : sameClass (labels b) (varNode (s .args .x)) (varNode (s .args .y)) ≡ false =
-    ap (λ (ls : List ℕ). sameClass ls (varNode (s .args .x)) (varNode (s .args .y))) (sym (c .before .before .before .labels .ensures)) ∙ sym (c .before .before .same-class .ensures) ∙ not-true _ (c .before .if2 .taken) in
-    λ (u : Question) (ep : u .p ≡ s .args .p) (eq : u .q ≡ s .args .q). c .misfit2 .ensures ∙ s-prop-apart u b (functionOf (s .args .function)) (s .args .x) (s .args .y) (c .before .before .before .before .if1 .left) t
+    ap (λ (ls : List ℕ). sameClass ls (varNode (s .args .x)) (varNode (s .args .y))) (sym (c .before .before .labels .ensures)) ∙ sym (c .before .same-class .ensures) ∙ not-true _ (c .if2 .taken) in
+    λ (u : Question) (ep : u .p ≡ s .args .p) (eq : u .q ≡ s .args .q). s-prop-apart u b (functionOf (s .args .function)) (s .args .x) (s .args .y) (c .before .before .before .if1 .left) t
 
 column-of-requires : tie.Need-column-of-requires
 column-of-requires c κs = search needs
@@ -55,38 +51,40 @@ column-of-requires c κs = search needs
 column-of-requires-2 : tie.Need-column-of-requires-2
 column-of-requires-2 c κs = search needs
 
-difference-row-requires : tie.Need-difference-row-requires
-difference-row-requires c κs = search needs
+fill-difference-requires : tie.Need-fill-difference-requires
+fill-difference-requires c κs = search needs
+
+same-length : tie.Need-same-length
+same-length c = search needs
 
 returns-3 : tie.Need-returns-3
 unfolding madeOf
 returns-3 c =
-    let s = c .before .before .before .before .before .before .before in
+    let s = c .before .before .before .before .before .before .before .before .before in
     let a = s .args in
     let b = branchOf (now (a .work)) (a .count) in
     let t : sameClass (labels b) (varNode (a .x)) (varNode (a .y)) ≡ true =
-    ap (λ (ls : List ℕ). sameClass ls (varNode (a .x)) (varNode (a .y))) (sym (c .before .before .before .before .before .labels .ensures)) ∙ sym (c .before .before .before .before .same-class .ensures) ∙ not-false _ (c .before .before .before .if2 .left) in
+    ap (λ (ls : List ℕ). sameClass ls (varNode (a .x)) (varNode (a .y))) (sym (c .before .before .before .before .before .before .before .labels .ensures)) ∙ sym (c .before .before .before .before .before .before .same-class .ensures) ∙ not-false _ (c .before .before .before .before .before .if2 .left) in
     λ (u : Question) (ep : u .p ≡ a .p) (eq : u .q ≡ a .q).
-    ap (λ (f : Fact). some (one f)) (c .difference-row .ensures)
-    ∙ ap some (s-prop-adds u (a .function) (a .x) (a .y) (c .before .before .column-of .result) (c .before .column-of2 .result) (c .before .before .before .before .before .before .if1 .left)
-    (c .before .before .column-of .ensures .0 ∙ ap₂ (λ (p q : ℕ). columnOf p q (a .function) (a .x)) (sym ep) (sym eq))
-    (c .before .column-of2 .ensures .0 ∙ ap₂ (λ (p q : ℕ). columnOf p q (a .function) (a .y)) (sym ep) (sym eq))
-    (c .before .before .column-of .ensures .1) (c .before .column-of2 .ensures .1))
-    ∙ s-prop-fits u b (functionOf (a .function)) (a .x) (a .y) (c .before .before .before .before .before .before .if1 .left) t
+    ap (λ (f : Fact). some (one f)) (c .before .fill-difference .ensures)
+    ∙ ap some (s-prop-adds u (a .function) (a .x) (a .y) (c .before .before .before .column-of .result) (c .before .before .column-of2 .result) (c .before .before .before .before .before .before .before .before .if1 .left)
+    (c .before .before .before .column-of .ensures .0 ∙ ap₂ (λ (p q : ℕ). columnOf p q (a .function) (a .x)) (sym ep) (sym eq))
+    (c .before .before .column-of2 .ensures .0 ∙ ap₂ (λ (p q : ℕ). columnOf p q (a .function) (a .y)) (sym ep) (sym eq))
+    (c .before .before .before .column-of .ensures .1) (c .before .before .column-of2 .ensures .1))
+    ∙ s-prop-fits u b (functionOf (a .function)) (a .x) (a .y) (c .before .before .before .before .before .before .before .before .if1 .left) t
 
 pub s-prop-spec : {M : Type 1} → statement M
 s-prop-spec =
     tie.close
     (tie.spec
-    misfit-requires
     returns
     labels-requires
     mul-same-class
     mul-same-class-2
     same-class-requires
-    misfit-requires-2
     returns-2
     column-of-requires
     column-of-requires-2
-    difference-row-requires
+    fill-difference-requires
+    same-length
     returns-3)

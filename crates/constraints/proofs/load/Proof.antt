@@ -17,7 +17,7 @@ use Rattle.question.proofs.Standing.{literals-within}
 use Rattle.question.specs.Posed.{asked}
 use Rattle.question.specs.Standing.{ConstraintAt}
 use Rattle.rows.proofs.Small.{fine-put, fine-start}
-use Rattle.rows.specs.Rows.{branchOf, factOf}
+use Rattle.rows.specs.Rows.{branchOf}
 use Rattle.rows.specs.Work.{Fine}
 use Rattle.constraints.specs.Constraints.{constraintFault}
 use Rattle.constraints.proofs.Loading.{loaded-all, loaded-more}
@@ -66,24 +66,20 @@ add-u16-at c = omega (arith, stands (c .before) .whole)
 u16-at-requires : tie.Need-u16-at-requires Inv-loop μ-loop
 u16-at-requires c κs = omega (arith, stands (c .before) .whole)
 
-add-constraint-row : tie.Need-add-constraint-row Inv-loop μ-loop
-add-constraint-row c = omega (arith, stands (c .before .before) .whole)
+add-put-constraint : tie.Need-add-put-constraint Inv-loop μ-loop
+add-put-constraint c = omega (arith, stands (c .before .before .before) .whole)
 
-constraint-row-requires : tie.Need-constraint-row-requires Inv-loop μ-loop
-constraint-row-requires c κs =
-    rw (c .u16-at .ensures .0, c .before .u32-at .ensures .0) (omega (arith, stands (c .before .before) .whole), formed (c .before .before))
-
-put-row-requires : tie.Need-put-row-requires Inv-loop μ-loop
-put-row-requires c κs =
-    let l = c .before .before .before .before .before .loop in
-    let s = c .before .before .before .before .before .before .before .before in
-    (omega (arith, s .pre .0 .stands .few-constraints), l .inv .3 .room)
+put-constraint-requires : tie.Need-put-constraint-requires Inv-loop μ-loop
+put-constraint-requires c κs =
+    let l = c .before .before .before .before .loop in
+    let s = c .before .before .before .before .before .before .before in
+    ((omega (arith, s .pre .0 .stands .few-constraints), l .inv .3 .room), rw (c .before .u16-at .ensures .0, c .before .before .u32-at .ensures .0) (omega (arith, stands (c .before .before .before) .whole), formed (c .before .before .before)))
 
 add-at : tie.Need-add-at Inv-loop μ-loop
-add-at c = omega (arith, stands (c .before .before .before .before .before .before) .whole)
+add-at c = omega (arith, stands (c .before .before .before .before .before) .whole)
 
 add-at-2 : tie.Need-add-at-2 Inv-loop μ-loop
-add-at-2 c = omega (arith, stands (c .before .before .before .before .before .before) .whole, c .before .before .before .before .before .u32-at .ensures .0)
+add-at-2 c = omega (arith, stands (c .before .before .before .before .before) .whole, c .before .before .before .before .u32-at .ensures .0)
 
 add-k : tie.Need-add-k Inv-loop μ-loop
 add-k c = search needs
@@ -93,24 +89,23 @@ loop-less c = search needs
 
 loop-again : tie.Need-loop-again Inv-loop μ-loop
 loop-again c =
-    let l = c .before .before .before .before .before .before .before .loop in
-    let s = c .before .before .before .before .before .before .before .before .before .before in
+    let l = c .before .before .before .before .before .before .loop in
+    let s = c .before .before .before .before .before .before .before .before .before in
     let b : List ℕ = now (s .args .ticket) in
-    let from : ℕ = c .before .before .before .before .before .before .before .before .behind-literals .result in
-    let v : List ℤ = c .before .put-row .last .0 in
+    let from : ℕ = c .before .before .before .before .before .before .before .behind-literals .result in
+    let v : List ℤ = c .before .put-constraint .last .0 in
     let f : Fact = constraintOf b (kind b (l .at)) (l .at + 6) (size b (l .at)) in
-    let size-is : c .before .before .before .before .before .u32-at .result ≡ size b (l .at) = c .before .before .before .before .before .u32-at .ensures .0 in
-    let fact-is : factOf (c .before .before .before .constraint-row .result) ≡ f =
-    c .before .before .before .constraint-row .ensures ∙ ap₂ (λ (k m : ℕ). constraintOf b k (l .at + 6) m) (c .before .before .before .before .u16-at .ensures .0) size-is in
-    let put : branchOf v (l .k + 1) ≡ branchOf (l .work) (l .k) ++ (f ∷ []) = c .before .put-row .ensures ∙ ap (λ (x : Fact). branchOf (l .work) (l .k) ++ (x ∷ [])) fact-is in
-    let kept : length v ≡ length (l .work) = c .before .put-row .kept .0 in
+    let size-is : c .before .before .before .before .u32-at .result ≡ size b (l .at) = c .before .before .before .before .u32-at .ensures .0 in
+    let put : branchOf v (l .k + 1) ≡ branchOf (l .work) (l .k) ++ (f ∷ []) =
+    c .before .put-constraint .ensures ∙ ap₂ (λ (k m : ℕ). branchOf (l .work) (l .k) ++ (constraintOf b k (l .at + 6) m ∷ [])) (c .before .before .before .u16-at .ensures .0) size-is in
+    let kept : length v ≡ length (l .work) = c .before .put-constraint .kept .0 in
     let less : s .args .s .constraints - l .k - 1 ≡ s .args .s .constraints - (l .k + 1) = omega arith in
     let few = s .pre .0 .stands .few-constraints in
     rw size-is (
       omega arith,
       ap (next b) (l .inv .1) ∙ sym (skip-snoc b (l .k) from) ∙ ap (λ (k : ℕ). skip b k from) (sym (add-one (l .k))),
       kept ∙ l .inv .2,
-      fine-put (l .work) v (l .k) f (l .inv .3) (omega arith) kept put (constraint-within b (kind b (l .at)) (l .at + 6) (size b (l .at)) (formed (c .before .before .before .before .before .before))),
+      fine-put (l .work) v (l .k) f (l .inv .3) (omega arith) kept put (constraint-within b (kind b (l .at)) (l .at + 6) (size b (l .at)) (formed (c .before .before .before .before .before))),
       rw (put, ← less) (loaded-more b (l .at) (s .args .s .constraints - l .k) (branchOf (l .work) (l .k)) (omega arith)) ∙ l .inv .4,
     )
 
@@ -139,9 +134,8 @@ load-spec =
     u32-at-requires
     add-u16-at
     u16-at-requires
-    add-constraint-row
-    constraint-row-requires
-    put-row-requires
+    add-put-constraint
+    put-constraint-requires
     add-at
     add-at-2
     add-k

@@ -1,46 +1,50 @@
 -- `derivation::take_split` meets its contract.
+use Prim.Native.Nat.{ℕ, _+_}
 use borrow.Author.Needs.{needs}
 use denote.Ref.{now}
-use mathlib.Core.Path.{sym, _∙_, subst}
+use mathlib.Core.Path.{_≡_, sym, _∙_, subst}
+use native.Mathlib.Omega.{arith}
 use Rattle.rows.specs.Rows.{branchOf}
 use Rattle.question.specs.Posed.{asked}
-use Rattle.branch.specs.Stack.{stack}
-use Rattle.derivation.specs.State.{waitings}
-use Prim.Native.Nat.{ℕ, _+_}
-use native.Mathlib.Omega.{arith}
 use Rattle.steps.proofs.Children.{few-children}
 use Rattle.rules.proofs.Rooms.{some-child}
 use Rattle.derivation.specs.Ok.{Splits}
-use Rattle.derivation.proofs.Holding.{fine, waiting}
-use Rattle.derivation.proofs.Taking.{step-refused, step-moved, its-splits, room-to-pend}
+use Rattle.derivation.specs.Actions.{Acts}
+use Rattle.derivation.proofs.Holding.{puts}
+use Rattle.derivation.proofs.Taking.{numbered, its-splits, room-to-pend, first-begins}
 use Rattle.derivation.proofs.take_split.Statement.{statement}
 use Rattle.derivation.proofs.take_split.Tie as tie
+
+-- none of 8 to 10 applies: the step splits the branch, as its form shows
+splits : (c : tie.After-child-count) → let s = c .before .before .before .before .before in let b = now (s .args .ticket) in Splits b (asked b (s .args .s)) (branchOf (now (s .args .work)) (s .args .count)) (s .args .at) (c .child-count .result)
+unfolding asked
+splits c =
+    let s = c .before .before .before .before .before in
+    let a = s .args in
+    let b = now (a .ticket) in
+    let u = asked b (a .s) in
+    let br = branchOf (now (a .work)) (a .count) in
+    subst (λ (n : ℕ). Splits b u br (a .at) n) (sym (c .child-count .ensures)) (its-splits b u br (a .at) (a .size) (a .pending) (s .pre .1 .0 .0) (s .pre .1 .0 .1) (sym (c .before .before .split-fault .ensures) ∙ c .before .if1 .left))
 
 add-split-fault : tie.Need-add-split-fault
 add-split-fault c = search needs
 
-cast-split-fault : tie.Need-cast-split-fault
-cast-split-fault c = search needs
-
-cast-split-fault-2 : tie.Need-cast-split-fault-2
-cast-split-fault-2 c = search needs
-
 split-fault-requires : tie.Need-split-fault-requires
 split-fault-requires c κs =
-    let s = c .before .before .before .before in
-    (s .pre .0 .posed, ((s .pre .1 .1, s .pre .1 .2), fine (s .pre .0)))
+    let s = c .before .before in
+    (s .pre .0, ((s .pre .1 .0 .1, s .pre .1 .0 .2), s .pre .1 .1))
 
 same-length : tie.Need-same-length
 same-length c = search needs
 
 returns : tie.Need-returns
+unfolding Acts
 returns c =
-    let s = c .before .before .before .before .before .before in
+    let s = c .before .before .before .before in
     let a = s .args in
     let b = now (a .ticket) in
     let u = asked b (a .s) in
-    let br = branchOf (now (a .work)) (a .b .count) in
-    (step-refused b u br (waitings b u br (stack (a .b))) (a .at) (a .size) (a .b .depth) (s .pre .1 .0) (waiting (s .pre .0)) (c .before .split-fault .result) (c .if1 .taken) (c .before .split-fault .ensures), tt)
+    (numbered b u (branchOf (now (a .work)) (a .count)) (a .at) (a .size) (s .pre .1 .0 .0) (a .pending) (c .before .split-fault .result) (c .before .split-fault .ensures), c .if1 .taken)
 
 add-child-count : tie.Need-add-child-count
 add-child-count c = search needs
@@ -48,43 +52,59 @@ add-child-count c = search needs
 child-count-requires : tie.Need-child-count-requires
 child-count-requires c κs = search needs
 
-begin-requires : tie.Need-begin-requires
-unfolding asked
-begin-requires c κs =
-    let s = c .before .before .before .before .before .before .before .before in
+add-put-child : tie.Need-add-put-child
+add-put-child c = search needs
+
+put-child-requires : tie.Need-put-child-requires
+put-child-requires c κs =
+    let s = c .before .before .before .before .before .before in
     let a = s .args in
-    let b = now (a .ticket) in
-    let u = asked b (a .s) in
-    let br = branchOf (now (a .work)) (a .b .count) in
-    let last = c .before .child-count .ensures in
-    let tried = sym (c .before .before .before .split-fault .ensures) ∙ c .before .before .if1 .left in (
-      s .pre .0,
-      (
-        (s .pre .1 .0, s .pre .1 .2),
-        (
-          subst (λ (n : ℕ). Splits b u br (a .at) n) (sym last) (its-splits b u br (a .at) (a .size) (a .b .depth) (s .pre .1 .0) (s .pre .1 .1) tried),
-          (
-            rw last (some-child b (a .s .n) (a .at + 6) (a .size) (s .pre .1 .1 .fits) (s .pre .1 .2)),
-            omega (arith, last, few-children b (a .s .n) (a .at + 6) (a .size) (s .pre .1 .1 .fits)),
-            λ h. room-to-pend b u br (a .at) (a .size) (a .b .depth) (s .pre .1 .0) (s .pre .1 .1) tried (rw last at h),
-          ),
-        ),
-      ),
-    )
+    puts (now (a .ticket)) (a .s) (now (a .work)) (a .at) (c .before .child-count .result) 1 (a .size) (a .count) (s .pre .0) (splits (c .before)) (s .pre .1 .0 .2) (s .pre .1 .1) (omega arith)
+    (rw (c .before .child-count .ensures) (some-child (now (a .ticket)) (a .s .n) (a .at + 6) (a .size) (s .pre .1 .0 .1 .fits) (s .pre .1 .0 .2))) (s .pre .1 .0 .0)
 
 same-length-2 : tie.Need-same-length-2
 same-length-2 c = search needs
 
 returns-2 : tie.Need-returns-2
+unfolding asked Acts
 returns-2 c =
-    let s = c .before .before .before .before .before .before .before .before .before .before in
+    let s = c .before .before .before .before .before .before .before .before .before in
     let a = s .args in
     let b = now (a .ticket) in
     let u = asked b (a .s) in
-    let br = branchOf (now (a .work)) (a .b .count) in (
-      c .before .begin .ensures .0
-          ∙ step-moved b u br (waitings b u br (stack (a .b))) (a .at) (a .size) (a .b .depth) (s .pre .1 .0) (waiting (s .pre .0)) (sym (c .before .before .before .before .if1 .left) ∙ c .before .before .before .before .before .split-fault .ensures),
-      c .before .begin .ensures .1,
+    let br = branchOf (now (a .work)) (a .count) in
+    let f = c .before .before .put-child in
+    let last = c .before .before .before .before .child-count .ensures in
+    let one : c .before .before .before .before .child-count .result ≡ 1 = omega (arith, c .if2 .taken, last, some-child b (a .s .n) (a .at + 6) (a .size) (s .pre .1 .0 .1 .fits) (s .pre .1 .0 .2)) in (
+      numbered b u br (a .at) (a .size) (s .pre .1 .0 .0) (a .pending) 0 (sym (c .before .before .before .before .before .if1 .left) ∙ c .before .before .before .before .before .before .split-fault .ensures),
+      first-begins b u br (a .at) (a .size) (s .pre .1 .0 .0) 1 (subst (λ (n : ℕ). Splits b u br (a .at) n) one (splits (c .before .before .before .before))) (f .last .1 .1 .1 .1 .0) (f .result) (f .ensures .0) (f .ensures .1),
+    )
+
+same-length-3 : tie.Need-same-length-3
+same-length-3 c = search needs
+
+returns-3 : tie.Need-returns-3
+unfolding asked Acts
+returns-3 c =
+    let s = c .before .before .before .before .before .before .before .before .before in
+    let a = s .args in
+    let b = now (a .ticket) in
+    let u = asked b (a .s) in
+    let br = branchOf (now (a .work)) (a .count) in
+    let f = c .before .before .put-child in
+    let last = c .before .before .before .before .child-count .ensures in
+    let two = c .if2 .left in
+    let tried = sym (c .before .before .before .before .before .before .split-fault .ensures) ∙ c .before .before .before .before .before .if1 .left in (
+      numbered b u br (a .at) (a .size) (s .pre .1 .0 .0) (a .pending) 0 (sym tried),
+      (
+        first-begins b u br (a .at) (a .size) (s .pre .1 .0 .0) (c .before .before .before .before .child-count .result) (splits (c .before .before .before .before)) (f .last .1 .1 .1 .1 .0) (f .result) (f .ensures .0) (f .ensures .1),
+        record {
+          several = s .pre .1 .0 .2;
+          two = two;
+          few = omega (arith, last, few-children b (a .s .n) (a .at + 6) (a .size) (s .pre .1 .0 .1 .fits));
+          room = room-to-pend b u br (a .at) (a .size) (a .pending) (s .pre .1 .0 .0) (s .pre .1 .0 .1) tried (rw last at two);
+        },
+      ),
     )
 
 pub take-split-spec : {M : Type 1} → statement M
@@ -92,13 +112,14 @@ take-split-spec =
     tie.close
     (tie.spec
     add-split-fault
-    cast-split-fault
-    cast-split-fault-2
     split-fault-requires
     same-length
     returns
     add-child-count
     child-count-requires
-    begin-requires
+    add-put-child
+    put-child-requires
     same-length-2
-    returns-2)
+    returns-2
+    same-length-3
+    returns-3)

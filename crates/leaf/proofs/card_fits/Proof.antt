@@ -1,64 +1,75 @@
 -- `leaf::card_fits` meets its contract.
+use Prim.Native.Nat.{ℕ}
 use borrow.Author.Needs.{needs}
 use denote.Ref.{now}
-use lib.Dec.{leb}
 use lib.IntN.{natAbs, ℤ}
 use lib.ListN.{length}
 use mathlib.Core.List.{[]}
-use mathlib.Core.Path.{_∙_, _≡_, ap, ap₂, sym}
+use mathlib.Core.Path.{_∙_, _≡_, ap, sym}
 use mir.Facts.{toZ-ofZ}
 use Rattle.calculus.specs.Facts.{len}
 use Rattle.calculus.specs.Model.{modelOf}
 use Rattle.calculus.specs.SaturationTest.{lowestOf}
-use Rattle.leaf.proofs.Laws.{card-few, card-many, card-unary}
+use Rattle.leaf.proofs.Laws.{card-few, card-many, card-roomy}
 use Rattle.leaf.specs.Leaf.{asked}
+use Rattle.leaf.specs.Values.{roomy}
 use Rattle.leaf.proofs.card_fits.Statement.{statement}
 use Rattle.leaf.proofs.card_fits.Tie as tie
 
+-- the length of x without its sign
+size-is : (c : tie.After-magnitude) → c .magnitude .result ≡ natAbs (modelOf (asked [] (c .before .before .args .leaf)) (now (c .before .before .args .model)) len (c .before .before .args .x))
+size-is c = c .magnitude .ensures ∙ ap natAbs (toZ-ofZ (record { sfits = c .before .len-of .ok }) ∙ c .before .len-of .ensures)
+
 -- the classes of the length of x
 count-is : (c : tie.After-classes-of) → c .classes-of .result
-    ≡ length (lowestOf (asked [] (c .before .before .args .leaf)) (c .before .before .args .leaf .labels) (now (c .before .before .args .model)) (modelOf (asked [] (c .before .before .args .leaf)) (now (c .before .before .args .model)) len (c .before .before .args .x)) (c .before .before .args .leaf .p))
+    ≡ length (lowestOf (asked [] (c .before .before .before .before .before .args .leaf)) (c .before .before .before .before .before .args .leaf .labels) (now (c .before .before .before .before .before .args .model)) (modelOf (asked [] (c .before .before .before .before .before .args .leaf)) (now (c .before .before .before .before .before .args .model)) len (c .before .before .before .before .before .args .x)) (c .before .before .before .before .before .args .leaf .p))
 count-is c =
-    let s = c .before .before .args in
+    let s = c .before .before .before .before .before .args in
     c .classes-of .ensures .0
-    ∙ ap (λ (z : ℤ). length (lowestOf (asked [] (s .leaf)) (s .leaf .labels) (now (s .model)) z (s .leaf .p))) (toZ-ofZ (record { sfits = c .before .len-of .ok }) ∙ c .before .len-of .ensures)
+    ∙ ap (λ (z : ℤ). length (lowestOf (asked [] (s .leaf)) (s .leaf .labels) (now (s .model)) z (s .leaf .p))) (toZ-ofZ (record { sfits = c .before .before .before .before .len-of .ok }) ∙ c .before .before .before .before .len-of .ensures)
 
 len-of-requires : tie.Need-len-of-requires
 len-of-requires c κs = search needs
 
-classes-of-requires : tie.Need-classes-of-requires
-classes-of-requires c κs = search needs
+magnitude-requires : tie.Need-magnitude-requires
+magnitude-requires c κs = search needs
+
+has-room-requires : tie.Need-has-room-requires
+has-room-requires c κs = search needs
 
 returns : tie.Need-returns
 returns c =
-    let s = c .before .before .before .args in
-    sym (card-few (asked [] (s .leaf)) (s .leaf .labels) (now (s .model)) (s .x) (c .before .classes-of .result) (count-is (c .before)) (c .if1 .taken))
+    let s = c .before .before .before .before .args in
+    sym (card-roomy (asked [] (s .leaf)) (s .leaf .labels) (now (s .model)) (s .x)
+    (ap (λ (k : ℕ). roomy (s .leaf .n) (s .leaf .p) k) (sym (size-is (c .before .before))) ∙ sym (c .before .has-room .ensures) ∙ c .if1 .taken))
+
+classes-of-requires : tie.Need-classes-of-requires
+classes-of-requires c κs = search needs
 
 returns-2 : tie.Need-returns-2
 returns-2 c =
-    let s = c .before .before .before .before .before .args in
-    sym (card-unary (asked [] (s .leaf)) (s .leaf .labels) (now (s .model)) (s .x) (c .before .before .before .classes-of .result) (count-is (c .before .before .before)) (c .before .before .if1 .left) (c .if2 .taken))
+    let s = c .before .before .before .before .before .before .args in
+    sym (card-few (asked [] (s .leaf)) (s .leaf .labels) (now (s .model)) (s .x) (c .before .classes-of .result) (count-is (c .before)) (c .if2 .taken))
 
-log-up-requires : tie.Need-log-up-requires
-log-up-requires c κs = search needs
-
-magnitude-requires : tie.Need-magnitude-requires
-magnitude-requires c κs = search needs
+has-room-requires-2 : tie.Need-has-room-requires-2
+has-room-requires-2 c κs = search needs
 
 returns-3 : tie.Need-returns-3
 returns-3 c =
     let s = c .before .before .before .before .before .before .before .args in
-    ap₂ leb (c .before .log-up .ensures .0) (c .magnitude .ensures ∙ ap natAbs (toZ-ofZ (record { sfits = c .before .before .before .before .before .before .len-of .ok }) ∙ c .before .before .before .before .before .before .len-of .ensures))
-    ∙ sym (card-many (asked [] (s .leaf)) (s .leaf .labels) (now (s .model)) (s .x) (c .before .before .before .before .before .classes-of .result) (count-is (c .before .before .before .before .before)) (c .before .before .before .before .if1 .left) (c .before .before .if2 .left))
+    let count = c .before .before .classes-of .result in
+    c .has-room2 .ensures ∙ ap (λ (k : ℕ). roomy (s .leaf .n) count k) (size-is (c .before .before .before .before .before))
+    ∙ sym (card-many (asked [] (s .leaf)) (s .leaf .labels) (now (s .model)) (s .x) count (count-is (c .before .before)) (c .before .if2 .left))
 
 pub card-fits-spec : {M : Type 1} → statement M
 card-fits-spec =
     tie.close
     (tie.spec
     len-of-requires
-    classes-of-requires
-    returns
-    returns-2
-    log-up-requires
     magnitude-requires
+    has-room-requires
+    returns
+    classes-of-requires
+    returns-2
+    has-room-requires-2
     returns-3)

@@ -17,6 +17,7 @@ use Rattle.rows.proofs.Values.{any-at, any-snoc}
 use Rattle.rows.specs.Rows.{branchOf, factOf, rowAt}
 use Rattle.rows.proofs.states_difference.Statement.{statement}
 use Rattle.rows.proofs.states_difference.Tie as tie
+use Rattle.rows.proofs.row_at.Reads as row-at-reads
 
 abbrev Inv-loop : tie.InvT-loop
 Inv-loop work count i j wanted k₀ k = (k ≤ count) × (anyFact (statesZero (minus (column i) (column j))) (branchOf work k) ≡ false)
@@ -25,24 +26,28 @@ abbrev μ-loop : tie.MeasureT-loop
 μ-loop work count i j wanted k₀ k = count - k
 
 -- the row that is looked for
-wanted-is : (c : tie.After-difference-row Inv-loop μ-loop) → c .difference-row .result ≡ pos 1 ∷ minus (column (c .before .args .i)) (column (c .before .args .j))
+wanted-is : (c : tie.After-fill-difference Inv-loop μ-loop) → c .fill-difference .last .0 ≡ pos 1 ∷ minus (column (c .before .before .args .i)) (column (c .before .before .args .j))
 wanted-is c =
-    let a = c .before .args in
-    let n : length (c .difference-row .result) ≡ 50 = search needs in
-    equation-row (c .difference-row .result) _ n (c .difference-row .ensures)
-    ∙ ap (λ (e : List ℤ). pos 1 ∷ e) (sym (columns-difference (a .i) (a .j) (c .before .pre .1 .0) (c .before .pre .1 .1) (c .before .pre .1 .2)))
+    let s = c .before .before in
+    let n : length (c .fill-difference .last .0) ≡ 50 = search needs in
+    equation-row (c .fill-difference .last .0) _ n (c .fill-difference .ensures)
+    ∙ ap (λ (e : List ℤ). pos 1 ∷ e) (sym (columns-difference (s .args .i) (s .args .j) (s .pre .1 .0) (s .pre .1 .1) (s .pre .1 .2)))
 
-test : (c : tie.After-same-row Inv-loop μ-loop) → c .same-row .result ≡ statesZero (minus (column (c .before .before .before .before .before .before .args .i)) (column (c .before .before .before .before .before .before .args .j))) (factOf (rowAt (now (c .before .before .before .before .before .before .args .work)) (c .before .before .before .before .loop .k)))
+test : (c : tie.After-same-row Inv-loop μ-loop)
+    → c .same-row .result ≡ statesZero (minus (column (c .before .before .before .before .before .before .before .before .args .i)) (column (c .before .before .before .before .before .before .before .before .args .j))) (factOf (rowAt (now (c .before .before .before .before .before .before .before .before .args .work)) (c .before .before .before .before .loop .k)))
 test c =
-    let s = c .before .before .before .before .before .before in
+    let s = c .before .before .before .before .before .before .before .before in
     let e = minus (column (s .args .i)) (column (s .args .j)) in
     let row = rowAt (now (s .args .work)) (c .before .before .before .before .loop .k) in
     c .same-row .ensures
-    ∙ ap₂ eqRow (wanted-is (c .before .before .before .before .before)) (c .before .row-at .ensures)
+    ∙ ap₂ eqRow (wanted-is (c .before .before .before .before .before .before)) (c .before .row-at .ensures)
     ∙ sym (states-by-row e row (length-row (now (s .args .work)) (c .before .before .before .before .loop .k) (omega arith)))
 
-difference-row-requires : tie.Need-difference-row-requires Inv-loop μ-loop
-difference-row-requires c κs = search needs
+slice-aggregate-fill-difference : tie.Need-slice-aggregate-fill-difference Inv-loop μ-loop
+slice-aggregate-fill-difference c = search needs
+
+fill-difference-requires : tie.Need-fill-difference-requires Inv-loop μ-loop
+fill-difference-requires c κs = search needs
 
 loop-holds : tie.Need-loop-holds Inv-loop μ-loop
 unfolding branchOf
@@ -56,13 +61,13 @@ row-at-requires c κs = search needs
 
 same-row-requires : tie.Need-same-row-requires Inv-loop μ-loop
 same-row-requires c κs =
-    let s = c .before .before .before .before .before in
+    let s = c .before .before .before .before .before .before .before in
     let k = c .before .before .before .loop .k in
     (search needs, ap length (c .row-at .ensures) ∙ length-row (now (s .args .work)) k (omega arith))
 
 returns : tie.Need-returns Inv-loop μ-loop
 returns c =
-    let s = c .before .before .before .before .before .before .before in
+    let s = c .before .before .before .before .before .before .before .before .before in
     let w = now (s .args .work) in
     let k = c .before .before .before .before .before .loop .k in
     let t = statesZero (minus (column (s .args .i)) (column (s .args .j))) in
@@ -76,7 +81,7 @@ loop-less c = search needs
 
 loop-again : tie.Need-loop-again Inv-loop μ-loop
 loop-again c =
-    let s = c .before .before .before .before .before .before .before in
+    let s = c .before .before .before .before .before .before .before .before .before in
     let w = now (s .args .work) in
     let k = c .before .before .before .before .before .loop .k in
     let t = statesZero (minus (column (s .args .i)) (column (s .args .j))) in (
@@ -88,7 +93,7 @@ loop-again c =
 
 returns-2 : tie.Need-returns-2 Inv-loop μ-loop
 returns-2 c =
-    let s = c .before .before .before in
+    let s = c .before .before .before .before .before in
     let e : c .before .loop .k ≡ s .args .count = omega arith in
     sym (ap (λ (k : ℕ). anyFact (statesZero (minus (column (s .args .i)) (column (s .args .j)))) (branchOf (now (s .args .work)) k)) (sym e) ∙ c .before .loop .inv .1)
 
@@ -98,7 +103,8 @@ states-difference-spec =
     (tie.spec
     Inv-loop
     μ-loop
-    difference-row-requires
+    slice-aggregate-fill-difference
+    fill-difference-requires
     loop-holds
     slice-aggregate-same-row
     row-at-requires

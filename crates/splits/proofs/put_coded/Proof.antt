@@ -1,51 +1,56 @@
 -- `splits::put_coded` meets its contract.
-use Prim.Native.Nat.{_<_}
+use Prim.Native.Nat.{_+_, _<_}
 use borrow.Author.Needs.{needs}
 use lib.IntN.{ℤ, negsuc}
+use mathlib.Core.List.{[], _∷_, _++_}
 use mathlib.Core.Path.{_∙_, ap}
 use mir.Facts.{toZ-pos}
 use mir.Syntax.{w64}
 use native.Mathlib.Omega.{arith}
 use Rattle.calculus.specs.Facts.{arithmetic, ge}
+use Rattle.rows.specs.Rows.{branchOf}
 use Rattle.rows.specs.Work.{single}
 use Rattle.splits.proofs.Forms.{put-two, put-three}
 use Rattle.splits.proofs.put_coded.Statement.{statement}
 use Rattle.splits.proofs.put_coded.Tie as tie
 
-single-row-requires : tie.Need-single-row-requires
-single-row-requires c κs = search needs
+put-single-requires : tie.Need-put-single-requires
+put-single-requires c κs = search needs
 
-put-row-requires : tie.Need-put-row-requires
-put-row-requires c κs = search needs
+add-put-single : tie.Need-add-put-single
+add-put-single c = search needs
 
-add-put-row : tie.Need-add-put-row
-add-put-row c = search needs
+put-single-requires-2 : tie.Need-put-single-requires-2
+put-single-requires-2 c κs = search needs
 
-single-row-requires-2 : tie.Need-single-row-requires-2
-single-row-requires-2 c κs = search needs
+add-put-single-2 : tie.Need-add-put-single-2
+add-put-single-2 c = search needs
 
-put-row-requires-2 : tie.Need-put-row-requires-2
-put-row-requires-2 c κs = search needs
+cast-put-single : tie.Need-cast-put-single
+cast-put-single c = search needs
 
-add-put-row-2 : tie.Need-add-put-row-2
-add-put-row-2 c = search needs
-
-cast-single-row : tie.Need-cast-single-row
-cast-single-row c = search needs
-
-single-row-requires-3 : tie.Need-single-row-requires-3
-single-row-requires-3 c κs = search needs
-
-put-row-requires-3 : tie.Need-put-row-requires-3
-put-row-requires-3 c κs = search needs
+put-single-requires-3 : tie.Need-put-single-requires-3
+put-single-requires-3 c κs = search needs
 
 same-length : tie.Need-same-length
 same-length c = search needs
 
 returns : tie.Need-returns
 returns c =
-    let h : c .before .before .before .before .before .before .before .before .before .before .before .before .args .last < 9223372036854775808 = omega (arith, c .before .before .before .before .before .before .before .before .before .before .before .before .pre) in
-    put-three _ _ _ (c .before .before .before .before .before .before .before .before .before .before .before .before .args .count) _ _ _ _ (put-two _ _ _ (c .before .before .before .before .before .before .before .before .before .before .before .before .args .count) _ _ _ _ (c .before .before .before .before .before .before .before .before .before .put-row .ensures) (c .before .before .before .before .before .put-row2 .ensures) (c .before .before .before .before .before .before .before .before .before .before .single-row .ensures) (c .before .before .before .before .before .before .single-row2 .ensures)) (c .before .put-row3 .ensures) (c .before .before .single-row3 .ensures ∙ ap (λ (z : ℤ). arithmetic ge (single z (c .before .before .before .before .before .before .before .before .before .before .before .before .args .code) (negsuc 0))) (toZ-pos w64 h))
+    let s = c .before .before .before .before .before .before .before .before .before in
+    let h : s .args .last < 9223372036854775808 = omega (arith, s .pre) in
+    put-three _ _ _ (s .args .count) _ _ _ (put-two _ _ _ (s .args .count) _ _ (c .before .before .before .before .before .before .before .put-single .ensures) (c .before .before .before .before .put-single2 .ensures))
+    (c .before .put-single3 .ensures ∙ ap (λ (z : ℤ). branchOf (c .before .before .before .before .put-single2 .last .0) (s .args .count + 2) ++ (arithmetic ge (single z (s .args .code) (negsuc 0)) ∷ [])) (toZ-pos w64 h))
 
 pub put-coded-spec : {M : Type 1} → statement M
-put-coded-spec = tie.close (tie.spec single-row-requires put-row-requires add-put-row single-row-requires-2 put-row-requires-2 add-put-row-2 cast-single-row single-row-requires-3 put-row-requires-3 same-length returns)
+put-coded-spec =
+    tie.close
+    (tie.spec
+    put-single-requires
+    add-put-single
+    put-single-requires-2
+    add-put-single-2
+    cast-put-single
+    put-single-requires-3
+    same-length
+    returns)

@@ -61,8 +61,8 @@ loop-holds c =
 mul-s : tie.Need-mul-s Inv-loop μ-loop
 mul-s c = search needs
 
-element-copy-out-s : tie.Need-element-copy-out-s Inv-loop μ-loop
-element-copy-out-s c = search needs
+slice-copy-out-s : tie.Need-slice-copy-out-s Inv-loop μ-loop
+slice-copy-out-s c = search needs
 
 mul-x : tie.Need-mul-x Inv-loop μ-loop
 mul-x c = search needs
@@ -79,8 +79,8 @@ add-sum c = rw (toZ-ofZ (fz c)) (step-fits (z c) (m c) (x c) _ _ _ (hz c) (hm c)
 mul-t8 : tie.Need-mul-t8 Inv-loop μ-loop
 mul-t8 c = search needs
 
-element-set-from-sum : tie.Need-element-set-from-sum Inv-loop μ-loop
-element-set-from-sum c = search needs
+slice-set-from-sum : tie.Need-slice-set-from-sum Inv-loop μ-loop
+slice-set-from-sum c = search needs
 
 add-j : tie.Need-add-j Inv-loop μ-loop
 add-j c = search needs
@@ -105,6 +105,9 @@ loop-again c =
       kept-more (l .sum) (now (s .args .sum)) (l .j) _ (l .inv .4),
     )
 
+same-length : tie.Need-same-length Inv-loop μ-loop
+same-length c = c .before .loop .inv .2 ∙ sym (c .before .before .pre .1 .1 .0)
+
 returns : tie.Need-returns Inv-loop μ-loop
 returns c =
     let l = c .before .loop in
@@ -122,14 +125,15 @@ add-multiple-spec =
     μ-loop
     loop-holds
     mul-s
-    element-copy-out-s
+    slice-copy-out-s
     mul-x
     shared-slice-copy-out-x
     mul-sum
     add-sum
     mul-t8
-    element-set-from-sum
+    slice-set-from-sum
     add-j
     loop-less
     loop-again
+    same-length
     returns)

@@ -28,10 +28,10 @@ use Rattle.sums.proofs.sum_of.Statement.{statement}
 use Rattle.sums.proofs.sum_of.Tie as tie
 
 abbrev Inv-loop : tie.InvT-loop
-Inv-loop b at pairs work count sum₀ i₀ sum i = Summing work count b at pairs sum i
+Inv-loop sum₀ b at pairs work count i₀ sum i = Summing work count b at pairs sum i
 
 abbrev μ-loop : tie.MeasureT-loop
-μ-loop b at pairs work count sum₀ i₀ sum i = pairs - i
+μ-loop sum₀ b at pairs work count i₀ sum i = pairs - i
 
 -- the pair read
 module _ (c : tie.After-i32-at Inv-loop μ-loop) where
@@ -67,7 +67,7 @@ module _ (c : tie.After-i32-at Inv-loop μ-loop) where
 
   -- where there is no sum
   nothing : sumFrom (branchOf w count) (zeros 49) (pairsAt b at' n) ≡ none → none ≡ geRow (sumOf (branchOf w count) (pairsAt b at' n))
-  nothing e = sym (ap geRow (sym (summing-all w count b at' n (c .before .before .before .before .before .pre .1 .1) (c .before .before .before .before .before .pre .0 .0)) ∙ e))
+  nothing e = sym (ap geRow (sym (summing-all w count b at' n (c .before .before .before .before .before .pre .1 .1 .1) (c .before .before .before .before .before .pre .1 .0 .0)) ∙ e))
 
 -- the row named and its test
 module _ (c : tie.After-row-at Inv-loop μ-loop) where
@@ -78,7 +78,7 @@ module _ (c : tie.After-row-at Inv-loop μ-loop) where
   row-is = c .row-at .ensures ∙ ap (rowAt (w (c .before .before))) (fact-is (c .before .before))
 
   long : length (rowAt (w (c .before .before)) (fact (c .before .before))) ≡ 50
-  long = let f = c .before .before .before .before .before .before .before .pre .1 .1 in let few = f .few in let room = f .room in let h = on-branch in length-row (w (c .before .before)) (fact (c .before .before)) (omega arith)
+  long = let f = c .before .before .before .before .before .before .before .pre .1 .1 .1 in let few = f .few in let room = f .room in let h = on-branch in length-row (w (c .before .before)) (fact (c .before .before)) (omega arith)
 
 test : (c : tie.After-takes Inv-loop μ-loop) → c .takes .result ≡ fits (summand (multiplier (c .before .before .before)) (factOf (rowAt (w (c .before .before .before)) (fact (c .before .before .before)))))
 test c = c .takes .ensures ∙ ap₂ (λ (m : ℤ) (r : List ℤ). fits (summand m (factOf r))) (multiplier-is (c .before .before .before)) (row-is (c .before))
@@ -87,7 +87,10 @@ passed : (c : tie.Else2 Inv-loop μ-loop) → fits (summand (multiplier (c .befo
 passed c = sym (test (c .before)) ∙ not-false _ (c .if2 .left)
 
 loop-holds : tie.Need-loop-holds Inv-loop μ-loop
-loop-holds c = let s = c .before in summing-start (now (s .args .work)) (s .args .count) (now (s .args .b)) (s .args .at) (s .args .pairs) (s .pre .1 .0)
+loop-holds c =
+    let s = c .before in
+    subst (λ (l : List ℤ). Summing (now (s .args .work)) (s .args .count) (now (s .args .b)) (s .args .at) (s .args .pairs) l 0) (sym (s .pre .0))
+    (summing-start (now (s .args .work)) (s .args .count) (now (s .args .b)) (s .args .at) (s .args .pairs) (s .pre .1 .1 .0))
 
 mul-place : tie.Need-mul-place Inv-loop μ-loop
 mul-place c = search needs
@@ -104,6 +107,9 @@ add-i32-at c = search needs
 i32-at-requires : tie.Need-i32-at-requires Inv-loop μ-loop
 i32-at-requires c κs = search needs
 
+same-length : tie.Need-same-length Inv-loop μ-loop
+same-length c = c .before .before .before .before .loop .inv .long ∙ sym (ap length (c .before .before .before .before .before .before .pre .0))
+
 returns : tie.Need-returns Inv-loop μ-loop
 unfolding rowIn
 returns c =
@@ -111,10 +117,13 @@ returns c =
     nothing p (summing-absent (w p) (count p) (b p) (at' p) (n p) (c .before .before .before .before .loop .sum) (i p) (c .before .before .before .before .loop .inv) (c .before .before .before .loop-test .taken) (subst (λ (k : ℕ). count p ≤ k) (fact-is p) (c .if1 .taken)))
 
 row-at-requires : tie.Need-row-at-requires Inv-loop μ-loop
-row-at-requires c κs = let f = c .before .before .before .before .before .before .pre .1 .1 in let few = f .few in (omega arith, f .room)
+row-at-requires c κs = let f = c .before .before .before .before .before .before .pre .1 .1 .1 in let few = f .few in (omega arith, f .room)
 
 takes-requires : tie.Need-takes-requires Inv-loop μ-loop
 takes-requires c κs = ap length (row-is c) ∙ long c
+
+same-length-2 : tie.Need-same-length-2 Inv-loop μ-loop
+same-length-2 c = c .before .before .before .before .before .before .before .loop .inv .long ∙ sym (ap length (c .before .before .before .before .before .before .before .before .before .pre .0))
 
 returns-2 : tie.Need-returns-2 Inv-loop μ-loop
 unfolding rowIn
@@ -130,11 +139,11 @@ add-multiple-requires c κs =
       (
         ap length (row-is (c .before .before .before)) ∙ long (c .before .before .before),
         ap (λ (r : List ℤ). rowWithin (drop 1 r)) (row-is (c .before .before .before))
-            ∙ row-small (w p) (count p) (b p) (at' p) (n p) (c .before .before .before .before .before .before .before .before .loop .sum) (i p) s h (on-branch (c .before .before .before)) (c .before .before .before .before .before .before .before .before .before .before .pre .1 .1) (passed (c .before)),
+            ∙ row-small (w p) (count p) (b p) (at' p) (n p) (c .before .before .before .before .before .before .before .before .loop .sum) (i p) s h (on-branch (c .before .before .before)) (c .before .before .before .before .before .before .before .before .before .before .pre .1 .1 .1) (passed (c .before)),
       ),
       (
         subst (λ (m : ℤ). natAbs m ≤ 1000000000) (sym (multiplier-is p)) (multiplier-small (w p) (count p) (b p) (at' p) (n p) (c .before .before .before .before .before .before .before .before .loop .sum) (i p) s h),
-        (s .long, λ j. let k = s .small j in let few = c .before .before .before .before .before .before .before .before .before .before .pre .0 .1 in le-trans k (omega arith)),
+        (s .long, λ j. let k = s .small j in let few = c .before .before .before .before .before .before .before .before .before .before .pre .1 .0 .1 in le-trans k (omega arith)),
       ),
     )
 
@@ -146,13 +155,16 @@ loop-less c = search needs
 
 loop-again : tie.Need-loop-again Inv-loop μ-loop
 loop-again c =
-    let p = c .before .before .before .before .before .before in
-    let s = c .before .before .before .before .before .before .before .before .before .loop .inv in
-    let h = c .before .before .before .before .before .before .before .before .loop-test .taken in
-    let e : c .add-multiple .last .0 ≡ added (c .before .before .before .before .before .before .before .before .before .loop .sum) (multiplier p) (rowAt (w p) (fact p)) =
-    c .add-multiple .ensures ∙ ap₂ (λ (m : ℤ) (r : List ℤ). added (c .before .before .before .before .before .before .before .before .before .loop .sum) m r) (multiplier-is p) (row-is (c .before .before .before .before)) in
+    let p = c .before .before .before .before .before .before .before in
+    let s = c .before .before .before .before .before .before .before .before .before .before .loop .inv in
+    let h = c .before .before .before .before .before .before .before .before .before .loop-test .taken in
+    let e : c .before .add-multiple .last .0 ≡ added (c .before .before .before .before .before .before .before .before .before .before .loop .sum) (multiplier p) (rowAt (w p) (fact p)) =
+    c .before .add-multiple .ensures ∙ ap₂ (λ (m : ℤ) (r : List ℤ). added (c .before .before .before .before .before .before .before .before .before .before .loop .sum) m r) (multiplier-is p) (row-is (c .before .before .before .before .before)) in
     subst (λ (l : List ℤ). Summing (w p) (count p) (b p) (at' p) (n p) l (i p + 1)) (sym e)
-    (summing-more (w p) (count p) (b p) (at' p) (n p) (c .before .before .before .before .before .before .before .before .before .loop .sum) (i p) s h (on-branch (c .before .before .before .before)) (c .before .before .before .before .before .before .before .before .before .before .before .pre .1 .1) (passed (c .before .before)) (long (c .before .before .before .before)))
+    (summing-more (w p) (count p) (b p) (at' p) (n p) (c .before .before .before .before .before .before .before .before .before .before .loop .sum) (i p) s h (on-branch (c .before .before .before .before .before)) (c .before .before .before .before .before .before .before .before .before .before .before .before .pre .1 .1 .1) (passed (c .before .before .before)) (long (c .before .before .before .before .before)))
+
+same-length-3 : tie.Need-same-length-3 Inv-loop μ-loop
+same-length-3 c = c .before .loop .inv .long ∙ sym (ap length (c .before .before .before .pre .0))
 
 returns-3 : tie.Need-returns-3 Inv-loop μ-loop
 unfolding rowIn
@@ -163,7 +175,7 @@ returns-3 c =
     let b = now (s .args .b) in
     let e = summing-done w (s .args .count) b (s .args .at) (s .args .pairs) (l .sum) (l .i) (l .inv) (c .loop-test .left) in
     ap some (tag-first (l .sum) (pos 0) (l .inv .long) (l .inv .tag))
-    ∙ sym (ap geRow (sym (summing-all w (s .args .count) b (s .args .at) (s .args .pairs) (s .pre .1 .1) (s .pre .0 .0)) ∙ e))
+    ∙ sym (ap geRow (sym (summing-all w (s .args .count) b (s .args .at) (s .args .pairs) (s .pre .1 .1 .1) (s .pre .1 .0 .0)) ∙ e))
 
 pub sum-of-spec : {M : Type 1} → statement M
 sum-of-spec =
@@ -177,12 +189,15 @@ sum-of-spec =
     u16-at-requires
     add-i32-at
     i32-at-requires
+    same-length
     returns
     row-at-requires
     takes-requires
+    same-length-2
     returns-2
     add-multiple-requires
     add-i
     loop-less
     loop-again
+    same-length-3
     returns-3)

@@ -1,0 +1,57 @@
+-- `splits::put_l_valid` meets its contract.
+use Prim.Native.Nat.{_+_, _<_}
+use borrow.Author.Needs.{needs}
+use denote.Ref.{now}
+use lib.IntN.{ℤ}
+use mathlib.Core.List.{List, [], _∷_, _++_}
+use mathlib.Core.Path.{_∙_, _≡_, ap, sym}
+use native.Mathlib.Omega.{arith}
+use Rattle.calculus.specs.Rows.{column, less}
+use Rattle.calculus.specs.Facts.{Fact, isLiteral, arithmetic, ge}
+use Rattle.rows.specs.Rows.{branchOf}
+use Rattle.rows.proofs.Forms.{less-column}
+use Rattle.splits.proofs.Forms.{child-one, child-two}
+use Rattle.splits.proofs.put_l_valid.Statement.{statement}
+use Rattle.splits.proofs.put_l_valid.Tie as tie
+
+put-string-requires : tie.Need-put-string-requires
+put-string-requires c κs = search needs
+
+same-length : tie.Need-same-length
+same-length c = search needs
+
+returns : tie.Need-returns
+returns c =
+    let s = c .before .before .before .before in
+    c .before .put-string .ensures
+    ∙ ap (λ (l : List Fact). branchOf (now (s .args .work)) (s .args .count) ++ l) (child-one (isLiteral (s .args .x) 0 ∷ []) ((arithmetic ge (less (column (s .args .s .q + s .args .x))) ∷ []) ∷ []) (s .args .k) (c .before .before .before .if1 .taken))
+
+add-put-single : tie.Need-add-put-single
+add-put-single c = search needs
+
+put-single-requires : tie.Need-put-single-requires
+put-single-requires c κs = search needs
+
+same-length-2 : tie.Need-same-length-2
+same-length-2 c = search needs
+
+returns-2 : tie.Need-returns-2
+returns-2 c =
+    let s = c .before .before .before .before .before in
+    let e : s .args .k ≡ 2 = omega (arith, s .pre .1, c .before .before .before .before .if1 .left) in
+    let h : s .args .s .q + s .args .x < 48 = omega (arith, s .pre .1) in
+    c .before .put-single .ensures
+    ∙ ap (λ (l : List ℤ). branchOf (now (s .args .work)) (s .args .count) ++ (arithmetic ge l ∷ [])) (sym (less-column (s .args .s .q + s .args .x) h))
+    ∙ ap (λ (l : List Fact). branchOf (now (s .args .work)) (s .args .count) ++ l) (child-two (isLiteral (s .args .x) 0 ∷ []) (arithmetic ge (less (column (s .args .s .q + s .args .x))) ∷ []) [] (s .args .k) e)
+
+pub put-l-valid-spec : {M : Type 1} → statement M
+put-l-valid-spec =
+    tie.close
+    (tie.spec
+    put-string-requires
+    same-length
+    returns
+    add-put-single
+    put-single-requires
+    same-length-2
+    returns-2)
