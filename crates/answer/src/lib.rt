@@ -275,7 +275,7 @@ pub fn record_places(b: &[u8], from: usize, count: usize) -> [usize; VARIABLE_LI
     requires { ⌜ (count ≤ variableLimit) × (skip (now b) count from ≤ length (now b)) ⌝ }
     ensures { λ r. ⌜ Placed (now (b .entry)) from count r ⌝ }
 {
-    let mut places = [0usize; 17];
+    let mut places = [0usize; VARIABLE_LIMIT + 1];
     let mut at = from;
     let mut x = 0;
     while x < count {

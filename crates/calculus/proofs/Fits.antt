@@ -84,13 +84,15 @@ module _ (u : Question) (b : Branch) (g : FactsInRange u b) where
       let whole : length (plus (scale (t .1) e) (summed ts es)) ≡ suc columnLimit = length-plus (scale (t .1) e) (summed ts es) (omega arith) ∙ k in
       (omega arith, λ l. whole)
 
-  sum-fits : (d : ℕ) (ts : List (ℕ × ℤ)) {cs : List (List Fact)} → 1 ≤ length ts → children u b (Sum d ts) ≡ some cs → IsSum b d ts cs
-  sum-fits d ts l e =
+  sum-fits : (d : ℕ) (ts : List (ℕ × ℤ)) {cs : List (List Fact)} → 1 ≤ d → 1 ≤ length ts → children u b (Sum d ts) ≡ some cs → IsSum b d ts cs
+  sum-fits d ts k l e =
       let (r, er, e1) = then→ (sumOf b ts) (λ r. then (divided d r) (λ e. some (sumChild e))) e in
       let (q, dq, e2) = then→ (divided d r) (λ e. some (sumChild e)) e1 in
       let (es, h, p) = sum→ b ts er in
       let w : Divided d (summed ts es) q = subst (λ r. Divided d r q) p (divided→ d r q dq) in
       record {
+        divisor = k;
+        some-pair = l;
         forms = es;
         summands = h;
         new = q;
@@ -101,10 +103,10 @@ module _ (u : Question) (b : Branch) (g : FactsInRange u b) where
         adds = sym (some-injective e2);
       }
 
-  fits-sum : (d : ℕ) (ts : List (ℕ × ℤ)) {cs : List (List Fact)} → 1 ≤ d → 1 ≤ length ts → IsSum b d ts cs → children u b (Sum d ts) ≡ some cs
-  fits-sum d ts h l i =
-      let whole : Whole (summed ts (i .forms)) = sum-size ts (i .forms) (i .summands) .1 l in
-      let w : divided d (summed ts (i .forms)) ≡ some (i .new) = →divided d (summed ts (i .forms)) (i .new) h (omega arith) (record {
+  fits-sum : (d : ℕ) (ts : List (ℕ × ℤ)) {cs : List (List Fact)} → IsSum b d ts cs → children u b (Sum d ts) ≡ some cs
+  fits-sum d ts i =
+      let whole : Whole (summed ts (i .forms)) = sum-size ts (i .forms) (i .summands) .1 (i .some-pair) in
+      let w : divided d (summed ts (i .forms)) ≡ some (i .new) = →divided d (summed ts (i .forms)) (i .new) (i .divisor) (omega arith) (record {
         size = i .size ∙ sym whole;
         columns = λ j. i .columns j ∙ sym (entry-summed ts (i .forms) (suc j));
         floor-low = subst (λ z. (pos d *ℤ entry (i .new) 0) ≤ℤ z) (sym (entry-summed ts (i .forms) 0)) (i .floor-low);
@@ -212,11 +214,11 @@ card-fits u b (x ∷ y ∷ xs) h e =
       adds = sym g;
     }
 
-fits-card : (u : Question) (b : Branch) (xs : List ℕ) {cs : List (List Fact)} → 1 ≤ u .n → 2 ≤ length xs → Instance u b (Card xs) cs → cardChildren u b xs ≡ some cs
+fits-card : (u : Question) (b : Branch) (xs : List ℕ) {cs : List (List Fact)} → 1 ≤ u .n → Instance u b (Card xs) cs → cardChildren u b xs ≡ some cs
 unfolding Instance
-fits-card u b [] h l i = absurd (omega arith)
-fits-card u b (x ∷ []) h l i = absurd (omega arith)
-fits-card u b (x ∷ y ∷ xs) h l i = →guard (distinct (x ∷ y ∷ xs) && neighbours u b x (y ∷ xs))
+fits-card u b [] h i = absurd i
+fits-card u b (x ∷ []) h i = absurd i
+fits-card u b (x ∷ y ∷ xs) h i = →guard (distinct (x ∷ y ∷ xs) && neighbours u b x (y ∷ xs))
     (→and (distinct (x ∷ y ∷ xs)) (neighbours u b x (y ∷ xs)) (→distinct (x ∷ y ∷ xs) (i .different)) (→neighbours u b x (y ∷ xs) (i .lengths)))
     (ap (pairs (x ∷ y ∷ xs)) (last-unique u x (length (x ∷ y ∷ xs)) (last→ u x (length (x ∷ y ∷ xs)) h) (i .last-child)) ∙ sym (i .adds))
 
@@ -260,7 +262,7 @@ module _ (u : Question) (w : HeadInRange u) (b : Branch) (r : FactsInRange u b) 
 
   pub fits→instance : (st : Step) {cs : List (List Fact)} → StepInRange u st → children u b st ≡ some cs → Instance u b st cs
   unfolding Instance StepInRange
-  fits→instance (Sum d ts) g e = sum-fits u b r d ts (g .1) e
+  fits→instance (Sum d ts) g e = sum-fits u b r d ts (g .0) (g .1) e
   fits→instance (Split a) g e = sym (some-injective e)
   fits→instance (Apart k) g e = let (f, h, e1) = then→ (getElem? b k) parted e in apart-fits b k f h e1
   fits→instance (AConf k) g e =
@@ -285,7 +287,7 @@ module _ (u : Question) (w : HeadInRange u) (b : Branch) (r : FactsInRange u b) 
 
   pub instance→fits : (st : Step) {cs : List (List Fact)} → StepInRange u st → Instance u b st cs → children u b st ≡ some cs
   unfolding Instance StepInRange
-  instance→fits (Sum d ts) g i = fits-sum u b r d ts (g .0) (g .1) i
+  instance→fits (Sum d ts) g i = fits-sum u b r d ts i
   instance→fits (Split a) g i = ap some (sym i)
   instance→fits (Apart k) g i = →then parted (i .named) (ap some (sym (i .adds)))
   instance→fits (AConf k) g i = →then (λ f. guard (falsum f) []) (i .named) (→guard (falsum (arithmetic (i .relation) (i .form))) (fits-conf (i .relation) (i .form) (i .no-coefficient) (i .false-constant)) (sym (i .closes)))
@@ -297,5 +299,5 @@ module _ (u : Question) (w : HeadInRange u) (b : Branch) (r : FactsInRange u b) 
   instance→fits (CCollapse x) g i = fits-literal code x i
   instance→fits (CValid x) g i = ap some (sym i)
   instance→fits (CInj x y) g i = →guard (not (eqb x y)) (→differ x y (i .different)) (sym (i .adds))
-  instance→fits (Card xs) g i = fits-card u b xs (w .alphabet) (g .1) i
+  instance→fits (Card xs) g i = fits-card u b xs (w .alphabet) i
   instance→fits (Join j k) g i = fits-join u b j k r i

@@ -1,5 +1,5 @@
 -- The children of a step in range on a branch in range are in range.
-use Prim.Native.Nat.{ℕ, suc, _+_, _<_}
+use Prim.Native.Nat.{ℕ, _+_, _<_}
 use native.Mathlib.Omega.{arith}
 use mathlib.Core.Path.{sym, subst}
 use mathlib.Core.Logic.{inl, inr}
@@ -62,5 +62,6 @@ module _ (u : Question) (w : HeadInRange u) where
       subst InRange (sym i) ((l, (whole-value code x (negsuc 0) g, tt)), ((l, (c, (whole-minus k (apply u code x) (whole-number (pos (lastCharacter (u .n)))) c, tt))), tt))
   children-in-range b (CInj x y) cs r (hx, hy) i = subst InRange (sym (i .adds)) ((whole-value code x (negsuc 0) hx, tt), ((whole-difference code x y hx hy, tt), (((hx, hy), tt), tt)))
   children-in-range b (Card []) cs r g i = absurd i
-  children-in-range b (Card (x ∷ xs)) cs r g i = subst InRange (sym (i .adds)) (pairs-range (x ∷ xs) (i .last) (g .0) (last-range x (suc (length xs)) (i .last) (g .0 .0) (i .last-child)))
+  children-in-range b (Card (x ∷ [])) cs r g i = absurd i
+  children-in-range b (Card (x ∷ y ∷ xs)) cs r g i = subst InRange (sym (i .adds)) (pairs-range (x ∷ y ∷ xs) (i .last) (g .0) (last-range x (length (x ∷ y ∷ xs)) (i .last) (g .0 .0) (i .last-child)))
   children-in-range b (Join j k) cs r g i = subst InRange (sym (i .adds)) ((all-at (FactInRange u) b j r (i .first), tt), tt)

@@ -269,7 +269,8 @@ module _ (u : Question) (w : HeadInRange u) (b : Branch) (r : FactsInRange u b) 
     some-child (CValid x) g cs i = tested .c-valid x g cs i
     some-child (CInj x y) (hx, hy) cs i = tested .c-inj x y hx hy cs i
     some-child (Card []) g cs i = absurd i
-    some-child (Card (x ∷ xs)) (g, l) cs i = card-chosen tested x xs cs g l (of-one x (g .0) .4) i
+    some-child (Card (x ∷ [])) g cs i = absurd i
+    some-child (Card (x ∷ y ∷ xs)) (g, l) cs i = card-chosen tested x (y ∷ xs) cs g l (of-one x (g .0) .4) i
     some-child (Join j k) g cs i = absurd i
 
     pub saturated→words : Saturated u b m

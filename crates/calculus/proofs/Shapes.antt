@@ -59,7 +59,8 @@ instance-shape u h b (CCollapse x) cs i = ap (map length) (i .adds)
 instance-shape u h b (CValid x) cs i = ap (map length) i
 instance-shape u h b (CInj x y) cs i = ap (map length) (i .adds)
 instance-shape u h b (Card []) cs i = absurd i
-instance-shape u h b (Card (x ∷ xs)) cs i = ap (map length) (i .adds) ∙ pairs-sizes (x ∷ xs) (i .last) (lastCount (characterCount (u .n))) (last-sizes u x (suc (length xs)) (i .last) h (i .last-child))
+instance-shape u h b (Card (x ∷ [])) cs i = absurd i
+instance-shape u h b (Card (x ∷ y ∷ xs)) cs i = ap (map length) (i .adds) ∙ pairs-sizes (x ∷ y ∷ xs) (i .last) (lastCount (characterCount (u .n))) (last-sizes u x (length (x ∷ y ∷ xs)) (i .last) h (i .last-child))
 instance-shape u h b (Join j k) cs i = ap (map length) (i .adds)
 
 -- ---- the walk counted

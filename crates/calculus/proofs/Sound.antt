@@ -257,5 +257,6 @@ module _ (u : Question) (a : Assignment) (f : For u a) where
       go (inr (inl h)) = inr (inl (→holds ne _ (λ z. h (-ℤ-zero→ (sym (dot-minus (apply u code x) (apply u code y) (columns a) (apply-value code x hx) (apply-value code y hy)) ∙ z))), tt))
       go (inr (inr e)) = inr (inr (inl (e, tt)))
   instance-sound d b (Card []) cs g i m = absurd i
-  instance-sound d b (Card (x ∷ xs)) cs (g, l) i m = card-met b x xs cs m g l i
+  instance-sound d b (Card (x ∷ [])) cs g i m = absurd i
+  instance-sound d b (Card (x ∷ y ∷ xs)) cs (g, l) i m = card-met b x (y ∷ xs) cs m g l i
   instance-sound d b (Join j k) cs g i m = subst (AnyMet u a) (sym (i .adds)) (inl (→holds eq _ (join-met b j k cs m i), tt))

@@ -54,8 +54,11 @@ total j [] es = pos 0
 total j (t ∷ ts) [] = pos 0
 total j (t ∷ ts) (e ∷ es) = (t .1 *ℤ entry e j) +ℤ total j ts es
 
--- "Column sums must divide exactly; the constant is divided rounding down"; how many pairs there are is a matter of form (5)
+-- "i32 divisor of at least 1, then 1 to 8 pairs": at most 8 is a matter of form (5).
+-- "Column sums must divide exactly; the constant is divided rounding down".
 pub record IsSum (b : Branch) (d : ℕ) (ts : List (ℕ × ℤ)) (cs : List (List Fact)) : Type 0 where
+  pub divisor : 1 ≤ d
+  pub some-pair : 1 ≤ length ts
   pub forms : List (List ℤ)
   pub summands : Summands b ts forms
   pub new : List ℤ
@@ -153,7 +156,7 @@ pub record Bound (u : Question) (x m : ℕ) (cs : List (List Fact)) : Type 0 whe
 abbrev pub LastChild : Question → ℕ → ℕ → List (List Fact) → Type 0
 LastChild u x m cs = ((characterCount (u .n) ≡ 1) × (cs ≡ [])) ⊎ ((characterCount (u .n) ≢ 1) × Bound u x m cs)
 
--- "different variables, m of them; for each neighbouring pair a fact states"; how many there are is a matter of form (5)
+-- "2 to 16 different variables, m of them; for each neighbouring pair a fact states"
 pub record IsCard (u : Question) (b : Branch) (x : ℕ) (xs : List ℕ) (cs : List (List Fact)) : Type 0 where
   pub different : Distinct (x ∷ xs)
   pub lengths : Neighbours u b x xs
@@ -173,7 +176,7 @@ pub record IsJoin (b : Branch) (j k : ℕ) (cs : List (List Fact)) : Type 0 wher
 
 -- ---- every rule
 
--- the step is an instance of its rule on the branch b, with the children cs; a closing rule has none.
+-- the step is an instance of its rule on the branch b, with the children cs; a closing rule has none. Card has at least 2 variables.
 -- Document 01: "A step is proper when it fits its rule, as worded above, on the branch where it stands".
 unfoldable pub Instance : Question → Branch → Step → List (List Fact) → Type 0
 Instance u b (Sum d ts) cs = IsSum b d ts cs
@@ -188,11 +191,13 @@ Instance u b (CCollapse x) cs = IsLiteral u b code x cs
 Instance u b (CValid x) cs = cs ≡ cValidChildren u x
 Instance u b (CInj x y) cs = IsCInj u x y cs
 Instance u b (Card []) cs = ⊥
-Instance u b (Card (x ∷ xs)) cs = IsCard u b x xs cs
+Instance u b (Card (x ∷ [])) cs = ⊥
+Instance u b (Card (x ∷ y ∷ xs)) cs = IsCard u b x (y ∷ xs) cs
 Instance u b (Join j k) cs = IsJoin b j k cs
 
--- ---- what the reader guarantees of a decoded step (refusals 5 and 6)
+-- ---- the part of a step's form (refusals 5 and 6) that the rules rest on
 
+-- multipliers' ranges and greatest counts are not in it; Card's 16 holds since its variables differ and p is at most 16
 unfoldable pub StepInRange : Question → Step → Type 0
 StepInRange u (Sum d ts) = (1 ≤ d) × (1 ≤ length ts)
 StepInRange u (Split e) = length e ≡ suc columnLimit

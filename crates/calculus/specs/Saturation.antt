@@ -1,5 +1,5 @@
 -- Saturation (document 01: "settled") in words: by chains, by the model's values, over every choice of operands.
-use Prim.Native.Nat.{ℕ, suc, _<_, _≤_}
+use Prim.Native.Nat.{ℕ, suc, _<_}
 use mathlib.Core.Path.{_≡_}
 use mathlib.Core.Logic.{_≢_}
 use mathlib.Core.Option.{some}
@@ -57,7 +57,8 @@ LeafInstance u b m (CCollapse x) cs = Instance u b (CCollapse x) cs
 LeafInstance u b m (CValid x) cs = Instance u b (CValid x) cs
 LeafInstance u b m (CInj x y) cs = Instance u b (CInj x y) cs
 LeafInstance u b m (Card []) cs = ⊥
-LeafInstance u b m (Card (x ∷ xs)) cs = IsLeafCard u m x xs cs
+LeafInstance u b m (Card (x ∷ [])) cs = ⊥
+LeafInstance u b m (Card (x ∷ y ∷ xs)) cs = IsLeafCard u m x (y ∷ xs) cs
 LeafInstance u b m (Join j k) cs = ⊥
 
 -- "A leaf is settled by its model if S-Conf does not fit and, for every choice of operands whose premise holds in rules 6 to 12, some child holds already"

@@ -147,6 +147,7 @@ fn decide(ticket: &[u8], work: &mut [i64], answer: &mut [u8]) -> Outcome
 
 // Sets every number of the work area to 0.
 fn clear(work: &mut [i64])
+    requires { ⌜ workNumbers ≤ length (now work) ⌝ }
     ensures { λ _. ⌜ now (work .exit) ≡ replicate (length (now (work .entry))) (pos 0) ⌝ }
 {
     let mut i = 0;

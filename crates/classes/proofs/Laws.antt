@@ -1,20 +1,16 @@
 -- Laws of labels, rows and tests below a bound, in the form that a loop asks.
-use mathlib.Core.Path.{_≡_, refl, sym, _∙_, ap, ap₂}
-use mathlib.Core.Bool.{Bool, true, false, cond, _||_, or-true, or-false, or-assoc, true≢false}
+use mathlib.Core.Path.{_≡_, refl, sym, _∙_, ap}
+use mathlib.Core.Bool.{Bool, true, false, cond, _||_, or-true, or-false, or-assoc}
 use mathlib.Core.Option.{none, some}
 use mathlib.Core.List.{List, [], _∷_, _++_}
-use Prim.Native.Nat.{ℕ, zero, suc, _+_, _*_, _-_, _^_, _≤_, _<_}
+use Prim.Native.Nat.{ℕ, zero, suc, _+_, _-_, _^_, _≤_, _<_}
 use native.Mathlib.Numerals.{add-one}
 use native.Mathlib.Omega.{arith}
 use native.Mathlib.Decide.{decLt}
-use borrow.Author.Tests.{le-leb, lt-leb, lt-ltb, le-ltb, ltb-true, ltb-false}
+use borrow.Author.Tests.{le-leb, lt-leb}
 use lib.Dec.{eqb}
-use lib.ListN.{length, getD, drop}
-use lib.IntN.{ℤ, pos, negsuc}
-use lib.Signed.{ltZ}
-use mir.Syntax.{w64}
-use mir.Val.{SFits, toZ, ofZ}
-use mir.Facts.{toZ-ofZ}
+use lib.ListN.{length, getD}
+use lib.IntN.{ℤ, pos}
 use Rattle.lists.proofs.Options.{some-injective, none-some}
 use Rattle.calculus.specs.Facts.{Fact, Branch, same, apart, isLiteral, arithmetic}
 use Rattle.calculus.specs.Chains.{varNode, litNode}
@@ -22,8 +18,9 @@ use Rattle.calculus.specs.Classes.{upFrom, relabel, joinNodes, joinFact, labels
 use Rattle.calculus.specs.Rules.{logUp}
 use Rattle.calculus.specs.SaturationTest.{lowestFrom}
 use Rattle.format.proofs.Fields.{down}
-use Rattle.rows.specs.Rows.{index, tagged, factOf, rowAt}
-use Rattle.rows.proofs.Branches.{row-number}
+use Rattle.rows.specs.Rows.{index, factOf}
+use Rattle.rows.specs.Work.{kindOf}
+use Rattle.rows.proofs.Tags.{row-string}
 
 -- ---- labels
 
@@ -150,97 +147,42 @@ apart-snoc ls (g ∷ b) f =
     ∙ sym (or-assoc (apartMeet ls (g ∷ [])) (apartMeet ls b) (apartMeet ls (f ∷ [])))
     ∙ ap (λ (t : Bool). t || apartMeet ls (f ∷ [])) (sym (apart-cons ls g b))
 
--- ---- what a row says, from the work area's numbers
+not-apart : (ls : List ℕ) (f : Fact) → (kindOf f ≡ 4 → ⊥) → apartMeet ls (f ∷ []) ≡ false
+unfolding kindOf
+not-apart ls (same x y) h = refl
+not-apart ls (apart x y) h = absurd (h refl)
+not-apart ls (isLiteral x l) h = refl
+not-apart ls (arithmetic r e) h = refl
 
-pub tag-yes : (n : ℕ) (z : ℤ) → SFits w64 z → ofZ w64 z ≡ n → z ≡ toZ w64 n
-tag-yes n z f e = sym (toZ-ofZ f) ∙ ap (toZ w64) e
+-- ---- what a row says, by its kind
 
-pub tag-no : (n : ℕ) (z : ℤ) → (ofZ w64 z ≡ n → ⊥) → z ≡ pos n → ⊥
-tag-no n z h e = h (ap (ofZ w64) e)
+not-joined : (ls : List ℕ) (f : Fact) → (kindOf f ≡ 3 → ⊥) → (kindOf f ≡ 5 → ⊥) → joinFact ls f ≡ ls
+unfolding kindOf
+not-joined ls (same x y) h k = absurd (h refl)
+not-joined ls (apart x y) h k = refl
+not-joined ls (isLiteral x l) h k = absurd (k refl)
+not-joined ls (arithmetic r e) h k = refl
 
-row-fact : (w : List ℤ) (k : ℕ)
-    → factOf (rowAt w k) ≡ tagged (getD w (50 * k) (pos 0)) (index (getD w (50 * k + 1) (pos 0))) (index (getD w (50 * k + 2) (pos 0))) (drop 1 (rowAt w k))
-unfolding factOf
-row-fact w k =
-    ap (λ (t : ℤ). tagged t (index (getD (rowAt w k) 1 (pos 0))) (index (getD (rowAt w k) 2 (pos 0))) (drop 1 (rowAt w k))) (row-number w k 0 (pos 0) (omega arith) ∙ ap (λ (i : ℕ). getD w i (pos 0)) none)
-    ∙ ap₂ (λ (a b : ℤ). tagged (getD w (50 * k) (pos 0)) (index a) (index b) (drop 1 (rowAt w k))) (row-number w k 1 (pos 0) (omega arith)) (row-number w k 2 (pos 0) (omega arith))
-  where
-    none : 50 * k + 0 ≡ 50 * k
-    none = omega arith
-
-not-joined : (ls : List ℕ) (a b : ℕ) (e : List ℤ) (t : ℤ) → (t ≡ pos 3 → ⊥) → (t ≡ pos 5 → ⊥) → joinFact ls (tagged t a b e) ≡ ls
-unfolding tagged
-not-joined ls a b e (pos zero) h k = refl
-not-joined ls a b e (pos (suc zero)) h k = refl
-not-joined ls a b e (pos (suc (suc zero))) h k = refl
-not-joined ls a b e (pos (suc (suc (suc zero)))) h k = absurd (h refl)
-not-joined ls a b e (pos (suc (suc (suc (suc zero))))) h k = refl
-not-joined ls a b e (pos (suc (suc (suc (suc (suc zero)))))) h k = absurd (k refl)
-not-joined ls a b e (pos (suc (suc (suc (suc (suc (suc n))))))) h k = refl
-not-joined ls a b e (negsuc n) h k = refl
-
-not-apart : (ls : List ℕ) (a b : ℕ) (e : List ℤ) (t : ℤ) → (t ≡ pos 4 → ⊥) → apartMeet ls (tagged t a b e ∷ []) ≡ false
-unfolding tagged
-not-apart ls a b e (pos zero) h = refl
-not-apart ls a b e (pos (suc zero)) h = refl
-not-apart ls a b e (pos (suc (suc zero))) h = refl
-not-apart ls a b e (pos (suc (suc (suc zero)))) h = refl
-not-apart ls a b e (pos (suc (suc (suc (suc zero))))) h = absurd (h refl)
-not-apart ls a b e (pos (suc (suc (suc (suc (suc zero)))))) h = refl
-not-apart ls a b e (pos (suc (suc (suc (suc (suc (suc n))))))) h = refl
-not-apart ls a b e (negsuc n) h = refl
-
-module _ (w : List ℤ) (k : ℕ) (ls : List ℕ) where
-  abbrev tag : ℤ
-  tag = getD w (50 * k) (pos 0)
-
+module _ (row : List ℤ) (ls : List ℕ) (k : ℕ) (kind : k ≡ kindOf (factOf row)) where
   abbrev first : ℕ
-  first = index (getD w (50 * k + 1) (pos 0))
+  first = index (getD row 1 (pos 0))
 
   abbrev second : ℕ
-  second = index (getD w (50 * k + 2) (pos 0))
+  second = index (getD row 2 (pos 0))
 
-  pub row-same : tag ≡ pos 3 → joinFact ls (factOf (rowAt w k)) ≡ joinNodes ls (varNode first) (varNode second)
-  unfolding tagged
-  row-same e = ap (joinFact ls) (row-fact w k ∙ ap (λ (t : ℤ). tagged t first second (drop 1 (rowAt w k))) e)
+  pub row-same : k ≡ 3 → joinFact ls (factOf row) ≡ joinNodes ls (varNode first) (varNode second)
+  row-same e = ap (joinFact ls) (row-string row 3 (sym e ∙ kind) (omega arith))
 
-  pub row-literal : tag ≡ pos 5 → joinFact ls (factOf (rowAt w k)) ≡ joinNodes ls (varNode first) (litNode second)
-  unfolding tagged
-  row-literal e = ap (joinFact ls) (row-fact w k ∙ ap (λ (t : ℤ). tagged t first second (drop 1 (rowAt w k))) e)
+  pub row-literal : k ≡ 5 → joinFact ls (factOf row) ≡ joinNodes ls (varNode first) (litNode second)
+  row-literal e = ap (joinFact ls) (row-string row 5 (sym e ∙ kind) (omega arith))
 
-  pub row-joins-none : (tag ≡ pos 3 → ⊥) → (tag ≡ pos 5 → ⊥) → joinFact ls (factOf (rowAt w k)) ≡ ls
-  row-joins-none h g = ap (joinFact ls) (row-fact w k) ∙ not-joined ls first second (drop 1 (rowAt w k)) tag h g
+  pub row-joins-none : (k ≡ 3 → ⊥) → (k ≡ 5 → ⊥) → joinFact ls (factOf row) ≡ ls
+  row-joins-none h g = not-joined ls (factOf row) (λ e. h (kind ∙ e)) (λ e. g (kind ∙ e))
 
-  pub row-apart : tag ≡ pos 4 → apartMeet ls (factOf (rowAt w k) ∷ []) ≡ sameClass ls (varNode first) (varNode second)
-  unfolding tagged
+  pub row-apart : k ≡ 4 → apartMeet ls (factOf row ∷ []) ≡ sameClass ls (varNode first) (varNode second)
   row-apart e =
-      ap (λ (f : Fact). apartMeet ls (f ∷ [])) (row-fact w k ∙ ap (λ (t : ℤ). tagged t first second (drop 1 (rowAt w k))) e)
+      ap (λ (f : Fact). apartMeet ls (f ∷ [])) (row-string row 4 (sym e ∙ kind) (omega arith))
       ∙ or-false (sameClass ls (varNode first) (varNode second))
 
-  pub row-not-apart : (tag ≡ pos 4 → ⊥) → apartMeet ls (factOf (rowAt w k) ∷ []) ≡ false
-  row-not-apart h = ap (λ (f : Fact). apartMeet ls (f ∷ [])) (row-fact w k) ∙ not-apart ls first second (drop 1 (rowAt w k)) tag h
-
--- ---- a row's number as an index
-
-module _ (z : ℤ) (f : SFits w64 z) where
-  pub index-negative : ltZ (toZ w64 (ofZ w64 z)) (pos 0) ≡ true → index z ≡ 0
-  index-negative e = go z (rw (toZ-ofZ f) at e)
-    where
-      go : (z : ℤ) → ltZ z (pos 0) ≡ true → index z ≡ 0
-      go (pos n) h = absurd (let k : n < 0 = ltb-true n 0 h in omega arith)
-      go (negsuc n) h = refl
-
-  pub index-high : ltZ (pos 15) (toZ w64 (ofZ w64 z)) ≡ true → index z ≡ 0
-  index-high e = go z (rw (toZ-ofZ f) at e)
-    where
-      go : (z : ℤ) → ltZ (pos 15) z ≡ true → index z ≡ 0
-      go (pos n) h = rw (le-ltb n 16 (let k : 15 < n = ltb-true 15 n h in omega arith))
-      go (negsuc n) h = refl
-
-  pub index-within : ltZ (toZ w64 (ofZ w64 z)) (pos 0) ≡ false → ltZ (pos 15) (toZ w64 (ofZ w64 z)) ≡ false
-      → (n : ℕ) × (n < 16) × (toZ w64 (ofZ w64 z) ≡ pos n) × (index z ≡ n)
-  index-within e g = rw (toZ-ofZ f) (go z (rw (toZ-ofZ f) at e) (rw (toZ-ofZ f) at g))
-    where
-      go : (z : ℤ) → ltZ z (pos 0) ≡ false → ltZ (pos 15) z ≡ false → (n : ℕ) × (n < 16) × (z ≡ pos n) × (index z ≡ n)
-      go (pos n) h k = let l : n < 16 = (let m : n ≤ 15 = ltb-false 15 n k in omega arith) in (n, l, refl, rw (lt-ltb n 16 l))
-      go (negsuc n) h k = absurd (true≢false h)
+  pub row-not-apart : (k ≡ 4 → ⊥) → apartMeet ls (factOf row ∷ []) ≡ false
+  row-not-apart h = not-apart ls (factOf row) (λ e. h (kind ∙ e))

@@ -1,20 +1,20 @@
 // Classes of variables and literals: labels of the 32 nodes, from the rows of a branch.
 ghost use mathlib.Core.Path.{_≡_};
-ghost use mathlib.Core.Bool.{Bool, true, false, cond};
+ghost use mathlib.Core.Bool.{cond};
 ghost use mathlib.Core.List.{[], _∷_};
-ghost use Prim.Native.Nat.{ℕ, _+_, _*_, _≤_, _<_};
-ghost use lib.ListN.{length, getD};
+ghost use Prim.Native.Nat.{_*_, _≤_, _<_};
+ghost use lib.ListN.{length};
 ghost use lib.Dec.{eqb};
-ghost use lib.IntN.{pos};
 ghost use Rattle.calculus.specs.Limits.{alphabetLimit, variableLimit, factLimit};
-ghost use Rattle.calculus.specs.Chains.{varNode, litNode};
 ghost use Rattle.calculus.specs.Classes as classes;
 ghost use Rattle.calculus.specs.Classes.{upFrom, joinNodes, joinFact, sameClass, lowest, anyBelow, apartMeet};
 ghost use Rattle.calculus.specs.Rules.{logUp};
 ghost use Rattle.calculus.specs.SaturationTest.{lowestVar};
-ghost use Rattle.rows.specs.Rows.{rowLength, index, factOf, rowAt, branchOf};
+ghost use Rattle.rows.specs.Rows.{rowLength, factOf, branchOf};
 ghost use Rattle.classes.specs.Classes.{literalOf, literalMeets, clash};
-use limits::ROW_LENGTH;
+use rows::kind_of;
+use rows::operand;
+use rows::row_at;
 
 // The lowest literal of a class, if it holds one.
 pub enum Lowest {
@@ -62,6 +62,7 @@ fn first_labels() -> [u8; 32]
     ]
 }
 
+// One label, where `old` becomes `new`.
 fn relabelled(old: u8, new: u8, label: u8) -> u8
     ensures { λ r. ⌜ r ≡ cond (eqb label old) new label ⌝ }
 {
@@ -71,6 +72,7 @@ fn relabelled(old: u8, new: u8, label: u8) -> u8
     label
 }
 
+// Every label `old` becomes `new`.
 fn relabel(old: u8, new: u8, labels: [u8; 32]) -> [u8; 32]
     ensures { λ r. ⌜ r ≡ classes.relabel old new labels ⌝ }
 {
@@ -95,37 +97,20 @@ fn join(labels: [u8; 32], i: usize, j: usize) -> [u8; 32]
     relabel(old, new, labels)
 }
 
-// An operand of a row: the number of a variable or a literal.
-fn operand(work: &[i64], at: usize) -> usize
-    requires { ⌜ at < length (now work) ⌝ }
-    ensures { λ r. ⌜ r ≡ index (getD (now (work .entry)) at (pos 0)) ⌝ }
-    ensures { λ r. ⌜ r < variableLimit ⌝ }
+// The labels once the fact of a row stands: variable ≈ variable is of kind 3, variable ≈ literal of kind 5.
+fn join_row(row: &[i64], labels: [u8; 32]) -> [u8; 32]
+    requires { ⌜ length (now row) ≡ rowLength ⌝ }
+    ensures { λ r. ⌜ r ≡ joinFact labels (factOf (now (row .entry))) ⌝ }
 {
-    let z = work[at];
-    if z < 0 {
-        return 0;
-    }
-    if z > 15 {
-        return 0;
-    }
-    z as usize
-}
-
-// The labels once the fact of row k stands.
-fn join_row(work: &[i64], k: usize, labels: [u8; 32]) -> [u8; 32]
-    requires { ⌜ (k < factLimit) × (rowLength * k + rowLength ≤ length (now work)) ⌝ }
-    ensures { λ r. ⌜ r ≡ joinFact labels (factOf (rowAt (now (work .entry)) k)) ⌝ }
-{
-    let at = ROW_LENGTH * k;
-    let tag = work[at];
-    if tag == 3 {
-        let a = operand(work, at + 1);
-        let b = operand(work, at + 2);
+    let kind = kind_of(row);
+    if kind == 3 {
+        let a = operand(row, 1);
+        let b = operand(row, 2);
         return join(labels, 2 * a, 2 * b);
     }
-    if tag == 5 {
-        let a = operand(work, at + 1);
-        let b = operand(work, at + 2);
+    if kind == 5 {
+        let a = operand(row, 1);
+        let b = operand(row, 2);
         return join(labels, 2 * a, 2 * b + 1);
     }
     labels
@@ -139,7 +124,7 @@ pub fn labels(work: &[i64], count: usize) -> [u8; 32]
     let mut out = first_labels();
     let mut k = 0;
     while k < count {
-        let next = join_row(work, k, out);
+        let next = join_row(row_at(work, k), out);
         out = next;
         k += 1;
     }
@@ -220,16 +205,14 @@ fn literals_meet(labels: [u8; 32], m: usize) -> bool
     false
 }
 
-// Is row k a fact a ≉ b with both sides in one class?
-fn apart_row(work: &[i64], k: usize, labels: [u8; 32]) -> bool
-    requires { ⌜ (k < factLimit) × (rowLength * k + rowLength ≤ length (now work)) ⌝ }
-    ensures { λ r. ⌜ r ≡ apartMeet labels (factOf (rowAt (now (work .entry)) k) ∷ []) ⌝ }
+// Is the fact of a row, of kind 4, a ≉ b with both sides in one class?
+fn apart_meets(row: &[i64], labels: [u8; 32]) -> bool
+    requires { ⌜ length (now row) ≡ rowLength ⌝ }
+    ensures { λ r. ⌜ r ≡ apartMeet labels (factOf (now (row .entry)) ∷ []) ⌝ }
 {
-    let at = ROW_LENGTH * k;
-    let tag = work[at];
-    if tag == 4 {
-        let a = operand(work, at + 1);
-        let b = operand(work, at + 2);
+    if kind_of(row) == 4 {
+        let a = operand(row, 1);
+        let b = operand(row, 2);
         return same_class(labels, 2 * a, 2 * b);
     }
     false
@@ -243,7 +226,7 @@ fn apart_meet(work: &[i64], count: usize, labels: [u8; 32]) -> bool
     let mut found = false;
     let mut k = 0;
     while k < count {
-        let one = apart_row(work, k, labels);
+        let one = apart_meets(row_at(work, k), labels);
         found = found | one;
         k += 1;
     }

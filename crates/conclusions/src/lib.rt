@@ -230,7 +230,6 @@ pub fn conclude(
     ensures fault { λ r. ⌜ r ≡ takenTried (branchOf (now (work .entry)) count) (nth (children (progressOf (now (ticket .entry)) s .question) (branchOf (now (work .entry)) count) (stepAt (now (ticket .entry)) at size)) 1) ⌝ }
     ensures added { λ r. ⌜ (r ≡ 0 → branchOf (now (work .exit)) (count + 1) ≡ branchOf (now (work .entry)) count ++ orNone (nth (children (progressOf (now (ticket .entry)) s .question) (branchOf (now (work .entry)) count) (stepAt (now (ticket .entry)) at size)) 1)) ⌝ }
     ensures fine { λ r. ⌜ (r ≡ 0 → Fine (now (work .exit)) (count + 1)) ⌝ }
-    ensures kept { λ r. ⌜ ((j : ℕ) → j ≤ count → branchOf (now (work .exit)) j ≡ branchOf (now (work .entry)) j) ⌝ }
 {
     let mut row = [0i64; ROW_LENGTH];
     if !conclusion(&mut row, ticket, s, at, size, work, count) {

@@ -94,7 +94,7 @@ formed-within b u ok (at ∷ ats) (t ∷ ts) m h = formed-within b u ok ats ts m
 
 -- ---- the method's part
 
--- "Under claim 1 the child field is 0", "under claim 2 it is the child taken"
+-- "Under claim 1 the child field is 0", "Under claim 2 it is the child taken"
 abbrev pub childOk : {B C : Type 0} → Question → State B C → Step → ℕ → Bool
 childOk u (proving k) st c = eqb c 0
 childOk u (taking br) st c = childInRange (u .n) st c

@@ -74,7 +74,7 @@ TH-4 = (work answer : ℕ) (t : List ℕ) → verdict work answer t ≡ NoSoluti
 
 -- ---- TH-5, demand 3: whatever the bytes, where checking gives strings, they meet every constraint and differ wherever the leaf's classes differ
 
--- the leaf is "the question's constraints and every fact that the steps added, of a split those of the child taken"
+-- out are the bytes that `Checked.answer-after` puts into the answer buffer
 pub record Answered (t : List ℕ) (u : Question) (out : List ℕ) : Type 0 where
   pub asked : questionOf t ≡ some u
   pub assignment : Assignment
@@ -85,15 +85,17 @@ pub record Answered (t : List ℕ) (u : Question) (out : List ℕ) : Type 0 wher
   -- "at most 4,268 bytes"
   pub room : length out ≤ answerBytes
   pub meets-all : Met u assignment (u .constraints)
+  -- "The leaf is the branch at the model: the question's constraints and every fact that the steps added, of a split those of the child taken"
   pub leaf : Branch
   pub path : Path u (u .constraints) (takenSteps t) leaf
+  -- "Strings differ wherever classes differ: any two variables not in one class get different strings"
   pub differ : (x y : ℕ) → x < u .p → y < u .p → (OneClass leaf x y → ⊥) → str assignment x ≢ str assignment y
 
 abbrev pub TH-5 : Type 0
 TH-5 = (work answer : ℕ) (t out : List ℕ) → verdict work answer t ≡ Strings out → (u : Question) × Answered t u out
 
--- ---- TH-6, demand 3: strings of proper form within the limits, every step proper, are accepted exactly when the leaf is settled, the model meets
--- its facts and no length passes 64
+-- ---- TH-6, demand 3: a ticket of proper form for strings within the limits, every step proper, is accepted exactly when the leaf is settled,
+-- the model meets its facts and no length passes 64
 
 abbrev pub TH-6 : Type 0
 TH-6 = (work answer : ℕ) (t : List ℕ) (u : Question) (m : List ℤ) (leaf : Branch) → large work answer ≡ true → ProperStrings t u m

@@ -1,8 +1,7 @@
 -- A question by position: the literals' texts and the constraints in the records where they stand.
 use Prim.Native.Nat.{ℕ, zero, suc, _+_}
 use mathlib.Core.List.{List, [], _∷_}
-use lib.ListN.{length}
-use Rattle.calculus.specs.Facts.{Question, Fact}
+use Rattle.calculus.specs.Facts.{Fact}
 use Rattle.format.specs.Records.{size, kind, next}
 use Rattle.format.specs.Question.{Progress, textOf, constraintOf}
 
@@ -21,14 +20,11 @@ unfoldable pub constraintsAt : List ℕ → ℕ → ℕ → List Fact
 constraintsAt b zero at = []
 constraintsAt b (suc k) at = constraintOf b (kind b at) (at + 6) (size b at) ∷ constraintsAt b k (next b at)
 
--- the first literal stands behind the head, at position 14; the first constraint behind the literals
+-- the first literal stands behind the head, at position 14
 abbrev pub literalsFrom : ℕ
 literalsFrom = 14
 
-abbrev pub constraintsFrom : List ℕ → Question → ℕ
-constraintsFrom b u = skip b (length (u .literals)) literalsFrom
-
--- what was read, from numbers alone: the last kind, n, p and q, and how many literals and constraints stand in the bytes.
+-- what was read, from numbers alone: the last kind, n, p and q, and how many literals and, behind them, constraints stand in the bytes.
 -- A loop that keeps these numbers keeps the question.
 abbrev pub readTo : List ℕ → ℕ → ℕ → ℕ → ℕ → ℕ → ℕ → Progress
 readTo b last n p q literals constraints = record {

@@ -55,7 +55,7 @@ modelAt b u at = i32s b at (columnCount u)
 abbrev pub modelFault : List ℕ → Question → ℕ → ℕ → ℕ → ℕ
 modelFault b u later at m = need 5 (eqb m (4 * columnCount u)) (need 6 (allWithin (modelAt b u at)) later)
 
--- "Under claim 1 the child field is 0", "under claim 2 it is the child taken"; "a step follows the last closed branch"
+-- "Under claim 1 the child field is 0", "Under claim 2 it is the child taken"; "a step follows the last closed branch"
 abbrev pub bodyFault : {B C : Type 0} → Method B C → List ℕ → Question → State B C → ℕ → ℕ → ℕ → ℕ
 bodyFault w b u (proving (working br ss)) k at m = need 4 (eqb k 6) (stepFault b u (eqb (child b at) 0) (w .splitFault br ss (stepAt b at m)) at m)
 bodyFault w b u (proving closed) k at m = 4

@@ -1,11 +1,9 @@
 -- Laws of ℤ that the library lacks: sums and products, order, differences, size, and division rounding down.
-use Prim.Native.Nat.{ℕ, zero, suc, _+_, _*_, _/_, _%_, _^_, _≤_, _<_}
+use Prim.Native.Nat.{ℕ, zero, suc, _+_, _*_, _/_, _^_, _≤_, _<_}
 use native.Mathlib.Omega.{arith}
-use native.Mathlib.Nat.{mul-le-mul, mul-le-mul-left, div-add-mod, mod-lt, le-of-mul-le-mul-left, lt-of-mul-lt-mul-left, lt-of-le-of-lt}
+use native.Mathlib.Nat.{mul-le-mul, mul-le-mul-left, div-add-mod, mod-lt, lt-of-mul-lt-mul-left, lt-of-le-of-lt}
 use mathlib.Core.Path.{_≡_, refl, sym, ap}
 use mathlib.Core.Logic.{_≢_, _⊎_, inl, inr}
-use mathlib.Core.Bool.{Bool}
-use lib.Dec.{eqb}
 use lib.IntN.{ℤ, pos, negsuc, negℤ, natAbs, _+ℤ_, _-ℤ_, _*ℤ_}
 use lib.Signed.{mag, _≤ℤ_, _<ℤ_, ≤ℤ-refl, yes-nonNeg, pos-natAbs}
 use mir.Syntax.{Width}
@@ -188,20 +186,3 @@ pub tighten : (d : ℕ) (s k q : ℤ) → k <ℤ (pos d *ℤ (q +ℤ pos 1)) →
 tighten d s k q h p = lt-suc (*ℤ-pos-lt d
     (lt-by (v (pos d) ⊗ v (pos 0)) (v (pos d) ⊗ (v q ⊕ v s ⊕ v (pos 1)))
     (omega (arith, le-of (v (pos 0)) (v k ⊕ v (pos d) ⊗ v s) p, lt-of (v k) (v (pos d) ⊗ (v q ⊕ v (pos 1))) h))))
-
--- ---- exact division
-
-abbrev pub divides : ℕ → ℤ → Bool
-divides d z = eqb (natAbs z % d) 0
-
-up-one : (a d : ℕ) → 0 < d → suc a % d ≡ 0 → d * suc (a / d) ≡ suc a
-up-one a d h e =
-    let whole : d * (suc a / d) ≡ suc a = omega (arith, div-add-mod (suc a) d) in
-    let low : a / d < suc a / d = lt-of-mul-lt-mul-left d (omega (arith, div-add-mod a d)) in
-    let high : suc a / d ≤ suc (a / d) = le-of-mul-le-mul-left {k = d} (omega (arith, div-add-mod a d, mod-lt a h)) h in
-    let same : suc a / d ≡ suc (a / d) = omega arith in
-    rw (← same) whole
-
-pub floor-exact : (z : ℤ) (d : ℕ) → 0 < d → natAbs z % d ≡ 0 → pos d *ℤ floorZ z d ≡ z
-floor-exact (pos a) d h e = ring (v (pos d) ⊗ v (pos (a / d))) (v (pos a)) (omega (arith, div-add-mod a d))
-floor-exact (negsuc a) d h e = ring (v (pos d) ⊗ v (negsuc (a / d))) (v (negsuc a)) (omega (arith, up-one a d h e))

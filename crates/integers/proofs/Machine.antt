@@ -1,19 +1,19 @@
 -- What the machine asks and tells of signed integers: a signed local holds bits, so that its value stands as `toZ w (ofZ w z)`, which is z where z fits.
-use Prim.Native.Nat.{ℕ, zero, suc, _-_, _/_, _%_, _^_, _≤_, _<_, _*_}
+use Prim.Native.Nat.{ℕ, zero, suc, _-_, _/_, _^_, _≤_, _<_, _*_}
 use native.Mathlib.Omega.{arith}
-use native.Mathlib.Nat.{div-le-self, mod-le, div-mul-le-self, mul-div-cancel-left, mul-pos}
+use native.Mathlib.Nat.{div-le-self, div-mul-le-self, mul-div-cancel-left, mul-pos}
 use mathlib.Core.Path.{_≡_, refl, sym, _∙_, ap, subst}
 use mathlib.Core.Bool.{Bool, true, false, not}
 use lib.Dec.{T, eqb, leb→le, lt→ltb, nleb→lt}
 use lib.IntN.{ℤ, pos, negsuc, negℤ, natAbs, _+ℤ_, _-ℤ_, _*ℤ_, +ℤ-idl}
-use lib.Signed.{mag, _≤ℤ_, _<ℤ_, leZ, ltZ, quotZ, remZ, leZ-yes, ltZ-yes, ltZ-no}
+use lib.Signed.{mag, _≤ℤ_, _<ℤ_, leZ, ltZ, quotZ, leZ-yes, ltZ-yes, ltZ-no}
 use mir.Syntax.{Width, w32, w64}
 use mir.Val.{SFits, hbits, bits, toZ, ofZ}
 use mir.Facts.{toZ-ofZ}
 use mir.ValLaws.{sfits-le}
 use borrow.Author.Tests.{ne-eqb, lt-ltb, le-ltb}
 use Rattle.integers.proofs.Ring.{v, _⊕_, _⊖_, ring, lt-up}
-use Rattle.integers.proofs.Laws.{abs-neg, sfits-abs, floorZ, divides}
+use Rattle.integers.proofs.Laws.{abs-neg, sfits-abs, floorZ}
 
 -- ---- division by a positive number
 mag-neg : (n a : ℕ) → n ≤ suc a → mag (negℤ (pos n)) ≤ a
@@ -37,21 +37,6 @@ pub div-need : (w : Width) (x d : ℤ) → SFits w x → SFits w d → pos 1 ≤
     → (0 < ofZ w d) × SFits w (quotZ (toZ w (ofZ w x)) (toZ w (ofZ w d)))
 div-need w x d fx fd h = (bits-pos w d h, rw (toZ-ofZ fx, toZ-ofZ fd) (quot-fits x d fx h))
 
--- ---- the test of an exact division
-neg-bits : (r : ℕ) → r < 2 ^ 64 → eqb (ofZ w64 (negℤ (pos r))) 0 ≡ eqb r 0
-neg-bits zero h = refl
-neg-bits (suc m) h = ne-eqb (2 ^ 64 - suc m) 0 (omega arith) ∙ sym (ne-eqb (suc m) 0 (omega arith))
-
-zero-bits : (x d : ℤ) → SFits w64 x → pos 1 ≤ℤ d → eqb (ofZ w64 (remZ x d)) 0 ≡ divides (natAbs d) x
-zero-bits (pos a) (pos b) fx h = refl
-zero-bits (pos a) (negsuc b) fx h = absurd (h .le)
-zero-bits (negsuc a) (pos b) fx h = neg-bits (suc a % b) (omega (arith, fx .sfits, mod-le (suc a) b))
-zero-bits (negsuc a) (negsuc b) fx h = absurd (h .le)
-
-pub exact-test : (x d : ℤ) → SFits w64 x → SFits w64 d → pos 1 ≤ℤ d
-    → eqb (ofZ w64 (remZ (toZ w64 (ofZ w64 x)) (toZ w64 (ofZ w64 d)))) 0 ≡ divides (natAbs d) x
-exact-test x d fx fd h = rw (toZ-ofZ fx, toZ-ofZ fd) (zero-bits x d fx h)
-
 -- ---- floor division from division toward zero
 pub floor-up : (x d : ℤ) → pos 0 ≤ℤ x → pos 1 ≤ℤ d → quotZ x d ≡ floorZ x (natAbs d)
 floor-up (pos a) (pos b) h k = refl
@@ -73,10 +58,6 @@ turned-mag (negsuc n) = omega arith
 
 pub flip-fits : {w : Width} (z : ℤ) → SFits w z → SFits w (negsuc 0 -ℤ z)
 flip-fits z f = rw flip (sfits-le (turned-mag z) f)
-
-pub floor-fits : {w : Width} (x : ℤ) (d : ℕ) → SFits w x → SFits w (floorZ x d)
-floor-fits (pos a) d f = sfits-le (div-le-self a d) f
-floor-fits (negsuc a) d f = sfits-le (div-le-self a d) f
 
 pub floor-down : (x d : ℤ) → x <ℤ pos 0 → pos 1 ≤ℤ d → negsuc 0 -ℤ quotZ (negsuc 0 -ℤ x) d ≡ floorZ x (natAbs d)
 floor-down (pos a) d h k = absurd (omega (arith, lt-up h))

@@ -1,7 +1,6 @@
 pub mod Constraints
 pub mod Tested
 pub mod Unmet
-pub mod Machine
 pub mod Summing
 pub mod Outcomes
 pub mod Theory

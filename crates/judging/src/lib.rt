@@ -3,7 +3,7 @@ ghost use mathlib.Core.Path.{_≡_};
 ghost use mathlib.Core.Bool.{true};
 ghost use mathlib.Core.Option.{none};
 ghost use mathlib.Core.List.{[], _∷_};
-ghost use Prim.Native.Nat.{ℕ, _+_, _-_, _/_, _≤_, _<_};
+ghost use Prim.Native.Nat.{ℕ, _+_, _-_, _/_, _≤_};
 ghost use lib.ListN.{length, getD};
 ghost use lib.IntN.{pos};
 ghost use Rattle.calculus.specs.Rows.{dot};
@@ -33,6 +33,7 @@ use question::same_text;
 use records::i32_at;
 use records::u16_at;
 use records::u32_at;
+use rows::relation_holds;
 
 // ---- string constraints
 
@@ -91,19 +92,6 @@ fn form_value(b: &[u8], at: usize, count: usize, values: &[i64]) -> i64
         left -= 1;
     }
     sum
-}
-
-// "relation (0 is ≥ 0, 1 is = 0, 2 is ≠ 0)"
-fn relation_holds(relation: usize, z: i64) -> bool
-    ensures { λ r. ⌜ r ≡ holds (relationOf relation) z ⌝ }
-{
-    if relation == 0 {
-        return 0 <= z;
-    }
-    if relation == 1 {
-        return z == 0;
-    }
-    z != 0
 }
 
 // Whether the values meet the arithmetic constraint with its body at a position.
@@ -194,6 +182,7 @@ fn judge_behind(b: &[u8], v: &[u8], s: Progress) -> Judgement
     }
 }
 
+// Says of an answer to a question: all met, the number of a constraint that is not met, or the refusal of the question or the answer.
 pub fn judge_answer(question: &[u8], answer: &[u8]) -> Judgement
     ensures { λ r. ⌜ Says (judging (now (question .entry)) (now (answer .entry))) (judgementOf r) ⌝ }
 {

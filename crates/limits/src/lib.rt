@@ -1,4 +1,4 @@
-// The limits of document 01 for code, under the names of calculus/specs/Limits.
+// The limits of document 01 for code: those of calculus/specs/Limits under the same names, and constants made from them.
 
 // "1 when the work area has under 6,400 numbers or the answer buffer under 4,268 bytes"
 pub const WORK_NUMBERS: usize = 6400;

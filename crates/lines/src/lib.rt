@@ -17,6 +17,7 @@ use records::Found;
 use records::read_at;
 use records::u32_at;
 
+// One byte.
 fn put_byte(out: &mut [u8], at: usize, x: u8) -> usize
     requires { ⌜ at < length (now out) ⌝ }
     ensures put { λ r. ⌜ Put (now (out .entry)) at (x ∷ []) (now (out .exit)) r ⌝ }
@@ -26,6 +27,7 @@ fn put_byte(out: &mut [u8], at: usize, x: u8) -> usize
     at + 1
 }
 
+// The bytes of a text.
 fn put_text(out: &mut [u8], at: usize, text: &[u8]) -> usize
     requires { ⌜ at + length (now text) ≤ length (now out) ⌝ }
     ensures put { λ r. ⌜ Put (now (out .entry)) at (now (text .entry)) (now (out .exit)) r ⌝ }

@@ -1,10 +1,11 @@
 -- One turn of each loop over a body's fields: what is left from a position equals what is left from the next.
-use mathlib.Core.Path.{_≡_, refl, sym, ap}
+use mathlib.Core.Path.{_≡_, refl, sym, _∙_, ap}
 use mathlib.Core.Bool.{Bool, true, false, _&&_, and-false}
-use mathlib.Core.List.{List}
-use Prim.Native.Nat.{ℕ, zero, suc, _+_, _-_, _≤_, _<_}
+use mathlib.Core.List.{List, [], _∷_}
+use Prim.Native.Nat.{ℕ, zero, suc, _+_, _*_, _-_, _≤_, _<_}
 use native.Mathlib.Omega.{arith}
 use lib.Dec.{eqb}
+use lib.ListN.{getD}
 use borrow.Author.Tests.{lt-ltb, le-ltb, eq-eqb, ne-eqb, le-leb, lt-leb}
 use Rattle.calculus.specs.Alphabet.{allCharacters}
 use Rattle.calculus.specs.Strings.{eqString, given}
@@ -47,6 +48,21 @@ module _ (a b : List ℕ) (x y : ℕ) where
   unfolding u32s
   same-more zero h = absurd (omega arith)
   same-more (suc k) h = ap (λ (n : ℕ). eqb (u32 a x) (u32 b y) && eqString (u32s a (x + 4) n) (u32s b (y + 4) n)) (sym (down k))
+
+-- strings that differ at a place differ
+pub same-apart : (s t : List ℕ) (i : ℕ) → (getD s i 0 ≡ getD t i 0 → ⊥) → eqString s t ≡ false
+same-apart [] [] i h = absurd (h refl)
+same-apart [] (d ∷ t) i h = refl
+same-apart (c ∷ s) [] i h = refl
+same-apart (c ∷ s) (d ∷ t) zero h = ap (λ (e : Bool). e && eqString s t) (ne-eqb c d h)
+same-apart (c ∷ s) (d ∷ t) (suc i) h = ap (λ (e : Bool). eqb c d && e) (same-apart s t i h) ∙ and-false (eqb c d)
+
+-- a character of a text
+pub text-char : (b : List ℕ) (at k i : ℕ) → i < k → getD (u32s b at k) i 0 ≡ u32 b (at + 4 * i)
+unfolding u32s
+text-char b at zero i h = absurd (omega arith)
+text-char b at (suc k) zero h = let none : at ≡ at + 4 * 0 = omega arith in ap (u32 b) none
+text-char b at (suc k) (suc i) h = let more : at + 4 + 4 * i ≡ at + 4 * suc i = omega arith in text-char b (at + 4) k i (omega arith) ∙ ap (u32 b) more
 
 -- texts of different lengths differ
 pub same-lengths : (a b : List ℕ) (m k x y : ℕ) → (m ≡ k → ⊥) → eqString (u32s a x m) (u32s b y k) ≡ false

@@ -1,11 +1,11 @@
 -- Where the records of a question stand that was read up to a position, and what holds of each.
-use Prim.Native.Nat.{ℕ, _+_, _%_, _≤_, _<_}
+use Prim.Native.Nat.{ℕ, _+_, _*_, _%_, _≤_, _<_}
 use mathlib.Core.Path.{_≡_}
 use mathlib.Core.Bool.{true}
 use mathlib.Core.List.{List}
 use lib.ListN.{length}
 use Rattle.calculus.specs.Alphabet.{allCharacters}
-use Rattle.calculus.specs.Limits.{alphabetLimit, variableLimit, literalLimit, factLimit}
+use Rattle.calculus.specs.Limits.{alphabetLimit, variableLimit, literalLimit, lengthLimit, factLimit}
 use Rattle.format.specs.Records.{size, kind, next}
 use Rattle.format.specs.Question.{textOf, stringFault, arithmeticFault}
 use Rattle.format.specs.Places.{skip, literalsFrom}
@@ -16,7 +16,7 @@ pub record LiteralAt (b : List ℕ) (n at : ℕ) : Type 0 where
   pub literal : kind b at ≡ 2
   pub whole : next b at ≤ length b
   pub some-character : 4 ≤ size b at
-  pub short : size b at ≤ 256
+  pub short : size b at ≤ 4 * lengthLimit
   pub characters-whole : size b at % 4 ≡ 0
   pub characters-over : allCharacters n (textOf b (at + 6) (size b at)) ≡ true
 

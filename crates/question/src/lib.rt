@@ -16,6 +16,7 @@ ghost use Rattle.format.specs.Places.{skip, texts, literalsFrom};
 ghost use Rattle.question.specs.Progress.{progressOf, readingOf};
 ghost use Rattle.question.specs.Standing.{Stands};
 use limits::ALPHABET_LIMIT;
+use limits::COLUMN_LIMIT;
 use limits::FACT_LIMIT;
 use limits::LITERAL_LIMIT;
 use limits::NUMBER_LIMIT;
@@ -27,6 +28,9 @@ use records::bits_within;
 use records::read_at;
 use records::u16_at;
 use records::u32_at;
+
+// An arithmetic constraint in units of six bytes: the relation and the constant are one, each pair is one.
+const SIXTHS_LIMIT: usize = COLUMN_LIMIT + 1;
 
 // ---- the bodies of the question's records: the first number that applies to one, 0 for none. A body is its position and its size.
 
@@ -73,12 +77,20 @@ pub fn all_characters(b: &[u8], n: usize, at: usize, count: usize) -> bool
     true
 }
 
-// Whether the m characters at one position and the k at another are the same. The loop has no exit, so that it is compiled to compare several characters at once.
+// Whether the m characters at one position and the k at another are the same. The last ones are compared first, since texts that share their front are common;
+// the loop has no exit, so that it is compiled to compare several characters at once.
 pub fn same_text(a: &[u8], x: usize, m: usize, b: &[u8], y: usize, k: usize) -> bool
     requires { ⌜ (x + 4 * m ≤ length (now a)) × (y + 4 * k ≤ length (now b)) ⌝ }
     ensures { λ r. ⌜ r ≡ eqString (u32s (now (a .entry)) x m) (u32s (now (b .entry)) y k) ⌝ }
 {
     if m != k {
+        return false;
+    }
+    if m == 0 {
+        return true;
+    }
+    let last = 4 * (m - 1);
+    if u32_at(a, x + last) != u32_at(b, y + last) {
         return false;
     }
     let mut same = true;
@@ -244,7 +256,7 @@ fn arithmetic_fault(b: &[u8], c: usize, at: usize, size: usize) -> usize
         return 5;
     }
     let sixths = size / 6;
-    if 49 < sixths {
+    if SIXTHS_LIMIT < sixths {
         return 5;
     }
     let relation = u16_at(b, at);

@@ -1,6 +1,6 @@
 // The bytes of a ticket or an answer: little-endian fields, and the record at a position.
 ghost use mathlib.Core.Path.{_≡_};
-ghost use Prim.Native.Nat.{_+_, _*_, _<_, _≤_};
+ghost use Prim.Native.Nat.{_+_, _<_, _≤_};
 ghost use lib.ListN.{length};
 ghost use lib.IntN.{natAbs};
 ghost use Rattle.format.specs.Fields.{u16, u32, i32, signed, within};
@@ -29,7 +29,7 @@ pub fn u32_at(b: &[u8], at: usize) -> usize
 }
 
 // The number whose two's complement at 32 bits is v.
-pub fn signed_of(v: usize) -> i64
+fn signed_of(v: usize) -> i64
     requires { ⌜ v < 4294967296 ⌝ }
     ensures { λ r. ⌜ (r ≡ signed v) × (natAbs r ≤ 2147483648) ⌝ }
 {
@@ -89,8 +89,7 @@ pub fn record_at(b: &[u8], at: usize) -> Found
     }
 }
 
-// "Records are read one after another from the lent bytes": the ticket and a position in it. Each function takes the reader apart and
-// calls the one on the slice and the number.
+// "Records are read one after another from the lent bytes": the ticket and a position in it.
 pub struct Reader<'a> {
     pub ticket: &'a [u8],
     pub at: usize,
@@ -102,6 +101,7 @@ pub fn reader_at<'a>(ticket: &'a [u8], at: usize) -> Reader<'a>
     Reader { ticket, at }
 }
 
+// The record at the reader's position.
 pub fn next_record<'a>(r: Reader<'a>) -> Found
     ensures { λ x. ⌜ x ≡ foundAt (now (r .entry .ticket)) (r .entry .at) ⌝ }
 {

@@ -6,8 +6,8 @@ use native.Mathlib.Decide.{decLt}
 use mathlib.Core.Path.{_≡_, refl, sym, _∙_, ap, ap₂}
 use mathlib.Core.Option.{none, some}
 use mathlib.Core.List.{List, [], _∷_, _++_}
-use lib.ListN.{length, getD, take, drop, getElem?, length-append, length-take, length-drop}
-use lib.Seq.{take-append-le, take-all, take-at, drop-at, drop-drop, take-take, length-take-le, getD-take, getD-drop}
+use lib.ListN.{length, take, drop, getElem?, length-append, length-take, length-drop}
+use lib.Seq.{take-append-le, take-all, take-at, drop-at, drop-drop, take-take, length-take-le}
 use lib.IntN.{ℤ}
 use Rattle.calculus.specs.Facts.{Fact}
 use Rattle.lists.proofs.Filled.{drop-take}
@@ -17,10 +17,6 @@ use Rattle.rows.specs.Rows.{rowLength, factOf, rowAt, branchOf}
 
 pub length-row : (w : List ℤ) (k : ℕ) → rowLength * k + rowLength ≤ length w → length (rowAt w k) ≡ rowLength
 length-row w k h = simp (length-take, length-drop) (omega arith)
-
--- a number of a row, in the work area
-pub row-number : (w : List ℤ) (k j : ℕ) (d : ℤ) → j < rowLength → getD (rowAt w k) j d ≡ getD w (rowLength * k + j) d
-row-number w k j d h = getD-take rowLength (drop (rowLength * k) w) j d h ∙ getD-drop (rowLength * k) w j d
 
 -- ---- the first k rows, as facts
 
@@ -107,11 +103,3 @@ pub branch-filled : (w row : List ℤ) (k : ℕ) (f : Fact) → rowLength * k + 
 branch-filled w row k f h n e =
     let m : rowLength * k + rowLength - rowLength * k ≡ rowLength = omega arith in
     rw (m, drop-drop) (branch-put w row k h n) ∙ ap (λ (g : Fact). branchOf w k ++ (g ∷ [])) e
-
--- the facts before it stay
-pub branch-kept : (w v : List ℤ) (k j : ℕ) (f : Fact) → branchOf v (k + 1) ≡ branchOf w k ++ (f ∷ []) → j ≤ k → branchOf v j ≡ branchOf w j
-branch-kept w v k j f e h =
-    sym (branch-take v (k + 1) j (omega arith))
-    ∙ ap (λ (b : List Fact). take j b) e
-    ∙ take-append-le j (branchOf w k) (f ∷ []) (rw (length-branch w k) h)
-    ∙ branch-take w k j h

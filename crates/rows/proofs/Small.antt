@@ -14,7 +14,7 @@ use mir.Facts.{toZ-ofZ}
 use Rattle.integers.proofs.Laws.{minus-one-*ℤ, abs-+-le, sfits-abs}
 use Rattle.integers.proofs.Machine.{minus-fits, minus-is, flip-fits}
 use Rattle.lists.proofs.Options.{none-some, some-injective}
-use Rattle.lists.proofs.Every.{every-snoc, every-take}
+use Rattle.lists.proofs.Every.{every-snoc}
 use Rattle.calculus.specs.Limits.{numberLimit, factLimit, workNumbers}
 use Rattle.calculus.specs.Facts.{Fact}
 use Rattle.format.specs.Fields.{within}
@@ -22,7 +22,7 @@ use Rattle.format.specs.Checking.{rowWithin, factWithin, factsWithin}
 use Rattle.format.proofs.Faults.{and-true}
 use Rattle.rows.specs.Rows.{factOf, rowAt, branchOf}
 use Rattle.rows.specs.Work.{Within, Fine}
-use Rattle.rows.proofs.Branches.{branch-at, branch-take}
+use Rattle.rows.proofs.Branches.{branch-at}
 
 -- every number of a form within the limit
 pub row-small : (zs : List ℤ) → rowWithin zs ≡ true → Within numberLimit zs
@@ -46,17 +46,6 @@ fine-at w count k fine h = facts-at (branchOf w count) k (factOf (rowAt w k)) (f
 pub fine-start : (w : List ℤ) → workNumbers ≤ length w → Fine w 0
 unfolding branchOf factsWithin
 fine-start w h = record { few = omega arith; room = h; small = refl }
-
--- cut back to the first m facts
-pub fine-cut : (w : List ℤ) (count m : ℕ) → Fine w count → m ≤ count → Fine w m
-unfolding factsWithin
-fine-cut w count m fine h =
-    let few = fine .few in
-    record {
-      few = omega arith;
-      room = fine .room;
-      small = ap factsWithin (sym (branch-take w count m h)) ∙ every-take factWithin factsWithin refl (λ f b. refl) (branchOf w count) m (fine .small);
-    }
 
 -- a fact within the limit is put behind k others
 pub fine-put : (w v : List ℤ) (k : ℕ) (f : Fact) → Fine w k → k < factLimit → length v ≡ length w → branchOf v (k + 1) ≡ branchOf w k ++ (f ∷ []) → factWithin f ≡ true → Fine v (k + 1)

@@ -1,12 +1,13 @@
 -- What a row's tag says of its fact.
-use Prim.Native.Nat.{ℕ, zero, suc, _+_, _≤_, _<_}
+use Prim.Native.Nat.{ℕ, zero, suc, _+_, _-_, _≤_, _<_}
 use native.Mathlib.Omega.{arith}
 use mathlib.Core.Path.{_≡_, refl, sym, _∙_, ap, ap₂, subst}
-use mathlib.Core.Bool.{cond}
+use mathlib.Core.Bool.{cond, false, true, true≢false}
 use mathlib.Core.List.{List, _∷_}
-use borrow.Author.Tests.{lt-ltb}
+use borrow.Author.Tests.{le-ltb, lt-ltb, ltb-false, ltb-true}
 use lib.ListN.{getD, drop}
 use lib.IntN.{ℤ, pos, negsuc}
+use lib.Signed.{ltZ}
 use mir.Syntax.{w64}
 use mir.Val.{SFits, toZ, ofZ}
 use mir.Facts.{toZ-ofZ, toZ-pos}
@@ -101,3 +102,46 @@ unfolding factOf
 row-relation row k e h =
     kind-relation (getD row 0 (pos 0)) (index (getD row 1 (pos 0))) (index (getD row 2 (pos 0))) (drop 1 row) (subst (λ n. n ≤ 2) e h)
     ∙ ap (λ n. arithmetic (relationOf n) (drop 1 row)) (sym e)
+
+kind-string : (z : ℤ) (a b : ℕ) (e : List ℤ) → 2 < kindOf (tagged z a b e) → tagged z a b e ≡ stringFact (kindOf (tagged z a b e) - 3) a b
+unfolding tagged kindOf
+kind-string (pos zero) a b e h = absurd (omega arith)
+kind-string (pos (suc zero)) a b e h = absurd (omega arith)
+kind-string (pos (suc (suc zero))) a b e h = absurd (omega arith)
+kind-string (pos (suc (suc (suc zero)))) a b e h = refl
+kind-string (pos (suc (suc (suc (suc zero))))) a b e h = refl
+kind-string (pos (suc (suc (suc (suc (suc zero)))))) a b e h = refl
+kind-string (pos (suc (suc (suc (suc (suc (suc n))))))) a b e h = absurd (omega arith)
+kind-string (negsuc n) a b e h = absurd (omega arith)
+
+-- a row of kind 3, 4 or 5 is ≈, ≉ or ≈ literal of the operands in numbers 1 and 2
+pub row-string : (row : List ℤ) (k : ℕ) → k ≡ kindOf (factOf row) → 2 < k → factOf row ≡ stringFact (k - 3) (index (getD row 1 (pos 0))) (index (getD row 2 (pos 0)))
+unfolding factOf
+row-string row k e h =
+    kind-string (getD row 0 (pos 0)) (index (getD row 1 (pos 0))) (index (getD row 2 (pos 0))) (drop 1 row) (subst (λ n. 2 < n) e h)
+    ∙ ap (λ n. stringFact (n - 3) (index (getD row 1 (pos 0))) (index (getD row 2 (pos 0)))) (sym e)
+
+-- ---- a row's number as an index
+
+module _ (z : ℤ) (f : SFits w64 z) where
+  pub index-negative : ltZ (toZ w64 (ofZ w64 z)) (pos 0) ≡ true → index z ≡ 0
+  index-negative e = go z (rw (toZ-ofZ f) at e)
+    where
+      go : (z : ℤ) → ltZ z (pos 0) ≡ true → index z ≡ 0
+      go (pos n) h = absurd (let k : n < 0 = ltb-true n 0 h in omega arith)
+      go (negsuc n) h = refl
+
+  pub index-high : ltZ (pos 15) (toZ w64 (ofZ w64 z)) ≡ true → index z ≡ 0
+  index-high e = go z (rw (toZ-ofZ f) at e)
+    where
+      go : (z : ℤ) → ltZ (pos 15) z ≡ true → index z ≡ 0
+      go (pos n) h = rw (le-ltb n 16 (let k : 15 < n = ltb-true 15 n h in omega arith))
+      go (negsuc n) h = refl
+
+  pub index-within : ltZ (toZ w64 (ofZ w64 z)) (pos 0) ≡ false → ltZ (pos 15) (toZ w64 (ofZ w64 z)) ≡ false
+      → (n : ℕ) × (n < 16) × (toZ w64 (ofZ w64 z) ≡ pos n) × (index z ≡ n)
+  index-within e g = rw (toZ-ofZ f) (go z (rw (toZ-ofZ f) at e) (rw (toZ-ofZ f) at g))
+    where
+      go : (z : ℤ) → ltZ z (pos 0) ≡ false → ltZ (pos 15) z ≡ false → (n : ℕ) × (n < 16) × (z ≡ pos n) × (index z ≡ n)
+      go (pos n) h k = let l : n < 16 = (let m : n ≤ 15 = ltb-false 15 n k in omega arith) in (n, l, refl, rw (lt-ltb n 16 l))
+      go (negsuc n) h k = absurd (true≢false h)

@@ -2,10 +2,10 @@
 use Prim.Native.Nat.{ℕ, suc, _≤_}
 use mathlib.Core.Path.{_≡_}
 use mathlib.Core.Bool.{Bool, true, _||_}
-use mathlib.Core.List.{List, _∷_}
+use mathlib.Core.List.{List}
 use lib.ListN.{length, getD, set}
 use lib.IntN.{ℤ, pos, negsuc, natAbs}
-use Rattle.calculus.specs.Limits.{columnLimit, factLimit, workNumbers}
+use Rattle.calculus.specs.Limits.{factLimit, workNumbers}
 use Rattle.calculus.specs.Rows.{number, column, minus}
 use Rattle.calculus.specs.Facts.{Fact, Branch, same, apart, isLiteral, arithmetic, ge, eq, ne}
 use Rattle.calculus.specs.Rules.{anyFact, statesZero}

@@ -1,11 +1,11 @@
 // A fact as a row of 50 numbers in its own stretch of the work area: read, written, built, tested and evaluated.
 ghost use mathlib.Core.Path.{_≡_};
 ghost use mathlib.Core.Logic.{_≢_};
-ghost use mathlib.Core.Bool.{true, _||_};
-ghost use mathlib.Core.List.{List, [], _∷_, _++_};
-ghost use Prim.Native.Nat.{ℕ, _+_, _*_, _≤_, _<_};
+ghost use mathlib.Core.Bool.{true};
+ghost use mathlib.Core.List.{[], _∷_, _++_};
+ghost use Prim.Native.Nat.{_+_, _*_, _≤_, _<_};
 ghost use lib.ListN.{length, getD, drop};
-ghost use lib.IntN.{pos, negsuc, natAbs};
+ghost use lib.IntN.{pos, negsuc};
 ghost use Rattle.calculus.specs.Limits.{variableLimit, columnLimit, numberLimit, valueLimit, factLimit, workNumbers};
 ghost use Rattle.calculus.specs.Rows.{zeros, column, scale, minus, less, below, allZero, eqRow};
 ghost use Rattle.calculus.specs.Facts.{holds, arithmetic, ge, eq};
@@ -14,7 +14,7 @@ ghost use Rattle.calculus.specs.Rules.{falsum, joined, statesZero, anyFact};
 ghost use Rattle.format.specs.Fields.{within};
 ghost use Rattle.format.specs.Question.{stringFact, relationOf};
 ghost use Rattle.format.specs.Checking.{fits, rowWithin, factWithin, keepsFact, keeps};
-ghost use Rattle.rows.specs.Rows.{rowLength, factOf, rowAt, branchOf};
+ghost use Rattle.rows.specs.Rows.{rowLength, index, factOf, rowAt, branchOf};
 ghost use Rattle.rows.specs.Work.{kindOf, Fine, Within, single, difference, statesEqual};
 use limits::COLUMN_LIMIT;
 use limits::NUMBER_MAX;
@@ -25,7 +25,7 @@ use limits::ROW_LENGTH;
 
 // Row k, as a middle part of the work area.
 pub fn row_at(work: &[i64], k: usize) -> &[i64]
-    requires { ⌜ (k < factLimit) × (workNumbers ≤ length (now work)) ⌝ }
+    requires { ⌜ (k < factLimit) × (rowLength * k + rowLength ≤ length (now work)) ⌝ }
     ensures { λ r. ⌜ now r ≡ rowAt (now (work .entry)) k ⌝ }
 {
     let from = ROW_LENGTH * k;
@@ -80,6 +80,22 @@ pub fn kind_of(row: &[i64]) -> usize
     2
 }
 
+// An operand of a string fact's row, in number 1 or 2: the number of a variable or a literal.
+pub fn operand(row: &[i64], j: usize) -> usize
+    requires { ⌜ j < length (now row) ⌝ }
+    ensures { λ r. ⌜ r ≡ index (getD (now (row .entry)) j (pos 0)) ⌝ }
+    ensures { λ r. ⌜ r < variableLimit ⌝ }
+{
+    let z = row[j];
+    if z < 0 {
+        return 0;
+    }
+    if z > 15 {
+        return 0;
+    }
+    z as usize
+}
+
 // ---- new rows, each in a stretch of 50 numbers with any contents
 
 // A row becomes all zero.
@@ -95,7 +111,7 @@ pub fn clear_row(row: &mut [i64])
 }
 
 // A string fact: relation 0 is variable ≈ variable, 1 is ≉, 2 is variable ≈ literal.
-pub fn fill_string(row: &mut [i64], relation: usize, a: usize, b: usize)
+fn fill_string(row: &mut [i64], relation: usize, a: usize, b: usize)
     requires { ⌜ length (now row) ≡ rowLength ⌝ }
     requires { ⌜ (relation ≤ 2) × (a < variableLimit) × (b < variableLimit) ⌝ }
     ensures { λ _. ⌜ factOf (now (row .exit)) ≡ stringFact relation a b ⌝ }
@@ -290,7 +306,7 @@ fn constant(row: &[i64]) -> bool
 }
 
 // Does a value stand in the relation to 0: 0 is ≥, 1 is =, 2 is ≠?
-fn holds_of(relation: usize, value: i64) -> bool
+pub fn relation_holds(relation: usize, value: i64) -> bool
     ensures { λ r. ⌜ r ≡ holds (relationOf relation) value ⌝ }
 {
     if relation == 0 {
@@ -312,7 +328,7 @@ pub fn is_false(row: &[i64]) -> bool
         return false;
     }
     let c = row[1];
-    if holds_of(kind, c) {
+    if relation_holds(kind, c) {
         return false;
     }
     constant(row)
@@ -369,7 +385,7 @@ fn same_row(row: &[i64], other: &[i64]) -> bool
 }
 
 // Does a fact state that column i − column j = 0?
-pub fn states_difference(work: &[i64], count: usize, i: usize, j: usize) -> bool
+fn states_difference(work: &[i64], count: usize, i: usize, j: usize) -> bool
     requires { ⌜ (count ≤ factLimit) × (workNumbers ≤ length (now work)) ⌝ }
     requires { ⌜ (i < columnLimit) × (j < columnLimit) × (i ≢ j) ⌝ }
     ensures { λ r. ⌜ r ≡ anyFact (statesZero (minus (column i) (column j))) (branchOf (now (work .entry)) count) ⌝ }
@@ -401,7 +417,7 @@ pub fn states_equal(work: &[i64], count: usize, i: usize, j: usize) -> bool
 // ---- values
 
 // The form's value where the columns have the model's values.
-pub fn row_value(row: &[i64], model: &[i64]) -> i64
+fn row_value(row: &[i64], model: &[i64]) -> i64
     requires { ⌜ (length (now row) ≡ rowLength) × (length (now model) ≡ columnLimit) ⌝ }
     requires { ⌜ rowWithin (drop 1 (now row)) ≡ true ⌝ }
     requires { ⌜ Within valueLimit (now model) ⌝ }
@@ -419,7 +435,7 @@ pub fn row_value(row: &[i64], model: &[i64]) -> i64
 }
 
 // Does the fact hold by the model's values?
-pub fn keeps_row(row: &[i64], model: &[i64]) -> bool
+fn keeps_row(row: &[i64], model: &[i64]) -> bool
     requires { ⌜ (length (now row) ≡ rowLength) × (length (now model) ≡ columnLimit) ⌝ }
     requires { ⌜ factWithin (factOf (now row)) ≡ true ⌝ }
     requires { ⌜ Within valueLimit (now model) ⌝ }
@@ -430,7 +446,7 @@ pub fn keeps_row(row: &[i64], model: &[i64]) -> bool
         return true;
     }
     let value = row_value(row, model);
-    holds_of(kind, value)
+    relation_holds(kind, value)
 }
 
 // Does the model meet every arithmetic fact?

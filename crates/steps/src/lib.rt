@@ -2,7 +2,7 @@
 // its rule's children. A body is its position and its size.
 ghost use mathlib.Core.Path.{_≡_};
 ghost use mathlib.Core.Bool.{true};
-ghost use Prim.Native.Nat.{ℕ, _+_, _*_, _-_, _/_, _<_, _≤_};
+ghost use Prim.Native.Nat.{ℕ, _+_, _*_, _-_, _<_, _≤_};
 ghost use lib.ListN.{length, getD};
 ghost use lib.Dec.{eqb};
 ghost use Rattle.calculus.specs.Limits.{variableLimit};
@@ -85,7 +85,7 @@ fn fits_form(f: Form, size: usize) -> bool
 }
 
 // Whether a body's length fits the form of its rule.
-pub fn length_fits(b: &[u8], at: usize, size: usize) -> bool
+fn length_fits(b: &[u8], at: usize, size: usize) -> bool
     requires { ⌜ at + size ≤ length (now b) ⌝ }
     ensures { λ r. ⌜ r ≡ lengthFits (now (b .entry)) at size ⌝ }
 {
@@ -159,7 +159,7 @@ fn s_prop_in_range(b: &[u8], p: usize, at: usize) -> bool
 }
 
 // Whether the fields of a body whose length fits are in their ranges, over p string variables and c columns; of an unknown rule they are not.
-pub fn operands_in_range(b: &[u8], p: usize, c: usize, at: usize, size: usize) -> bool
+fn operands_in_range(b: &[u8], p: usize, c: usize, at: usize, size: usize) -> bool
     requires { ⌜ at + size ≤ length (now b) ⌝ }
     requires { ⌜ lengthFits (now b) at size ≡ true ⌝ }
     ensures { λ r. ⌜ r ≡ operandsInRange (now (b .entry)) p c (rule (now (b .entry)) at) at size ⌝ }
@@ -216,7 +216,7 @@ pub fn child_facts(b: &[u8], at: usize, k: usize) -> usize
 }
 
 // Claim 2: "the child taken, from 1; it is 1 for a rule with one conclusion or none".
-pub fn child_in_range(b: &[u8], n: usize, at: usize, size: usize) -> bool
+fn child_in_range(b: &[u8], n: usize, at: usize, size: usize) -> bool
     requires { ⌜ at + size ≤ length (now b) ⌝ }
     requires { ⌜ lengthFits (now b) at size ≡ true ⌝ }
     ensures { λ r. ⌜ r ≡ childInRange n (stepAt (now (b .entry)) at size) (child (now (b .entry)) at) ⌝ }

@@ -9,7 +9,7 @@ use mathlib.Core.Bool.{true}
 use mathlib.Core.Option.{Option, none, some}
 use mathlib.Core.List.{List, [], _∷_, _++_}
 use lib.ListN.{length, getD, set, drop, length-append, List·getD-append}
-use lib.Seq.{getD-at, ext-getD, getD-set-same, getD-set-other}
+use lib.Seq.{sets, getD-at, ext-getD, getD-set-same, getD-set-other, take-all}
 use lib.Dec.{leb, leb→le}
 use lib.IntN.{ℤ, natAbs}
 use Rattle.lists.proofs.Options.{some-injective, none-some}
@@ -27,8 +27,8 @@ use Rattle.calculus.proofs.Words.{given→, →given}
 use Rattle.calculus.proofs.Tests.{every→}
 use Rattle.format.specs.Checking.{shortLengths}
 use Rattle.answer.specs.Table.{row, tableStrings}
-use Rattle.strings.specs.Filling.{sized, entry, storedAs, before, givenStrings, fixedAt, completed}
-use Rattle.strings.proofs.Table.{some-sized, stored-there, stored-passed, completed-own, completed-copied, completed-fresh}
+use Rattle.strings.specs.Filling.{entry, before, givenStrings, fixedAt, completed}
+use Rattle.strings.proofs.Table.{sized-some, some-sized, stored-there, stored-passed, completed-own, completed-copied, completed-fresh}
 use Rattle.strings.proofs.Words.{fresh-same}
 
 -- ---- the strings that are given, by variable
@@ -132,12 +132,13 @@ module _ (u : Question) (b : Branch) (m : List ℤ) where
             ∙ fresh-same (u .n) l (u .p) (givenStrings characters sizes (u .p)) (before-x x) 0 given-is
             ∙ sym (S-new u b m x e (let g : low ≤ x = lowest-le b x in omega arith))
 
-    -- the string is stored
-    pub round-more : (size : ℕ) (w : List ℕ) → lengthLimit ≤ length w → u .p ≤ length sizes → lengthLimit * u .p ≤ length characters
-        → sized size w ≡ some (S u b m x) → Filled (storedAs (sized size w) characters x) (set sizes x size) (x + 1)
-    round-more size w long inside room e = record {
-      passed = stored-passed characters sizes x size w long (omega arith) (omega arith) (λ y. some (S u b m y)) (f .passed) e;
-      ahead = λ y g k. stored-there characters sizes x size w long (omega arith) (omega arith) y (λ q. omega arith) (omega arith) ∙ f .ahead y (omega arith) k;
+    -- the string s is stored
+    pub round-more : (size : ℕ) (s : List ℕ) → size ≡ length s → size ≤ lengthLimit → u .p ≤ length sizes → lengthLimit * u .p ≤ length characters
+        → s ≡ S u b m x → Filled (sets characters (lengthLimit * x) s) (set sizes x size) (x + 1)
+    round-more size s n short inside room e = record {
+      passed = stored-passed characters sizes x size s (omega arith) (λ _. omega arith) (omega arith) (omega arith) (λ y. some (S u b m y)) (f .passed)
+          (sized-some size s short ∙ ap some (take-all size s (omega arith) ∙ e));
+      ahead = λ y g k. stored-there characters sizes x size s (omega arith) (λ _. omega arith) (omega arith) (omega arith) y (λ q. omega arith) (omega arith) ∙ f .ahead y (omega arith) k;
     }
 
 -- ---- the whole table

@@ -11,10 +11,10 @@ use mathlib.Core.Option.{Option, none, some}
 use mathlib.Core.List.{List, [], _∷_, _++_, append-assoc}
 use borrow.Author.Tests.{le-leb, lt-leb, leb-true, leb-false, lt-ltb, le-ltb}
 use lib.Dec.{leb, ltb}
-use lib.ListN.{length, getD, take, drop, set, length-drop}
-use lib.Seq.{sets, sets-eq, length-sets, take-suc, length-take-le, take-at, drop-at, ext-getD, getD-take, getD-drop, getD-set-same, getD-set-other}
+use lib.ListN.{length, getD, take, drop, set, length-drop, take-append-drop}
+use lib.Seq.{sets, sets-eq, length-sets, take-suc, length-take-le, take-append-le, drop-at, drop-drop, ext-getD, getD-take, getD-drop, getD-set-same, getD-set-other}
 use lib.IntN.{ℤ, pos}
-use Rattle.lists.proofs.Options.{some-none, none-some, some-injective}
+use Rattle.lists.proofs.Options.{none-some, some-injective}
 use Rattle.lists.proofs.Stores.{sets-sets}
 use Rattle.calculus.specs.Limits.{lengthLimit}
 use Rattle.calculus.specs.Rows.{eqℤ}
@@ -28,7 +28,7 @@ use Rattle.format.specs.Places.{skip, texts, literalsFrom}
 use Rattle.format.proofs.Fields.{length-u32s}
 use Rattle.format.proofs.Places.{text-at}
 use Rattle.answer.specs.Table.{row}
-use Rattle.strings.specs.Filling.{sized, entry, storedAs, before, givenStrings, isIt, fixedAt, completed, ShortLiterals}
+use Rattle.strings.specs.Filling.{sized, entry, before, givenStrings, isIt, fixedAt, completed, ShortLiterals}
 
 -- ---- a string by its size
 
@@ -48,12 +48,13 @@ module _ (k : ℕ) (l : List ℕ) where
       go true f = let h : k ≤ lengthLimit = leb-true k lengthLimit f in (h, some-injective (sym (sized-some h) ∙ e))
       go false f = absurd (none-some (sym (sized-none (leb-false k lengthLimit f)) ∙ e))
 
-  pub none-sized : sized k l ≡ none → lengthLimit < k
-  none-sized e = go (leb k lengthLimit) refl
-    where
-      go : (t : Bool) → leb k lengthLimit ≡ t → lengthLimit < k
-      go true f = absurd (some-none (sym (sized-some (leb-true k lengthLimit f)) ∙ e))
-      go false f = leb-false k lengthLimit f
+-- ---- a row that is read from the front
+
+pub length-row : (characters : List ℕ) (y m : ℕ) → m ≤ lengthLimit → lengthLimit * y + lengthLimit ≤ length characters → length (row characters y m) ≡ m
+length-row characters y m h r = length-take-le m (drop (lengthLimit * y) characters) (rw length-drop (omega arith))
+
+pub row-at : (characters : List ℕ) (y m i : ℕ) → i < m → getD (row characters y m) i 0 ≡ getD characters (lengthLimit * y + i) 0
+row-at characters y m i h = getD-take m (drop (lengthLimit * y) characters) i 0 h ∙ getD-drop (lengthLimit * y) characters i 0
 
 -- ---- stores
 
@@ -66,6 +67,12 @@ stored-more b w at i h =
     ∙ sets-sets (take i w) (getD w i 0 ∷ []) b at
     ∙ ap (λ (l : List ℕ). sets b at l) (sym e)
 
+-- the first character alone
+pub first-put : (l : List ℕ) (c : ℕ) → 1 ≤ length l → take 1 (set l 0 c) ≡ c ∷ []
+first-put [] c h = absurd (omega arith)
+first-put (x ∷ []) c h = refl
+first-put (x ∷ y ∷ l) c h = refl
+
 -- a place outside the run is kept
 behind : (w b : List ℕ) (at i : ℕ) → at + length w ≤ i → getD (sets b at w) i 0 ≡ getD b i 0
 behind [] b at i h = refl
@@ -76,12 +83,12 @@ ahead [] b at i l = refl
 ahead (x ∷ w) b at i l = ahead w (set b at x) (suc at) i (omega arith) ∙ getD-set-other b at i x 0 (λ e. omega arith)
 
 -- its own row
-row-put : (b s : List ℕ) (x : ℕ) → length s ≤ lengthLimit → lengthLimit * x + lengthLimit ≤ length b → row (sets b (lengthLimit * x) s) x (length s) ≡ s
-row-put b s x h r =
+row-put : (b s : List ℕ) (x k : ℕ) → k ≤ length s → lengthLimit * x + length s ≤ length b → row (sets b (lengthLimit * x) s) x k ≡ take k s
+row-put b s x k h r =
     let n : length (take (lengthLimit * x) b) ≡ lengthLimit * x = length-take-le (lengthLimit * x) b (omega arith) in
-    ap (λ (l : List ℕ). take (length s) (drop (lengthLimit * x) l)) (sets-eq s b (lengthLimit * x) (omega arith) ∙ append-assoc (take (lengthLimit * x) b) s (drop (lengthLimit * x + length s) b))
-    ∙ ap (λ (l : List ℕ). take (length s) l) (drop-at (take (lengthLimit * x) b) (s ++ drop (lengthLimit * x + length s) b) (lengthLimit * x) n)
-    ∙ take-at s (drop (lengthLimit * x + length s) b) (length s) refl
+    ap (λ (l : List ℕ). take k (drop (lengthLimit * x) l)) (sets-eq s b (lengthLimit * x) r ∙ append-assoc (take (lengthLimit * x) b) s (drop (lengthLimit * x + length s) b))
+    ∙ ap (λ (l : List ℕ). take k l) (drop-at (take (lengthLimit * x) b) (s ++ drop (lengthLimit * x + length s) b) (lengthLimit * x) n)
+    ∙ take-append-le k s (drop (lengthLimit * x + length s) b) h
 
 -- the rows of the others
 row-kept : (b s : List ℕ) (x y k : ℕ) → length s ≤ lengthLimit → x ≢ y → k ≤ lengthLimit → lengthLimit * y + lengthLimit ≤ length b
@@ -101,57 +108,63 @@ row-kept b s x y k h ne l r =
         ∙ place i (omega arith) (decLt (lengthLimit * y + i) (lengthLimit * x))
         ∙ sym (getD-take k (drop (lengthLimit * y) b) i 0 d ∙ getD-drop (lengthLimit * y) b i 0)
 
--- ---- a variable gets a string, or none, with its size
+-- what a row holds is stored again
+pub row-again : (b : List ℕ) (x k : ℕ) → k ≤ lengthLimit → lengthLimit * x + lengthLimit ≤ length b → sets b (lengthLimit * x) (row b x k) ≡ b
+row-again b x k h r =
+    let at = lengthLimit * x in
+    let n : length (row b x k) ≡ k = length-row b x k h r in
+    sets-eq (row b x k) b at (omega arith)
+    ∙ append-assoc (take at b) (row b x k) (drop (at + length (row b x k)) b)
+    ∙ ap (λ (i : ℕ). take at b ++ (row b x k ++ drop (at + i) b)) n
+    ∙ ap (λ (l : List ℕ). take at b ++ (row b x k ++ l)) (sym (drop-drop k at b))
+    ∙ ap (λ (l : List ℕ). take at b ++ l) (take-append-drop k (drop at b))
+    ∙ take-append-drop at b
 
-module _ (characters sizes : List ℕ) (x size : ℕ) (w : List ℕ) (long : lengthLimit ≤ length w) (inside : x < length sizes) (room : lengthLimit * x + lengthLimit ≤ length characters) where
-  new-size : getD (set sizes x size) x 0 ≡ size
-  new-size = getD-set-same sizes x size 0 inside
+-- a part that was lent is stored
+pub part-stored : (b v : List ℕ) (at k : ℕ) → length v ≡ k → at + k ≤ length b → take at b ++ (v ++ drop k (drop at b)) ≡ sets b at v
+part-stored b v at k n h =
+    sym (sets-eq v b at (omega arith) ∙ append-assoc (take at b) v (drop (at + length v) b)
+    ∙ ap (λ (i : ℕ). take at b ++ (v ++ drop (at + i) b)) n ∙ ap (λ (l : List ℕ). take at b ++ (v ++ l)) (sym (drop-drop k at b)))
 
-  pub stored-here : entry (storedAs (sized size w) characters x) (set sizes x size) x ≡ sized size w
-  unfolding storedAs
-  stored-here = ap (λ (k : ℕ). sized k (drop (lengthLimit * x) (storedAs (sized size w) characters x))) new-size ∙ go (leb size lengthLimit) refl
+-- ---- the row of a variable becomes v, with the size of its string, past 64 for none
+
+module _ (characters sizes : List ℕ) (x size : ℕ) (v : List ℕ) (short : length v ≤ lengthLimit) (long : size ≤ lengthLimit → size ≤ length v) (inside : x < length sizes)
+    (room : lengthLimit * x + lengthLimit ≤ length characters) where
+  abbrev stored : List ℕ
+  stored = sets characters (lengthLimit * x) v
+
+  stored-here : entry stored (set sizes x size) x ≡ sized size v
+  stored-here = ap (λ (k : ℕ). sized k (drop (lengthLimit * x) stored)) (getD-set-same sizes x size 0 inside) ∙ go (leb size lengthLimit) refl
     where
-      go : (t : Bool) → leb size lengthLimit ≡ t → sized size (drop (lengthLimit * x) (storedAs (sized size w) characters x)) ≡ sized size w
+      go : (t : Bool) → leb size lengthLimit ≡ t → sized size (drop (lengthLimit * x) stored) ≡ sized size v
       go true f =
           let h : size ≤ lengthLimit = leb-true size lengthLimit f in
-          let n : length (take size w) ≡ size = length-take-le size w (omega arith) in
-          let e : storedAs (sized size w) characters x ≡ sets characters (lengthLimit * x) (take size w) = ap (λ (o : Option (List ℕ)). storedAs o characters x) (sized-some size w h) in
-          let p : row (sets characters (lengthLimit * x) (take size w)) x size ≡ take size w =
-          ap (λ (k : ℕ). row (sets characters (lengthLimit * x) (take size w)) x k) (sym n) ∙ row-put characters (take size w) x (omega arith) room in
-          sized-some size (drop (lengthLimit * x) (storedAs (sized size w) characters x)) h
-          ∙ ap some (ap (λ (b : List ℕ). row b x size) e ∙ p) ∙ sym (sized-some size w h)
+          sized-some size (drop (lengthLimit * x) stored) h ∙ ap some (row-put characters v x size (long h) (omega arith)) ∙ sym (sized-some size v h)
       go false f =
           let h : lengthLimit < size = leb-false size lengthLimit f in
-          sized-none size (drop (lengthLimit * x) (storedAs (sized size w) characters x)) h ∙ sym (sized-none size w h)
+          sized-none size (drop (lengthLimit * x) stored) h ∙ sym (sized-none size v h)
 
-  pub stored-there : (y : ℕ) → y ≢ x → lengthLimit * y + lengthLimit ≤ length characters → entry (storedAs (sized size w) characters x) (set sizes x size) y ≡ entry characters sizes y
-  unfolding storedAs
+  pub stored-there : (y : ℕ) → y ≢ x → lengthLimit * y + lengthLimit ≤ length characters → entry stored (set sizes x size) y ≡ entry characters sizes y
   stored-there y ne r =
-      ap (λ (k : ℕ). sized k (drop (lengthLimit * y) (storedAs (sized size w) characters x))) (getD-set-other sizes x y size 0 ne)
-      ∙ go (leb size lengthLimit) refl (leb (getD sizes y 0) lengthLimit) refl
+      ap (λ (k : ℕ). sized k (drop (lengthLimit * y) stored)) (getD-set-other sizes x y size 0 ne) ∙ go (leb (getD sizes y 0) lengthLimit) refl
     where
-      go : (t : Bool) → leb size lengthLimit ≡ t → (v : Bool) → leb (getD sizes y 0) lengthLimit ≡ v
-          → sized (getD sizes y 0) (drop (lengthLimit * y) (storedAs (sized size w) characters x)) ≡ entry characters sizes y
-      go false f v g = ap (λ (o : Option (List ℕ)). sized (getD sizes y 0) (drop (lengthLimit * y) (storedAs o characters x))) (sized-none size w (leb-false size lengthLimit f))
-      go true f false g =
+      go : (t : Bool) → leb (getD sizes y 0) lengthLimit ≡ t → sized (getD sizes y 0) (drop (lengthLimit * y) stored) ≡ entry characters sizes y
+      go false g =
           let h : lengthLimit < getD sizes y 0 = leb-false (getD sizes y 0) lengthLimit g in
-          sized-none (getD sizes y 0) (drop (lengthLimit * y) (storedAs (sized size w) characters x)) h ∙ sym (sized-none (getD sizes y 0) (drop (lengthLimit * y) characters) h)
-      go true f true g =
+          sized-none (getD sizes y 0) (drop (lengthLimit * y) stored) h ∙ sym (sized-none (getD sizes y 0) (drop (lengthLimit * y) characters) h)
+      go true g =
           let h : getD sizes y 0 ≤ lengthLimit = leb-true (getD sizes y 0) lengthLimit g in
-          let s : size ≤ lengthLimit = leb-true size lengthLimit f in
-          let n : length (take size w) ≡ size = length-take-le size w (omega arith) in
-          let e : storedAs (sized size w) characters x ≡ sets characters (lengthLimit * x) (take size w) = ap (λ (o : Option (List ℕ)). storedAs o characters x) (sized-some size w s) in
-          sized-some (getD sizes y 0) (drop (lengthLimit * y) (storedAs (sized size w) characters x)) h
-          ∙ ap some (ap (λ (b : List ℕ). row b y (getD sizes y 0)) e ∙ row-kept characters (take size w) x y (getD sizes y 0) (omega arith) (λ q. ne (sym q)) h r)
+          sized-some (getD sizes y 0) (drop (lengthLimit * y) stored) h
+          ∙ ap some (row-kept characters v x y (getD sizes y 0) short (λ q. ne (sym q)) h r)
           ∙ sym (sized-some (getD sizes y 0) (drop (lengthLimit * y) characters) h)
 
   -- the first variables have the strings g, and x gets its own
-  pub stored-passed : (g : ℕ → Option (List ℕ)) → ((y : ℕ) → y < x → entry characters sizes y ≡ g y) → sized size w ≡ g x
-      → (y : ℕ) → y < x + 1 → entry (storedAs (sized size w) characters x) (set sizes x size) y ≡ g y
+  pub stored-passed : (g : ℕ → Option (List ℕ)) → ((y : ℕ) → y < x → entry characters sizes y ≡ g y) → sized size v ≡ g x
+      → (y : ℕ) → y < x + 1 → entry stored (set sizes x size) y ≡ g y
   stored-passed g h e y l = go (ℕ-discrete y x)
     where
-      go : Dec (y ≡ x) → entry (storedAs (sized size w) characters x) (set sizes x size) y ≡ g y
-      go (yes q) = ap (entry (storedAs (sized size w) characters x) (set sizes x size)) q ∙ stored-here ∙ e ∙ ap g (sym q)
+      go : Dec (y ≡ x) → entry stored (set sizes x size) y ≡ g y
+      go (yes q) = ap (entry stored (set sizes x size)) q ∙ stored-here ∙ e ∙ ap g (sym q)
       go (no q) = stored-there y q (omega arith) ∙ h y (omega arith)
 
 -- ---- the strings that are given
@@ -182,11 +195,6 @@ module _ (characters sizes w : List ℕ) where
       go ih (no n) =
           let k : p ≡ y = omega arith in
           given-turn p ∙ ap (λ (t : Bool). t || given w (givenStrings characters sizes p)) (ap (λ (z : ℕ). isIt (entry characters sizes z) w) k ∙ e)
-
--- ---- a row that is read from the front
-
-pub row-at : (characters : List ℕ) (y m i : ℕ) → i < m → getD (row characters y m) i 0 ≡ getD characters (lengthLimit * y + i) 0
-row-at characters y m i h = getD-take m (drop (lengthLimit * y) characters) i 0 h ∙ getD-drop (lengthLimit * y) characters i 0
 
 -- ---- the third round, by what a variable has
 

@@ -1,18 +1,16 @@
 -- Words filled from the right, strings compared from the front, and the first that is not given: one turn of each loop.
 use Prim.Native.Nat.{ℕ, zero, suc, _+_, _*_, _-_, _/_, _%_, _^_, _≤_, _<_}
-use native.Mathlib.Nat.{pow-zero, pow-suc, pow-succ', one-le-pow, mod-lt, div-one, mul-one, div-div-eq-div-mul}
+use native.Mathlib.Nat.{pow-zero, pow-suc, pow-succ', one-le-pow, mod-lt, div-one, mul-one, div-div-eq-div-mul, zero-div, zero-mod}
 use native.Mathlib.Numerals.{add-one}
 use native.Mathlib.Omega.{arith}
 use mathlib.Core.Path.{_≡_, refl, sym, _∙_, ap, ap₂}
 use mathlib.Core.Bool.{Bool, true, false, _&&_, and-false}
 use mathlib.Core.List.{List, [], _∷_, _++_, append-assoc, append-nil}
-use borrow.Author.Tests.{eq-eqb, ne-eqb}
 use lib.Arith.{mod-mul, digits-div, digits-mod}
 use lib.Dec.{eqb}
-use lib.ListN.{length, getD, take, drop, set, length-set, drop-of-length-le}
-use lib.Seq.{take-set-lt, drop-cons, getD-set-same, drop-set-lt, length-take-le}
+use lib.ListN.{length, getD, take, drop, set, replicate, length-set, drop-of-length-le, take-append-drop}
+use lib.Seq.{take-set-lt, take-set-le, take-take, drop-cons, getD-set-same, drop-set-lt, length-take-le}
 use Rattle.calculus.specs.Strings.{word, eqString, given, freshFrom}
-use Rattle.format.specs.Fields.{u32, u32s}
 
 -- ---- the last character of a word is the remainder by n
 
@@ -77,26 +75,43 @@ digits-done n m k (suc zero) rest out g h l r e =
     ∙ e
 digits-done n m k (suc (suc i)) rest out g h l r e = absurd (omega arith)
 
+pub none-taken : (l : List ℕ) → take 0 l ≡ []
+none-taken [] = refl
+none-taken (x ∷ l) = refl
+
+-- the front is zeros
+pub zeros : (i k : ℕ) → i ≤ k → take {A = ℕ} i (replicate k 0) ≡ replicate i 0
+zeros zero k h = none-taken (replicate k 0)
+zeros (suc i) zero h = absurd (omega arith)
+zeros (suc i) (suc k) h = ap (λ (l : List ℕ). 0 ∷ l) (zeros i k (omega arith))
+
+pub zeros-left : (out : List ℕ) (i v : ℕ) → take i out ≡ replicate i 0 → take (i - 1) (set out (i - 1) v) ≡ replicate (i - 1) 0
+zeros-left out i v e =
+    take-set-le (i - 1) out (i - 1) v (omega arith)
+    ∙ sym (take-take (i - 1) i out (omega arith)) ∙ ap (λ (l : List ℕ). take (i - 1) l) e ∙ zeros (i - 1) i (omega arith)
+
+zero-word : (n m : ℕ) → word n m 0 ≡ replicate m 0
+zero-word n zero = refl
+zero-word n (suc m) = ap₂ _∷_ (zero-div (n ^ m)) (ap (λ (k : ℕ). word n m k) (zero-mod (n ^ m)) ∙ zero-word n m)
+
+-- nothing is left of the number
+pub digits-over : (n m k i rest : ℕ) (out : List ℕ) → rest ≡ 0 → i ≤ m → take i out ≡ replicate i 0
+    → word n i rest ++ drop i (take m out) ≡ word n m k → take m out ≡ word n m k
+digits-over n m k i rest out z h f e =
+    sym (take-append-drop i (take m out))
+    ∙ ap (λ (l : List ℕ). l ++ drop i (take m out)) (take-take i m out h ∙ f ∙ sym (zero-word n i) ∙ ap (λ (r : ℕ). word n i r) (sym z))
+    ∙ e
+
 pub no-digits : (n m k : ℕ) (out : List ℕ) → m ≡ 0 → take m out ≡ word n m k
-no-digits n m k out e = ap (λ (i : ℕ). take i out) e ∙ none out ∙ sym (ap (λ (i : ℕ). word n i k) e)
-  where
-    none : (l : List ℕ) → take 0 l ≡ []
-    none [] = refl
-    none (x ∷ l) = refl
+no-digits n m k out e = ap (λ (i : ℕ). take i out) e ∙ none-taken out ∙ sym (ap (λ (i : ℕ). word n i k) e)
 
 -- ---- strings, character by character
 
 module _ (a b : List ℕ) (i : ℕ) (h : i < length a) (k : i < length b) where
-  turn : eqString (drop i a) (drop i b) ≡ (eqb (getD a i 0) (getD b i 0) && eqString (drop (i + 1) a) (drop (i + 1) b))
-  turn =
+  pub same-more : eqString (drop i a) (drop i b) ≡ (eqb (getD a i 0) (getD b i 0) && eqString (drop (i + 1) a) (drop (i + 1) b))
+  same-more =
       ap₂ eqString (drop-cons a i 0 h) (drop-cons b i 0 k)
       ∙ ap (λ (j : ℕ). eqb (getD a i 0) (getD b i 0) && eqString (drop j a) (drop j b)) (sym (add-one i))
-
-  pub same-yes : getD a i 0 ≡ getD b i 0 → eqString (drop (i + 1) a) (drop (i + 1) b) ≡ eqString (drop i a) (drop i b)
-  same-yes e = sym (turn ∙ ap (λ (t : Bool). t && eqString (drop (i + 1) a) (drop (i + 1) b)) (eq-eqb (getD a i 0) (getD b i 0) e))
-
-  pub same-no : (getD a i 0 ≡ getD b i 0 → ⊥) → eqString (drop i a) (drop i b) ≡ false
-  same-no e = turn ∙ ap (λ (t : Bool). t && eqString (drop (i + 1) a) (drop (i + 1) b)) (ne-eqb (getD a i 0) (getD b i 0) e)
 
 pub same-done : (a b : List ℕ) (i : ℕ) → length a ≤ i → length b ≤ i → eqString (drop i a) (drop i b) ≡ true
 same-done a b i h k = ap₂ eqString (drop-of-length-le a h) (drop-of-length-le b k)
@@ -137,11 +152,3 @@ pub fresh-same : (n m d : ℕ) (ts ss : List (List ℕ)) (k : ℕ) → ((w : Lis
 fresh-same n m zero ts ss k h = refl
 fresh-same n m (suc d) ts ss k h =
     ap₂ (λ (t : Bool) (s : List ℕ). elim t as (λ _. List ℕ) [ true ↦ s | false ↦ word n m k ]) (h (word n m k)) (fresh-same n m d ts ss (suc k) h)
-
--- ---- a text of the ticket
-
-pub text-char : (b : List ℕ) (at k i : ℕ) → i < k → getD (u32s b at k) i 0 ≡ u32 b (at + 4 * i)
-unfolding u32s
-text-char b at zero i h = absurd (omega arith)
-text-char b at (suc k) zero h = let none : at ≡ at + 4 * 0 = omega arith in ap (u32 b) none
-text-char b at (suc k) (suc i) h = let more : at + 4 + 4 * i ≡ at + 4 * suc i = omega arith in text-char b (at + 4) k i (omega arith) ∙ ap (u32 b) more

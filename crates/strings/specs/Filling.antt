@@ -4,7 +4,6 @@ use mathlib.Core.Bool.{Bool, true, false, cond}
 use mathlib.Core.Option.{Option, none, some}
 use mathlib.Core.List.{List, [], _∷_}
 use lib.ListN.{length, getD, take, drop}
-use lib.Seq.{sets}
 use lib.Dec.{leb, ltb}
 use lib.IntN.{ℤ}
 use Rattle.calculus.specs.Limits.{lengthLimit}
@@ -16,23 +15,14 @@ use Rattle.calculus.specs.Strings.{eqString, freshFrom, fixedBy}
 use Rattle.format.specs.Records.{size}
 use Rattle.format.specs.Places.{skip, literalsFrom}
 use Rattle.answer.specs.Table.{row}
-use Rattle.strings.specs.declared.Given.{Given}
 
 -- the first size characters, where there are at most 64
 unfoldable pub sized : ℕ → List ℕ → Option (List ℕ)
 sized size characters = cond (leb size lengthLimit) (some (take size characters)) none
 
-abbrev pub givenOf : Given → Option (List ℕ)
-givenOf w = sized (w .size) (w .characters)
-
 -- the string of variable y in a table
 abbrev pub entry : List ℕ → List ℕ → ℕ → Option (List ℕ)
 entry characters sizes y = sized (getD sizes y 0) (drop (lengthLimit * y) characters)
-
--- the table once variable x has a string
-unfoldable pub storedAs : Option (List ℕ) → List ℕ → ℕ → List ℕ
-storedAs none characters x = characters
-storedAs (some s) characters x = sets characters (lengthLimit * x) s
 
 -- the strings of the first variables that have one
 unfoldable pub before : Option (List ℕ) → List (List ℕ) → List (List ℕ)

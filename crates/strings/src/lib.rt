@@ -1,24 +1,23 @@
 // The strings of a saturated leaf: words in the order of code points, the first that is not given, and the rounds that give each variable its string.
 ghost use mathlib.Core.Path.{_≡_};
 ghost use mathlib.Core.Bool.{true};
-ghost use mathlib.Core.Option.{some};
 ghost use mathlib.Core.List.{[]};
 ghost use Prim.Native.Nat.{ℕ, _+_, _*_, _≤_, _<_};
-ghost use lib.ListN.{length, getD, take, drop};
+ghost use lib.ListN.{length, getD, take, drop, replicate};
+ghost use lib.Seq.{sets};
 ghost use lib.IntN.{pos, natAbs};
 ghost use Rattle.calculus.specs.Limits.{alphabetLimit, variableLimit, lengthLimit, valueLimit};
 ghost use Rattle.calculus.specs.Rows.{eqℤ};
 ghost use Rattle.calculus.specs.Facts.{Branch, len};
 ghost use Rattle.calculus.specs.Classes.{labels};
 ghost use Rattle.calculus.specs.Model.{modelOf};
-ghost use Rattle.calculus.specs.Strings as calculus;
-ghost use Rattle.calculus.specs.Strings.{eqString, given, freshFrom, oneChar, strings};
+ghost use Rattle.calculus.specs.Strings.{word, eqString, given, freshFrom, oneChar, strings};
 ghost use Rattle.format.specs.Fields.{u32s};
 ghost use Rattle.format.specs.Checking.{shortLengths};
 ghost use Rattle.rows.specs.Work.{Within};
 ghost use Rattle.answer.specs.Table.{row, tableStrings, Table};
 ghost use Rattle.leaf.specs.Leaf.{asked, Modelled, Ready};
-ghost use Rattle.strings.specs.Filling.{sized, givenOf, entry, storedAs, givenStrings, isIt, fixedAt, completed, ShortLiterals};
+ghost use Rattle.strings.specs.Filling.{sized, entry, givenStrings, isIt, fixedAt, completed, ShortLiterals};
 use classes::Lowest;
 use leaf::Leaf;
 use limits::LENGTH_LIMIT;
@@ -27,48 +26,53 @@ use limits::VARIABLE_LIMIT;
 // The size of a variable that has no string yet.
 const NOT_GIVEN: usize = LENGTH_LIMIT + 1;
 
-// What a variable is given: a string of at most 64 characters; a size past 64 says that there is none.
-pub struct Given {
-    pub size: usize,
-    pub characters: [u32; LENGTH_LIMIT],
-}
-
-// The k-th string of m of n characters, filled from the right.
-fn word(n: usize, m: usize, k: usize) -> [u32; LENGTH_LIMIT]
-    requires { ⌜ (1 ≤ n) × (n ≤ alphabetLimit) × (m ≤ lengthLimit) × (k ≤ variableLimit) ⌝ }
-    ensures { λ r. ⌜ take m r ≡ calculus.word n m k ⌝ }
+// The k-th string of m of n characters goes to the front of a row of zeros, from the right as far as k reaches.
+fn fill_word(row: &mut [u32; LENGTH_LIMIT], n: usize, m: usize, k: usize)
+    requires { ⌜ (now row ≡ replicate lengthLimit 0) × (1 ≤ n) × (n ≤ alphabetLimit) × (m ≤ lengthLimit) × (k ≤ variableLimit) ⌝ }
+    ensures { λ _. ⌜ take m (now (row .exit)) ≡ word n m k ⌝ }
+    ensures { λ _. ⌜ length (now (row .exit)) ≡ lengthLimit ⌝ }
 {
-    let mut out = [0u32; LENGTH_LIMIT];
     if m == 0 {
-        return out;
+        return;
     }
     let mut i = m;
     let mut rest = k;
     while 1 < i {
+        if rest == 0 {
+            return;
+        }
         i -= 1;
-        out[i] = (rest % n) as u32;
+        row[i] = (rest % n) as u32;
         rest = rest / n;
     }
-    out[0] = rest as u32;
-    out
+    row[0] = rest as u32;
 }
 
+// Are two strings the same? The last characters are compared first, since words in a row differ there; the loop has no exit, so that it is compiled to
+// compare several characters at once.
 fn same_string(s: &[u32], t: &[u32]) -> bool
     ensures { λ r. ⌜ r ≡ eqString (now (s .entry)) (now (t .entry)) ⌝ }
 {
     if s.len() != t.len() {
         return false;
     }
+    if s.len() == 0 {
+        return true;
+    }
+    let last = s.len() - 1;
+    if s[last] != t[last] {
+        return false;
+    }
+    let mut same = true;
     let mut i = 0;
     while i < s.len() {
         let c = s[i];
         let d = t[i];
-        if c != d {
-            return false;
-        }
+        let one = c == d;
+        same = same & one;
         i += 1;
     }
-    true
+    same
 }
 
 // Is w the string of variable y in the table, where it has `size` characters?
@@ -113,28 +117,29 @@ fn fresh(
 {
     let mut k = 0;
     while k < p {
-        let w = word(n, m, k);
+        let mut w = [0u32; LENGTH_LIMIT];
+        fill_word(&mut w, n, m, k);
         if !is_given(characters, sizes, p, &w[..m]) {
             return w;
         }
         k += 1;
     }
-    word(n, m, p)
+    let mut w = [0u32; LENGTH_LIMIT];
+    fill_word(&mut w, n, m, p);
+    w
 }
 
-// A text of the ticket.
-fn text(ticket: &[u8], at: usize, count: usize) -> [u32; LENGTH_LIMIT]
-    requires { ⌜ (at + 4 * count ≤ length (now ticket)) × (count ≤ lengthLimit) ⌝ }
-    ensures { λ r. ⌜ take count r ≡ u32s (now (ticket .entry)) at count ⌝ }
+// A text of the ticket goes to the front of a row.
+fn fill_text(row: &mut [u32], ticket: &[u8], at: usize, count: usize)
+    requires { ⌜ (at + 4 * count ≤ length (now ticket)) × (count ≤ length (now row)) × (count ≤ lengthLimit) ⌝ }
+    ensures { λ _. ⌜ take count (now (row .exit)) ≡ u32s (now (ticket .entry)) at count ⌝ }
 {
-    let mut out = [0u32; LENGTH_LIMIT];
     let mut i = 0;
     while i < count {
         let c = records::u32_at(ticket, at + 4 * i);
-        out[i] = c as u32;
+        row[i] = c as u32;
         i += 1;
     }
-    out
 }
 
 // The first m characters of variable y's row.
@@ -153,14 +158,11 @@ fn row_of(characters: &[u32], y: usize, m: usize) -> [u32; LENGTH_LIMIT]
     out
 }
 
-// The string of variable x becomes the first `size` characters of w; a size past 64 says that there is none.
+// The string of variable x becomes the first `size` characters of w.
 fn store(characters: &mut [u32], x: usize, w: [u32; LENGTH_LIMIT], size: usize)
-    requires { ⌜ (x < variableLimit) × (lengthLimit * x + lengthLimit ≤ length (now characters)) ⌝ }
-    ensures { λ _. ⌜ now (characters .exit) ≡ storedAs (sized size w) (now (characters .entry)) x ⌝ }
+    requires { ⌜ (x < variableLimit) × (size ≤ lengthLimit) × (lengthLimit * x + lengthLimit ≤ length (now characters)) ⌝ }
+    ensures { λ _. ⌜ now (characters .exit) ≡ sets (now (characters .entry)) (lengthLimit * x) (take size w) ⌝ }
 {
-    if size > LENGTH_LIMIT {
-        return;
-    }
     let from = LENGTH_LIMIT * x;
     let mut i = 0;
     while i < size {
@@ -170,56 +172,44 @@ fn store(characters: &mut [u32], x: usize, w: [u32; LENGTH_LIMIT], size: usize)
     }
 }
 
-// ---- the rounds
+// ---- the rounds. A variable's row is filled from the front, and its size is answered, 65 for none.
 
 // "a class of length 1 gets the character of its code".
-fn one_character(len: i64, code: i64) -> Given
-    requires { ⌜ natAbs code ≤ valueLimit ⌝ }
-    ensures { λ r. ⌜ givenOf r ≡ oneChar (eqℤ len (pos 1)) code ⌝ }
-    ensures { λ r. ⌜ length (r .characters) ≡ lengthLimit ⌝ }
+fn fill_character(row: &mut [u32], len: i64, code: i64) -> usize
+    requires { ⌜ (natAbs code ≤ valueLimit) × (length (now row) ≡ lengthLimit) ⌝ }
+    ensures { λ r. ⌜ sized r (now (row .exit)) ≡ oneChar (eqℤ len (pos 1)) code ⌝ }
 {
-    let mut out = [0u32; LENGTH_LIMIT];
     if leaf::equal(len, 1) {
         let c = leaf::magnitude(code);
-        out[0] = c as u32;
-        return Given {
-            size: 1,
-            characters: out,
-        };
+        row[0] = c as u32;
+        return 1;
     }
-    Given {
-        size: NOT_GIVEN,
-        characters: out,
-    }
+    NOT_GIVEN
 }
 
 // What the first two rounds give to variable x: "a class with a literal gets it; a class of length 1 gets the character of its code".
-fn fixed(ticket: &[u8], model: &[i64], leaf: Leaf, x: usize) -> Given
-    requires { ⌜ Ready (now ticket) (now model) leaf × (x < leaf .p) ⌝ }
+fn fill_fixed(ticket: &[u8], model: &[i64], leaf: Leaf, x: usize, row: &mut [u32]) -> usize
+    requires { ⌜ Ready (now ticket) (now model) leaf × (x < leaf .p) × (length (now row) ≡ lengthLimit) ⌝ }
     requires { ⌜ Within valueLimit (now model) × ShortLiterals (now ticket) (leaf .literals) ⌝ }
-    ensures { λ r. ⌜ givenOf r ≡ fixedAt (asked (now (ticket .entry)) leaf) (leaf .labels) (now (model .entry)) x ⌝ }
-    ensures { λ r. ⌜ length (r .characters) ≡ lengthLimit ⌝ }
+    ensures { λ r. ⌜ sized r (now (row .exit)) ≡ fixedAt (asked (now (ticket .entry)) leaf) (leaf .labels) (now (model .entry)) x ⌝ }
 {
     let labels = leaf.labels;
     let found = classes::class_literal(labels, leaf.literals + 1, x);
     match found {
         Lowest::Literal(l) => {
             let literal = question::literal_text(ticket, l);
-            let characters = text(ticket, literal.at, literal.count);
-            Given {
-                size: literal.count,
-                characters: characters,
-            }
+            fill_text(row, ticket, literal.at, literal.count);
+            literal.count
         }
         Lowest::Nothing => {
             let len = leaf::len_of(model, leaf.q, x);
             let code = leaf::code_of(model, leaf.p, leaf.q, x);
-            one_character(len, code)
+            fill_character(row, len, code)
         }
     }
 }
 
-// The first two rounds for every variable; answers the sizes, 65 for none.
+// The first two rounds for every variable; answers the sizes.
 fn give_fixed(
     ticket: &[u8],
     model: &[i64],
@@ -233,54 +223,47 @@ fn give_fixed(
     let mut sizes = [NOT_GIVEN; VARIABLE_LIMIT];
     let mut x = 0;
     while x < leaf.p {
-        let s = fixed(ticket, model, leaf, x);
-        let w = s.characters;
-        store(characters, x, w, s.size);
-        sizes[x] = s.size;
+        let from = LENGTH_LIMIT * x;
+        let to = from + LENGTH_LIMIT;
+        let size = fill_fixed(ticket, model, leaf, x, &mut characters[from..to]);
+        sizes[x] = size;
         x += 1;
     }
     sizes
 }
 
-// The string of variable x: its own from the first two rounds, that of the lowest variable of its class, or the first that is not given.
-fn string_of(
+// The third round for variable x: it keeps its string from the first two, or gets that of the lowest variable of its class, or the first that is not given.
+fn complete(
     model: &[i64],
     leaf: Leaf,
-    characters: &[u32],
+    characters: &mut [u32],
     sizes: [usize; VARIABLE_LIMIT],
     x: usize,
-) -> Given
+) -> usize
     requires { ⌜ Modelled (now model) leaf × (1 ≤ leaf .n) × (leaf .n ≤ alphabetLimit) × (x < leaf .p) × (lengthLimit * leaf .p ≤ length (now characters)) ⌝ }
     requires { ⌜ natAbs (modelOf (asked [] leaf) (now model) len x) ≤ lengthLimit ⌝ }
     requires { ⌜ ((y : ℕ) → y < x → getD sizes y 0 ≤ lengthLimit) ⌝ }
-    ensures { λ r. ⌜ givenOf r ≡ some (completed (leaf .n) (leaf .p) (leaf .labels) (natAbs (modelOf (asked [] leaf) (now (model .entry)) len x)) (now (characters .entry)) sizes x) ⌝ }
-    ensures { λ r. ⌜ length (r .characters) ≡ lengthLimit ⌝ }
+    ensures { λ r. ⌜ now (characters .exit) ≡ sets (now (characters .entry)) (lengthLimit * x) (completed (leaf .n) (leaf .p) (leaf .labels) (natAbs (modelOf (asked [] leaf) (now (model .entry)) len x)) (now (characters .entry)) sizes x) ⌝ }
+    ensures { λ r. ⌜ r ≡ length (completed (leaf .n) (leaf .p) (leaf .labels) (natAbs (modelOf (asked [] leaf) (now (model .entry)) len x)) (now (characters .entry)) sizes x) ⌝ }
+    ensures { λ r. ⌜ r ≤ lengthLimit ⌝ }
 {
     let own = sizes[x];
     if own <= LENGTH_LIMIT {
-        let w = row_of(characters, x, own);
-        return Given {
-            size: own,
-            characters: w,
-        };
+        return own;
     }
     let labels = leaf.labels;
     let first = classes::lowest_var(labels, x);
     if first < x {
         let size = sizes[first];
         let w = row_of(characters, first, size);
-        return Given {
-            size: size,
-            characters: w,
-        };
+        store(characters, x, w, size);
+        return size;
     }
     let len = leaf::len_of(model, leaf.q, x);
     let m = leaf::magnitude(len);
     let w = fresh(characters, sizes, leaf.p, leaf.n, m);
-    Given {
-        size: m,
-        characters: w,
-    }
+    store(characters, x, w, m);
+    m
 }
 
 // "a class with a literal gets it; a class of length 1 gets the character of its code; then each other class, by lowest variable, gets the smallest string of
@@ -300,10 +283,8 @@ pub fn give_strings(
     let mut sizes = give_fixed(ticket, model, leaf, characters);
     let mut x = 0;
     while x < leaf.p {
-        let s = string_of(model, leaf, characters, sizes, x);
-        let w = s.characters;
-        store(characters, x, w, s.size);
-        sizes[x] = s.size;
+        let size = complete(model, leaf, characters, sizes, x);
+        sizes[x] = size;
         x += 1;
     }
     sizes

@@ -2,12 +2,15 @@
 use Prim.Native.Nat.{_-_, _≤_, ℕ}
 use borrow.Author.Needs.{needs}
 use denote.Ref.{now}
+use lib.IntN.{ℤ}
+use lib.ListN.{length}
 use mathlib.Core.Bool.{_||_}
+use mathlib.Core.List.{List, [], _∷_}
 use mathlib.Core.Path.{_∙_, _≡_, ap, ap₂, refl, sym}
 use native.Mathlib.Omega.{arith}
 use Rattle.calculus.specs.Classes.{apartMeet}
 use Rattle.classes.proofs.Laws.{apart-snoc}
-use Rattle.rows.proofs.Branches.{branch-more}
+use Rattle.rows.proofs.Branches.{branch-more, length-row}
 use Rattle.rows.specs.Rows.{branchOf, factOf, rowAt}
 use Rattle.classes.proofs.apart_meet.Statement.{statement}
 use Rattle.classes.proofs.apart_meet.Tie as tie
@@ -22,8 +25,13 @@ loop-holds : tie.Need-loop-holds Inv-loop μ-loop
 unfolding branchOf
 loop-holds c = (omega arith, refl)
 
-apart-row-requires : tie.Need-apart-row-requires Inv-loop μ-loop
-apart-row-requires c κs = search needs
+row-at-requires : tie.Need-row-at-requires Inv-loop μ-loop
+row-at-requires c κs = search needs
+
+apart-meets-requires : tie.Need-apart-meets-requires Inv-loop μ-loop
+apart-meets-requires c κs =
+    let s = c .before .before .before in
+    ap length (c .row-at .ensures) ∙ length-row (now (s .args .work)) (c .before .before .loop .k) (omega arith)
 
 add-k : tie.Need-add-k Inv-loop μ-loop
 add-k c = search needs
@@ -33,11 +41,11 @@ loop-less c = search needs
 
 loop-again : tie.Need-loop-again Inv-loop μ-loop
 loop-again c =
-    let l = c .before .before .loop in
-    let s = c .before .before .before .args in
+    let l = c .before .before .before .loop in
+    let s = c .before .before .before .before .args in
     let w = now (s .work) in (
       omega arith,
-      ap₂ _||_ (l .inv .1) (c .apart-row .ensures)
+      ap₂ _||_ (l .inv .1) (c .apart-meets .ensures ∙ ap (λ (row : List ℤ). apartMeet (s .labels) (factOf row ∷ [])) (c .before .row-at .ensures))
           ∙ sym (ap (apartMeet (s .labels)) (branch-more w (l .k)) ∙ apart-snoc (s .labels) (branchOf w (l .k)) (factOf (rowAt w (l .k)))),
     )
 
@@ -51,4 +59,4 @@ returns c =
 pub apart-meet-spec : {M : Type 1} → statement M
 apart-meet-spec =
     tie.close
-    (tie.spec Inv-loop μ-loop loop-holds apart-row-requires add-k loop-less loop-again returns)
+    (tie.spec Inv-loop μ-loop loop-holds row-at-requires apart-meets-requires add-k loop-less loop-again returns)

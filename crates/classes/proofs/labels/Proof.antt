@@ -2,12 +2,14 @@
 use Prim.Native.Nat.{_-_, _≤_, ℕ}
 use borrow.Author.Needs.{needs}
 use denote.Ref.{now}
+use lib.IntN.{ℤ}
+use lib.ListN.{length}
 use mathlib.Core.List.{List}
-use mathlib.Core.Path.{_∙_, _≡_, ap, sym}
+use mathlib.Core.Path.{_∙_, _≡_, ap, ap₂, sym}
 use native.Mathlib.Omega.{arith}
 use Rattle.calculus.specs.Classes.{joinFact, labels}
 use Rattle.classes.proofs.Laws.{labels-snoc}
-use Rattle.rows.proofs.Branches.{branch-more}
+use Rattle.rows.proofs.Branches.{branch-more, length-row}
 use Rattle.rows.specs.Rows.{branchOf, factOf, rowAt}
 use Rattle.classes.proofs.labels.Statement.{statement}
 use Rattle.classes.proofs.labels.Tie as tie
@@ -25,8 +27,13 @@ loop-holds : tie.Need-loop-holds Inv-loop μ-loop
 unfolding branchOf
 loop-holds c = (omega arith, c .first-labels .ensures)
 
+row-at-requires : tie.Need-row-at-requires Inv-loop μ-loop
+row-at-requires c κs = search needs
+
 join-row-requires : tie.Need-join-row-requires Inv-loop μ-loop
-join-row-requires c κs = search needs
+join-row-requires c κs =
+    let s = c .before .before .before .before in
+    ap length (c .row-at .ensures) ∙ length-row (now (s .args .work)) (c .before .before .loop .k) (omega arith)
 
 add-k : tie.Need-add-k Inv-loop μ-loop
 add-k c = search needs
@@ -36,11 +43,11 @@ loop-less c = search needs
 
 loop-again : tie.Need-loop-again Inv-loop μ-loop
 loop-again c =
-    let l = c .before .before .loop in
-    let w = now (c .before .before .before .before .args .work) in (
+    let l = c .before .before .before .loop in
+    let w = now (c .before .before .before .before .before .args .work) in (
       omega arith,
       c .join-row .ensures
-          ∙ ap (λ (ls : List ℕ). joinFact ls (factOf (rowAt w (l .k)))) (l .inv .1)
+          ∙ ap₂ (λ (ls : List ℕ) (row : List ℤ). joinFact ls (factOf row)) (l .inv .1) (c .before .row-at .ensures)
           ∙ sym (ap labels (branch-more w (l .k)) ∙ labels-snoc (branchOf w (l .k)) (factOf (rowAt w (l .k)))),
     )
 
@@ -59,6 +66,7 @@ labels-spec =
     μ-loop
     first-labels-requires
     loop-holds
+    row-at-requires
     join-row-requires
     add-k
     loop-less

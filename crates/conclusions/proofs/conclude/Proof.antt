@@ -5,14 +5,14 @@ use denote.Ref.{now}
 use lib.IntN.{ℤ}
 use mathlib.Core.List.{List, _++_}
 use mathlib.Core.Option.{Option}
-use mathlib.Core.Path.{_∙_, ap, refl, sym}
+use mathlib.Core.Path.{_∙_, ap, sym}
 use native.Mathlib.Omega.{arith}
 use Rattle.calculus.specs.Facts.{Branch, Fact}
 use Rattle.calculus.specs.Rules.{children}
 use Rattle.conclusions.proofs.Tried.{eight, its-fact, nine, none-of-these, ten}
 use Rattle.format.specs.StepForms.{stepAt}
 use Rattle.question.specs.Progress.{progressOf}
-use Rattle.rows.proofs.Branches.{branch-kept, length-branch}
+use Rattle.rows.proofs.Branches.{length-branch}
 use Rattle.rows.proofs.Small.{fine-put}
 use Rattle.rows.specs.Rows.{branchOf, factOf}
 use Rattle.conclusions.proofs.conclude.Statement.{statement}
@@ -41,7 +41,7 @@ returns : tie.Need-returns
 returns c =
     let p = c .before .before in (
       eight (before p) (given p) (p .conclusion .result) (row p) (p .conclusion .ensures) (not-true _ (c .if1 .taken)),
-      ((λ z. absurd (omega arith)), ((λ z. absurd (omega arith)), (λ j h. refl))),
+      ((λ z. absurd (omega arith)), (λ z. absurd (omega arith))),
     )
 
 slice-aggregate-fact-within : tie.Need-slice-aggregate-fact-within
@@ -57,7 +57,7 @@ returns-2 : tie.Need-returns-2
 returns-2 c =
     let p = c .before .before .before .before .before in (
       nine (before p) (given p) (p .conclusion .result) (row p) (p .conclusion .ensures) (not-false _ (c .before .before .before .if1 .left)) (sym (c .before .fact-within .ensures) ∙ not-true _ (c .if2 .taken)),
-      ((λ z. absurd (omega arith)), ((λ z. absurd (omega arith)), (λ j h. refl))),
+      ((λ z. absurd (omega arith)), (λ z. absurd (omega arith))),
     )
 
 same-length-3 : tie.Need-same-length-3
@@ -68,7 +68,7 @@ returns-3 c =
     let p = c .before .before .before .before .before .before in
     let n = length-branch (now (c .before .before .before .before .before .before .before .before .before .before .args .work)) (c .before .before .before .before .before .before .before .before .before .before .args .count) in (
       ten (before p) (given p) (p .conclusion .result) (row p) (p .conclusion .ensures) (not-false _ (c .before .before .before .before .if1 .left)) (sym (c .before .before .fact-within .ensures) ∙ not-false _ (c .before .if2 .left)) (rw n (c .if3 .taken)),
-      ((λ z. absurd (omega arith)), ((λ z. absurd (omega arith)), (λ j h. refl))),
+      ((λ z. absurd (omega arith)), (λ z. absurd (omega arith))),
     )
 
 slice-aggregate-put-row : tie.Need-slice-aggregate-put-row
@@ -91,7 +91,7 @@ returns-4 c =
       none-of-these (before p) (given p) (p .conclusion .result) (row p) (p .conclusion .ensures) fit small (rw n (omega (arith, c .before .before .before .before .if3 .left))),
       (
         (λ z. c .before .put-row .ensures ∙ ap (λ (l : List Fact). before p ++ l) (its-fact (before p) (given p) (p .conclusion .result) (row p) (p .conclusion .ensures) fit)),
-        ((λ z. fine-put w _ (s .args .count) (factOf (row p)) (s .pre .1 .1 .1) (omega (arith, c .before .before .before .before .if3 .left)) (search needs) (c .before .put-row .ensures) small), (λ j h. branch-kept w _ (s .args .count) j (factOf (row p)) (c .before .put-row .ensures) h)),
+        (λ z. fine-put w _ (s .args .count) (factOf (row p)) (s .pre .1 .1 .1) (omega (arith, c .before .before .before .before .if3 .left)) (search needs) (c .before .put-row .ensures) small),
       ),
     )
 

@@ -53,7 +53,7 @@ returns-2 c =
     let tried = one-tried b u br (a .at) (a .size) (s .pre .1 .0 .0) (s .pre .1 .0 .2) 0 (sym zero ∙ f .ensures .0) in (
       λ pending. numbered b u br (a .at) (a .size) (s .pre .1 .0 .0) pending 0 (tried pending),
       λ pending. first-begins b u br (a .at) (a .size) (s .pre .1 .0 .0) 1 (one-child b u br (a .at) (a .size) pending (s .pre .1 .0 .0) (s .pre .1 .0 .1) (sym (tried pending)) (s .pre .1 .0 .2))
-          (f .last .1 .1 .1 .1 .0) _ (f .ensures .1 .0 zero) (f .ensures .1 .1 .0 zero),
+          (f .last .1 .1 .1 .1 .0) _ (f .ensures .1 .0 zero) (f .ensures .1 .1 zero),
     )
 
 pub take-conclusion-spec : {M : Type 1} → statement M

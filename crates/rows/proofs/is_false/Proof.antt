@@ -26,10 +26,10 @@ falsum-is c =
     ap falsum (row-relation row (c .before .kind-of .result) (c .before .kind-of .ensures) (c .if1 .left)) ∙ falsum-row (relationOf (c .before .kind-of .result)) row (c .before .before .pre)
 
 -- the constant's test
-held : (c : tie.After-holds-of) → c .holds-of .result ≡ holds (relationOf (c .before .before .before .kind-of .result)) (getD (now (c .before .before .before .before .args .row)) 1 (pos 0))
+held : (c : tie.After-relation-holds) → c .relation-holds .result ≡ holds (relationOf (c .before .before .before .kind-of .result)) (getD (now (c .before .before .before .before .args .row)) 1 (pos 0))
 held c =
     let f : SFits w64 (getD (now (c .before .before .before .before .args .row)) 1 (pos 0)) = record { sfits = c .before .c .given } in
-    rw (toZ-ofZ f) at (c .holds-of .ensures)
+    rw (toZ-ofZ f) at (c .relation-holds .ensures)
 
 kind-of-requires : tie.Need-kind-of-requires
 kind-of-requires c κs = search needs
@@ -40,8 +40,8 @@ returns c = sym (string-falsum (factOf (now (c .before .before .args .row))) (rw
 shared-slice-copy-out-c : tie.Need-shared-slice-copy-out-c
 shared-slice-copy-out-c c = search needs
 
-holds-of-requires : tie.Need-holds-of-requires
-holds-of-requires c κs = search needs
+relation-holds-requires : tie.Need-relation-holds-requires
+relation-holds-requires c κs = search needs
 
 returns-2 : tie.Need-returns-2
 returns-2 c =
@@ -62,7 +62,7 @@ is-false-spec =
     kind-of-requires
     returns
     shared-slice-copy-out-c
-    holds-of-requires
+    relation-holds-requires
     returns-2
     constant-requires
     returns-3)

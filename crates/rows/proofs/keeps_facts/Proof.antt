@@ -34,7 +34,7 @@ unfolding branchOf keeps
 loop-holds c = (omega arith, refl)
 
 row-at-requires : tie.Need-row-at-requires Inv-loop μ-loop
-row-at-requires c κs = let f = c .before .before .pre .0 in (omega (arith, f .few), f .room)
+row-at-requires c κs = let f = c .before .before .pre .0 in (omega (arith, f .few), omega (arith, f .few, f .room))
 
 keeps-row-requires : tie.Need-keeps-row-requires Inv-loop μ-loop
 keeps-row-requires c κs =

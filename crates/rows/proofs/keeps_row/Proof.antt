@@ -28,15 +28,15 @@ returns c = sym (string-keeps (now (c .before .before .args .model)) (factOf (no
 row-value-requires : tie.Need-row-value-requires
 row-value-requires c κs = (c .before .before .pre .0, (sym (ap factWithin (is c)) ∙ c .before .before .pre .1 .0, c .before .before .pre .1 .1))
 
-holds-of-requires : tie.Need-holds-of-requires
-holds-of-requires c κs = search needs
+relation-holds-requires : tie.Need-relation-holds-requires
+relation-holds-requires c κs = search needs
 
 returns-2 : tie.Need-returns-2
 returns-2 c =
     let s = c .before .before .before .before in
     let f : SFits w64 (c .before .row-value .result) = record { sfits = c .before .row-value .ok } in
-    (rw (toZ-ofZ f, c .before .row-value .ensures) at (c .holds-of .ensures)) ∙ sym (ap (λ (f : Fact). keepsFact (now (s .args .model)) f) (is (c .before .before)))
+    (rw (toZ-ofZ f, c .before .row-value .ensures) at (c .relation-holds .ensures)) ∙ sym (ap (λ (f : Fact). keepsFact (now (s .args .model)) f) (is (c .before .before)))
 
 pub keeps-row-spec : {M : Type 1} → statement M
 keeps-row-spec =
-    tie.close (tie.spec kind-of-requires returns row-value-requires holds-of-requires returns-2)
+    tie.close (tie.spec kind-of-requires returns row-value-requires relation-holds-requires returns-2)

@@ -55,7 +55,7 @@ unfolding asked offered
 returns c =
     let s = c .before .before .before .before in (
       c .before .conclude .ensures .0 ∙ ap (λ (k : ℕ). takenTried (before s) (nth (given s) k)) (first s),
-      ((λ z. c .before .conclude .ensures .1 .0 z ∙ ap (λ (k : ℕ). before s ++ orNone (nth (given s) k)) (first s)), (λ z. c .before .conclude .ensures .1 .1 .0 z)),
+      ((λ z. c .before .conclude .ensures .1 .0 z ∙ ap (λ (k : ℕ). before s ++ orNone (nth (given s) k)) (first s)), (λ z. c .before .conclude .ensures .1 .1 z)),
     )
 
 pub take-conclusion-spec : {M : Type 1} → statement M

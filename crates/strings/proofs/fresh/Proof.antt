@@ -7,7 +7,7 @@ use lib.ListN.{length}
 use lib.Seq.{length-take-le}
 use mathlib.Core.Bool.{false, true}
 use mathlib.Core.List.{List}
-use mathlib.Core.Path.{_∙_, _≡_, ap, sym}
+use mathlib.Core.Path.{_∙_, _≡_, ap, refl, sym}
 use native.Mathlib.Omega.{arith}
 use Rattle.calculus.specs.Rows.{less}
 use Rattle.calculus.specs.Strings.{freshFrom, given, word}
@@ -28,27 +28,25 @@ loop-holds c =
     let e : s .p - 0 ≡ s .p = omega arith in
     (omega arith, ap (λ (d : ℕ). freshFrom d (s .n) (s .m) (givenStrings (now (s .characters)) (s .sizes) (s .p)) 0) e)
 
-word-requires : tie.Need-word-requires Inv-loop μ-loop
-word-requires c κs = search needs
+fill-word-requires : tie.Need-fill-word-requires Inv-loop μ-loop
+fill-word-requires c κs = (refl, omega arith, omega arith, omega arith, omega arith)
 
 array-share-prefix-w : tie.Need-array-share-prefix-w Inv-loop μ-loop
-array-share-prefix-w c = search needs
+array-share-prefix-w c = let n : length (c .fill-word .last .0) ≡ 64 = c .fill-word .ensures .1 in omega arith
 
 slice-aggregate-is-given : tie.Need-slice-aggregate-is-given Inv-loop μ-loop
-slice-aggregate-is-given c =
-    let n : length (c .before .word .result) ≡ 64 = c .before .word .ok .1 .0 .1 in
-    sym (length-take-le (c .before .before .before .before .before .args .m) (c .before .word .result) (omega arith))
+slice-aggregate-is-given c = let n : length (c .before .fill-word .last .0) ≡ 64 = c .before .fill-word .ensures .1 in sym (length-take-le (c .before .before .before .before .before .before .args .m) (c .before .fill-word .last .0) (omega arith))
 
 is-given-requires : tie.Need-is-given-requires Inv-loop μ-loop
 is-given-requires c κs = search needs
 
 returns : tie.Need-returns Inv-loop μ-loop
 returns c =
-    let l = c .before .before .before .before .before .loop in
-    let s = c .before .before .before .before .before .before .before .args in
+    let l = c .before .before .before .before .before .before .loop in
+    let s = c .before .before .before .before .before .before .before .before .args in
     let g = givenStrings (now (s .characters)) (s .sizes) (s .p) in
-    let e : given (word (s .n) (s .m) (l .k)) g ≡ false = ap (λ (w : List ℕ). given w g) (sym (c .before .before .before .word .ensures)) ∙ sym (c .before .is-given .ensures) ∙ not-true _ (c .if1 .taken) in
-    c .before .before .before .word .ensures ∙ sym (fresh-yes (s .n) (s .m) g (l .k) (s .p - l .k) e) ∙ l .inv .1
+    let e : given (word (s .n) (s .m) (l .k)) g ≡ false = ap (λ (w : List ℕ). given w g) (sym (c .before .before .before .fill-word .ensures .0)) ∙ sym (c .before .is-given .ensures) ∙ not-true _ (c .if1 .taken) in
+    c .before .before .before .fill-word .ensures .0 ∙ sym (fresh-yes (s .n) (s .m) g (l .k) (s .p - l .k) e) ∙ l .inv .1
 
 add-k : tie.Need-add-k Inv-loop μ-loop
 add-k c = search needs
@@ -58,23 +56,23 @@ loop-less c = search needs
 
 loop-again : tie.Need-loop-again Inv-loop μ-loop
 loop-again c =
-    let l = c .before .before .before .before .before .loop in
-    let s = c .before .before .before .before .before .before .before .args in
+    let l = c .before .before .before .before .before .before .loop in
+    let s = c .before .before .before .before .before .before .before .before .args in
     let g = givenStrings (now (s .characters)) (s .sizes) (s .p) in
-    let e : given (word (s .n) (s .m) (l .k)) g ≡ true = ap (λ (w : List ℕ). given w g) (sym (c .before .before .before .word .ensures)) ∙ sym (c .before .is-given .ensures) ∙ not-false _ (c .if1 .left) in
+    let e : given (word (s .n) (s .m) (l .k)) g ≡ true = ap (λ (w : List ℕ). given w g) (sym (c .before .before .before .fill-word .ensures .0)) ∙ sym (c .before .is-given .ensures) ∙ not-false _ (c .if1 .left) in
     let less : s .p - (l .k + 1) ≡ s .p - l .k - 1 = omega arith in
     (omega arith, ap (λ (d : ℕ). freshFrom d (s .n) (s .m) g (l .k + 1)) less ∙ sym (fresh-no (s .n) (s .m) g (l .k) (s .p - l .k) (omega arith) e) ∙ l .inv .1)
 
-word-requires-2 : tie.Need-word-requires-2 Inv-loop μ-loop
-word-requires-2 c κs = search needs
+fill-word-requires-2 : tie.Need-fill-word-requires-2 Inv-loop μ-loop
+fill-word-requires-2 c κs = (refl, omega arith, omega arith, omega arith, omega arith)
 
 returns-2 : tie.Need-returns-2 Inv-loop μ-loop
 returns-2 c =
-    let l = c .before .before .loop in
-    let s = c .before .before .before .before .args in
+    let l = c .before .before .before .loop in
+    let s = c .before .before .before .before .before .args in
     let g = givenStrings (now (s .characters)) (s .sizes) (s .p) in
     let e : s .p ≡ l .k = omega arith in
-    c .word2 .ensures ∙ ap (λ (k : ℕ). word (s .n) (s .m) k) e ∙ sym (fresh-done (s .n) (s .m) g (l .k) (s .p - l .k) (omega arith)) ∙ l .inv .1
+    c .fill-word2 .ensures .0 ∙ ap (λ (k : ℕ). word (s .n) (s .m) k) e ∙ sym (fresh-done (s .n) (s .m) g (l .k) (s .p - l .k) (omega arith)) ∙ l .inv .1
 
 pub fresh-spec : {M : Type 1} → statement M
 fresh-spec =
@@ -83,7 +81,7 @@ fresh-spec =
     Inv-loop
     μ-loop
     loop-holds
-    word-requires
+    fill-word-requires
     array-share-prefix-w
     slice-aggregate-is-given
     is-given-requires
@@ -91,5 +89,5 @@ fresh-spec =
     add-k
     loop-less
     loop-again
-    word-requires-2
+    fill-word-requires-2
     returns-2)

@@ -1,13 +1,14 @@
 -- `strings::give_fixed` meets its contract.
-use Prim.Native.Nat.{_-_, _<_, _≤_, ℕ}
+use Prim.Native.Nat.{_*_, _+_, _-_, _<_, _≤_, ℕ}
 use borrow.Author.Needs.{needs}
 use denote.Ref.{now}
-use lib.ListN.{length, length-set, set}
-use mathlib.Core.List.{List}
+use lib.ListN.{drop, length, length-drop, length-set, set, take}
+use lib.Seq.{length-sets, length-take-le, sets}
+use mathlib.Core.List.{List, _++_}
 use mathlib.Core.Path.{_∙_, _≡_, ap, refl}
 use native.Mathlib.Omega.{arith}
 use Rattle.leaf.specs.Leaf.{asked}
-use Rattle.strings.proofs.Table.{stored-passed}
+use Rattle.strings.proofs.Table.{part-stored, stored-passed}
 use Rattle.strings.specs.Filling.{entry, fixedAt}
 use Rattle.strings.proofs.give_fixed.Statement.{statement}
 use Rattle.strings.proofs.give_fixed.Tie as tie
@@ -25,11 +26,26 @@ abbrev μ-loop : tie.MeasureT-loop
 loop-holds : tie.Need-loop-holds Inv-loop μ-loop
 loop-holds c = (omega arith, refl, refl, λ y h. no-number y h)
 
-fixed-requires : tie.Need-fixed-requires Inv-loop μ-loop
-fixed-requires c κs = search needs
+mul-from : tie.Need-mul-from Inv-loop μ-loop
+mul-from c = search needs
 
-store-requires : tie.Need-store-requires Inv-loop μ-loop
-store-requires c κs = search needs
+add-to : tie.Need-add-to Inv-loop μ-loop
+add-to c = search needs
+
+mul-fill-fixed : tie.Need-mul-fill-fixed Inv-loop μ-loop
+mul-fill-fixed c = search needs
+
+sub-fill-fixed : tie.Need-sub-fill-fixed Inv-loop μ-loop
+sub-fill-fixed c = search needs
+
+part-fill-fixed-start : tie.Need-part-fill-fixed-start Inv-loop μ-loop
+part-fill-fixed-start c = search needs
+
+part-fill-fixed-end : tie.Need-part-fill-fixed-end Inv-loop μ-loop
+part-fill-fixed-end c = search needs
+
+fill-fixed-requires : tie.Need-fill-fixed-requires Inv-loop μ-loop
+fill-fixed-requires c κs = search needs
 
 mul-sizes : tie.Need-mul-sizes Inv-loop μ-loop
 mul-sizes c = search needs
@@ -45,15 +61,21 @@ loop-less c = search needs
 
 loop-again : tie.Need-loop-again Inv-loop μ-loop
 loop-again c =
-    let l = c .before .before .before .before .before .before .before .before .loop in
-    let s = c .before .before .before .before .before .before .before .before .before .before .before .args in
-    let r = c .before .before .before .before .before .fixed in (
+    let l = c .before .before .before .before .before .before .loop in
+    let s = c .before .before .before .before .before .before .before .before .before .args in
+    let r = c .before .before .fill-fixed in
+    let v = r .last .1 .1 .1 .1 .0 in
+    let at = 64 * l .x in
+    let room : at + (at + 64 - at) ≤ length (l .characters) = omega arith in
+    let part : length (take (at + 64 - at) (drop at (l .characters))) ≡ at + 64 - at = length-take-le (at + 64 - at) (drop at (l .characters)) (rw length-drop (omega arith)) in
+    let n : length v ≡ at + 64 - at = r .kept .1 .1 .1 .1 .0 ∙ part in
+    let p : take at (l .characters) ++ (v ++ drop (at + 64 - at) (drop at (l .characters))) ≡ sets (l .characters) at v = part-stored (l .characters) v at (at + 64 - at) n room in (
       omega arith,
-      c .before .before .store .kept .0 ∙ l .inv .1,
+      ap length p ∙ length-sets (l .characters) at v ∙ l .inv .1,
       simp length-set (l .inv .2),
-      λ y h. ap (λ (cs : List ℕ). entry cs (set (l .sizes) (l .x) (r .result .size)) y) (c .before .before .store .ensures)
-          ∙ stored-passed (l .characters) (l .sizes) (l .x) (r .result .size) (r .result .characters) (omega (arith, r .ensures .1)) (omega arith) (omega arith)
-          (fixedAt (asked (now (s .ticket)) (s .leaf)) (s .leaf .labels) (now (s .model))) (l .inv .3) (r .ensures .0) y h,
+      λ y h. ap (λ (cs : List ℕ). entry cs (set (l .sizes) (l .x) (r .result)) y) p
+          ∙ stored-passed (l .characters) (l .sizes) (l .x) (r .result) v (omega arith) (λ q. omega arith) (omega arith) (omega arith)
+          (fixedAt (asked (now (s .ticket)) (s .leaf)) (s .leaf .labels) (now (s .model))) (l .inv .3) (r .ensures) y h,
     )
 
 same-length : tie.Need-same-length Inv-loop μ-loop
@@ -71,8 +93,13 @@ give-fixed-spec =
     Inv-loop
     μ-loop
     loop-holds
-    fixed-requires
-    store-requires
+    mul-from
+    add-to
+    mul-fill-fixed
+    sub-fill-fixed
+    part-fill-fixed-start
+    part-fill-fixed-end
+    fill-fixed-requires
     mul-sizes
     array-write-sizes
     add-x

@@ -15,8 +15,7 @@ use Rattle.calculus.specs.Model.{modelOf}
 use Rattle.format.specs.Checking.{room}
 use Rattle.leaf.specs.Leaf.{asked}
 use Rattle.strings.proofs.Rounds.{Filled, completed-is, round-done, round-more, round-start, short-length, sizes-more}
-use Rattle.strings.proofs.Table.{some-sized}
-use Rattle.strings.specs.Filling.{completed, sized}
+use Rattle.strings.specs.Filling.{completed}
 use Rattle.strings.proofs.give_strings.Statement.{statement}
 use Rattle.strings.proofs.give_strings.Tie as tie
 
@@ -44,27 +43,21 @@ loop-holds c =
       λ b e. round-start (asked (now (s .args .ticket)) (s .args .leaf)) b (now (s .args .model)) (s .args .leaf .labels) _ _ e (c .before .before .give-fixed .ensures),
     )
 
-string-of-requires : tie.Need-string-of-requires Inv-loop μ-loop
-string-of-requires c κs =
+complete-requires : tie.Need-complete-requires Inv-loop μ-loop
+complete-requires c κs =
     let s = c .before .before .before .before .before .before .before .before .before .before in
     let l = c .before .before .before .loop in (
       (s .pre .0 .0 .modelled, s .pre .0 .0 .some-character, s .pre .0 .0 .few-characters, c .before .if1 .taken, l .inv .2),
       (short-length (asked [] (s .args .leaf)) (now (s .args .model)) (l .x) (s .pre .1 .1) (c .before .if1 .taken), l .inv .5),
     )
 
-store-requires : tie.Need-store-requires Inv-loop μ-loop
-store-requires c κs =
-    let l = c .before .before .before .before .before .before .loop in
-    let h : l .x < c .before .before .before .before .before .before .before .before .before .before .before .before .before .args .leaf .p = c .before .before .before .before .if1 .taken in
-    (omega (arith, l .inv .1), omega (arith, l .inv .2))
-
 mul-sizes : tie.Need-mul-sizes Inv-loop μ-loop
 mul-sizes c = search needs
 
 array-write-sizes : tie.Need-array-write-sizes Inv-loop μ-loop
 array-write-sizes c =
-    let l = c .before .before .before .before .before .before .before .before .before .loop in
-    let h : l .x < c .before .before .before .before .before .before .before .before .before .before .before .before .before .before .before .before .args .leaf .p = c .before .before .before .before .before .before .before .if1 .taken in
+    let l = c .before .before .before .before .before .before .loop in
+    let h : l .x < c .before .before .before .before .before .before .before .before .before .before .before .before .before .args .leaf .p = c .before .before .before .before .if1 .taken in
     omega (arith, l .inv .1)
 
 add-x : tie.Need-add-x Inv-loop μ-loop
@@ -75,25 +68,25 @@ loop-less c = search needs
 
 loop-again : tie.Need-loop-again Inv-loop μ-loop
 loop-again c =
-    let l = c .before .before .before .before .before .before .before .before .before .loop in
-    let s = c .before .before .before .before .before .before .before .before .before .before .before .before .before .before .before .before .args in
-    let r = c .before .before .before .before .before .string-of in
+    let l = c .before .before .before .before .before .before .loop in
+    let s = c .before .before .before .before .before .before .before .before .before .before .before .before .before .args in
+    let r = c .before .before .complete in
     let u = asked (now (s .ticket)) (s .leaf) in
     let m = now (s .model) in
-    let h : l .x < s .leaf .p = c .before .before .before .before .before .before .before .if1 .taken in
+    let h : l .x < s .leaf .p = c .before .before .before .before .if1 .taken in
     let few : s .leaf .p ≤ 16 = l .inv .1 in
     let room : 64 * s .leaf .p ≤ length (l .characters) = l .inv .2 in
     let all : length (l .sizes) ≡ 16 = l .inv .4 in (
       omega arith,
       few,
-      omega (arith, c .before .before .store .kept .0),
-      c .before .before .store .kept .0 ∙ l .inv .3,
+      omega (arith, r .kept .1 .1 .0),
+      r .kept .1 .1 .0 ∙ l .inv .3,
       simp length-set all,
-      sizes-more (l .sizes) (l .x) (r .result .size) (omega arith) (l .inv .5) (some-sized (r .result .size) (r .result .characters) _ (r .ensures .0) .0),
-      λ b e. subst (λ (cs : List ℕ). Filled u b m cs (set (l .sizes) (l .x) (r .result .size)) (l .x + 1)) (sym (c .before .before .store .ensures))
-          (round-more u b m (l .characters) (l .sizes) (l .x) h (l .inv .6 b e) (r .result .size) (r .result .characters) (omega (arith, r .ensures .1)) (omega arith) room
-          (r .ensures .0 ∙ ap some (ap (λ (ls : List ℕ). completed (s .leaf .n) (s .leaf .p) ls (natAbs (modelOf u m len (l .x))) (l .characters) (l .sizes) (l .x)) e
-          ∙ completed-is u b m (l .characters) (l .sizes) (l .x) h (l .inv .6 b e)))),
+      sizes-more (l .sizes) (l .x) (r .result) (omega arith) (l .inv .5) (r .ensures .1 .1),
+      λ b e. subst (λ (cs : List ℕ). Filled u b m cs (set (l .sizes) (l .x) (r .result)) (l .x + 1)) (sym (r .ensures .0))
+          (round-more u b m (l .characters) (l .sizes) (l .x) h (l .inv .6 b e) (r .result) _ (r .ensures .1 .0) (r .ensures .1 .1) (omega arith) room
+          (ap (λ (ls : List ℕ). completed (s .leaf .n) (s .leaf .p) ls (natAbs (modelOf u m len (l .x))) (l .characters) (l .sizes) (l .x)) e
+          ∙ completed-is u b m (l .characters) (l .sizes) (l .x) h (l .inv .6 b e))),
     )
 
 same-length : tie.Need-same-length Inv-loop μ-loop
@@ -118,8 +111,7 @@ give-strings-spec =
     μ-loop
     give-fixed-requires
     loop-holds
-    string-of-requires
-    store-requires
+    complete-requires
     mul-sizes
     array-write-sizes
     add-x

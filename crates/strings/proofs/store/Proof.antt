@@ -5,11 +5,9 @@ use denote.Ref.{now}
 use lib.ListN.{getD, length, length-set, set, take}
 use lib.Seq.{sets}
 use mathlib.Core.List.{List}
-use mathlib.Core.Option.{Option}
-use mathlib.Core.Path.{_∙_, _≡_, ap, refl, sym}
+use mathlib.Core.Path.{_∙_, _≡_, ap, refl}
 use native.Mathlib.Omega.{arith}
-use Rattle.strings.proofs.Table.{sized-none, sized-some, stored-more}
-use Rattle.strings.specs.Filling.{storedAs}
+use Rattle.strings.proofs.Table.{stored-more}
 use Rattle.strings.proofs.store.Statement.{statement}
 use Rattle.strings.proofs.store.Tie as tie
 
@@ -18,12 +16,6 @@ Inv-loop characters₀ x size w from i₀ characters i = (i ≤ size) × (length
 
 abbrev μ-loop : tie.MeasureT-loop
 μ-loop characters₀ x size w from i₀ characters i = size - i
-
-returns : tie.Need-returns Inv-loop μ-loop
-unfolding storedAs
-returns c =
-    let s = c .before .args in
-    sym (ap (λ (o : Option (List ℕ)). storedAs o (now (s .characters)) (s .x)) (sized-none (s .size) (s .t3) (c .if1 .taken)))
 
 mul-from : tie.Need-mul-from Inv-loop μ-loop
 mul-from c = search needs
@@ -55,7 +47,7 @@ loop-less c = search needs
 loop-again : tie.Need-loop-again Inv-loop μ-loop
 loop-again c =
     let l = c .before .loop in
-    let s = c .before .before .before in
+    let s = c .before .before in
     let n : length (s .args .t3) ≡ 64 = s .good .1 .1 .0 .1 .0 .1 in (
       omega arith,
       simp length-set (l .inv .1),
@@ -66,14 +58,12 @@ loop-again c =
 same-length : tie.Need-same-length Inv-loop μ-loop
 same-length c = c .before .loop .inv .1
 
-returns-2 : tie.Need-returns-2 Inv-loop μ-loop
-unfolding storedAs
-returns-2 c =
+returns : tie.Need-returns Inv-loop μ-loop
+returns c =
     let l = c .before .loop in
-    let s = c .before .before .before .args in
+    let s = c .before .before .args in
     let e : l .i ≡ s .size = omega arith in
     l .inv .2 ∙ ap (λ (i : ℕ). sets (now (s .characters)) (64 * s .x) (take i (s .t3))) e
-    ∙ sym (ap (λ (o : Option (List ℕ)). storedAs o (now (s .characters)) (s .x)) (sized-some (s .size) (s .t3) (c .before .before .if1 .left)))
 
 pub store-spec : {M : Type 1} → statement M
 store-spec =
@@ -81,7 +71,6 @@ store-spec =
     (tie.spec
     Inv-loop
     μ-loop
-    returns
     mul-from
     loop-holds
     mul-c
@@ -93,4 +82,4 @@ store-spec =
     loop-less
     loop-again
     same-length
-    returns-2)
+    returns)

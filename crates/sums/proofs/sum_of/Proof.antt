@@ -117,7 +117,7 @@ returns c =
     nothing p (summing-absent (w p) (count p) (b p) (at' p) (n p) (c .before .before .before .before .loop .sum) (i p) (c .before .before .before .before .loop .inv) (c .before .before .before .loop-test .taken) (subst (λ (k : ℕ). count p ≤ k) (fact-is p) (c .if1 .taken)))
 
 row-at-requires : tie.Need-row-at-requires Inv-loop μ-loop
-row-at-requires c κs = let f = c .before .before .before .before .before .before .pre .1 .1 .1 in let few = f .few in (omega arith, f .room)
+row-at-requires c κs = let f = c .before .before .before .before .before .before .pre .1 .1 .1 in let few = f .few in let room = f .room in (omega arith, omega arith)
 
 takes-requires : tie.Need-takes-requires Inv-loop μ-loop
 takes-requires c κs = ap length (row-is c) ∙ long c

@@ -1,4 +1,4 @@
--- `rows::holds_of` meets its contract.
+-- `rows::relation_holds` meets its contract.
 use Prim.Native.Nat.{suc, zero, ℕ}
 use lib.IntN.{pos, ℤ}
 use lib.Signed.{leZ}
@@ -9,8 +9,8 @@ use Rattle.calculus.specs.Facts.{Relation, holds, ne}
 use Rattle.calculus.proofs.Relations.{nonneg-test}
 use Rattle.format.specs.Question.{relationOf}
 use Rattle.rows.proofs.Tested.{zero-test}
-use Rattle.rows.proofs.holds_of.Statement.{statement}
-use Rattle.rows.proofs.holds_of.Tie as tie
+use Rattle.rows.proofs.relation_holds.Statement.{statement}
+use Rattle.rows.proofs.relation_holds.Tie as tie
 
 -- relation 2 and above is ≠
 other : (r : ℕ) → (r ≡ 0 → ⊥) → (r ≡ 1 → ⊥) → relationOf r ≡ ne
@@ -33,5 +33,5 @@ returns-3 c =
     let s = c .before .before in
     ap not (zero-test (s .args .value) (s .fits .value)) ∙ ap (λ (r : Relation). holds r (s .args .value)) (sym (other (s .args .relation) (c .before .if1 .left) (c .if2 .left)))
 
-pub holds-of-spec : {M : Type 1} → statement M
-holds-of-spec = tie.close (tie.spec returns returns-2 returns-3)
+pub relation-holds-spec : {M : Type 1} → statement M
+relation-holds-spec = tie.close (tie.spec returns returns-2 returns-3)

@@ -1,0 +1,54 @@
+-- `classes::apart_meets` meets its contract.
+use Prim.Native.Nat.{ℕ}
+use borrow.Author.Needs.{needs}
+use denote.Ref.{now}
+use mathlib.Core.Path.{_∙_, ap₂, sym}
+use Rattle.calculus.specs.Chains.{varNode}
+use Rattle.calculus.specs.Classes.{sameClass}
+use Rattle.classes.proofs.Laws.{row-apart, row-not-apart}
+use Rattle.classes.proofs.apart_meets.Statement.{statement}
+use Rattle.classes.proofs.apart_meets.Tie as tie
+
+kind-of-requires : tie.Need-kind-of-requires
+kind-of-requires c κs = search needs
+
+operand-requires : tie.Need-operand-requires
+operand-requires c κs = search needs
+
+operand-requires-2 : tie.Need-operand-requires-2
+operand-requires-2 c κs = search needs
+
+mul-same-class : tie.Need-mul-same-class
+mul-same-class c = search needs
+
+mul-same-class-2 : tie.Need-mul-same-class-2
+mul-same-class-2 c = search needs
+
+same-class-requires : tie.Need-same-class-requires
+same-class-requires c κs = search needs
+
+returns : tie.Need-returns
+returns c =
+    let s = c .before .before .before .before .before in
+    let k = c .before .before .before .before .kind-of in
+    c .same-class .ensures ∙ ap₂ (λ (a b : ℕ). sameClass (s .args .labels) (varNode a) (varNode b)) (c .before .before .operand .ensures .0) (c .before .operand2 .ensures .0)
+    ∙ sym (row-apart (now (s .args .row)) (s .args .labels) (k .result) (k .ensures) (c .before .before .before .if1 .taken))
+
+returns-2 : tie.Need-returns-2
+returns-2 c =
+    let s = c .before .before in
+    let k = c .before .kind-of in
+    sym (row-not-apart (now (s .args .row)) (s .args .labels) (k .result) (k .ensures) (c .if1 .left))
+
+pub apart-meets-spec : {M : Type 1} → statement M
+apart-meets-spec =
+    tie.close
+    (tie.spec
+    kind-of-requires
+    operand-requires
+    operand-requires-2
+    mul-same-class
+    mul-same-class-2
+    same-class-requires
+    returns
+    returns-2)
