@@ -205,7 +205,7 @@ fn literals_meet(labels: [u8; 32], m: usize) -> bool
     false
 }
 
-// Is the fact of a row, of kind 4, a ≉ b with both sides in one class?
+// Is a row a fact a ≉ b, of kind 4, with both sides in one class?
 fn apart_meets(row: &[i64], labels: [u8; 32]) -> bool
     requires { ⌜ length (now row) ≡ rowLength ⌝ }
     ensures { λ r. ⌜ r ≡ apartMeet labels (factOf (now (row .entry)) ∷ []) ⌝ }
