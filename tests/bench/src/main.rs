@@ -30,7 +30,7 @@ fn main() {
     print_row("8-pair Sums over 48 columns", &tickets::most_wide_sums());
     print_row("strings, 16 variables", &tickets::strings());
     print_row("smallest refusal (no bytes)", &[]);
-    for steps in [50, 100, 200, 400, 800, 1_200] {
+    for steps in [50, 100, 200, 400, 800, 1_600] {
         print_row("small steps", &tickets::small_steps(steps));
     }
     for steps in [50, 100, 200, 400] {
