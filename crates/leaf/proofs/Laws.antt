@@ -22,6 +22,7 @@ use Rattle.calculus.specs.Rules.{logUp}
 use Rattle.calculus.specs.Model.{modelOf}
 use Rattle.calculus.specs.SaturationTest.{every, lowestVar, lowestOf, saturatedCard}
 use Rattle.calculus.proofs.Powers.{least-power}
+use Rattle.calculus.proofs.Lowest.{lowests-few}
 use Rattle.format.specs.Places.{literalsFrom}
 use Rattle.format.proofs.Places.{length-texts}
 use Rattle.classes.specs.Classes.{clash}
@@ -146,20 +147,12 @@ module _ (u : Question) (ls : List ℕ) (m : List ℤ) (x k : ℕ) (e : k ≡ le
   pub card-many : 1 < k → saturatedCard u ls m x ≡ roomy (u .n) k (natAbs (modelOf u m len x))
   card-many h = counted ∙ rw (lt-leb k 1 h)
 
-few-lowest : (u : Question) (ls : List ℕ) (m : List ℤ) (z : ℤ) (k : ℕ) → length (lowestOf u ls m z k) ≤ k
-few-lowest u ls m z zero = omega arith
-few-lowest u ls m z (suc k) = go (eqℤ (modelOf u m len k) z && eqb (lowestVar ls k) k) (few-lowest u ls m z k)
-  where
-    go : (t : Bool) → length (lowestOf u ls m z k) ≤ k → length {A = ℕ} (elim t as (λ _. List ℕ) [ true ↦ k ∷ lowestOf u ls m z k | false ↦ lowestOf u ls m z k ]) ≤ suc k
-    go true h = omega arith
-    go false h = omega arith
-
 -- no count is needed where there is room for a string of each variable
 pub card-roomy : (u : Question) (ls : List ℕ) (m : List ℤ) (x : ℕ) → roomy (u .n) (u .p) (natAbs (modelOf u m len x)) ≡ true → saturatedCard u ls m x ≡ true
 card-roomy u ls m x e =
     let k = length (lowestOf u ls m (modelOf u m len x) (u .p)) in
     counted u ls m x k refl
-    ∙ ap (λ (t : Bool). leb k 1 || t) (room-fewer (u .n) (u .p) k (natAbs (modelOf u m len x)) (few-lowest u ls m (modelOf u m len x) (u .p)) e)
+    ∙ ap (λ (t : Bool). leb k 1 || t) (room-fewer (u .n) (u .p) k (natAbs (modelOf u m len x)) (lowests-few u ls m (modelOf u m len x) (u .p)) e)
     ∙ or-true (leb k 1)
 
 -- ---- every variable
