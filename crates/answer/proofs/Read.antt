@@ -13,10 +13,10 @@ use borrow.Author.Tests.{leb-true, eqb-true, le-leb, lt-leb}
 use Rattle.calculus.specs.Limits.{lengthLimit, valueLimit}
 use Rattle.calculus.specs.Alphabet.{allCharacters}
 use Rattle.calculus.specs.Facts.{Question}
-use Rattle.format.specs.Fields.{i32, i32s, within}
+use Rattle.format.specs.Fields.{i32, i32s, within, allWithin}
 use Rattle.format.specs.Records.{size, kind, next, whole}
-use Rattle.format.specs.Places.{skip}
-use Rattle.format.specs.Answer.{answerForm, stringAt, integersAt, allWithin, outside}
+use Rattle.format.specs.Places.{skip, textAt}
+use Rattle.format.specs.Answer.{answerForm, integersAt, outside}
 use Rattle.format.proofs.Faults.{and-true}
 use Rattle.format.proofs.Places.{skip-room}
 use Rattle.format.proofs.Fields.{down}
@@ -90,17 +90,17 @@ tail-there b q at e = record-there b at 10 (4 * q) (and-true (recordIs b at 10 (
 -- ---- the ranges, record by record
 
 module _ (b : List ℕ) (at : ℕ) where
-  pub within-done : (k : ℕ) → k ≤ 0 → allWithin (i32s b at k) ≡ true
+  pub within-done : (k : ℕ) → k ≤ 0 → allWithin valueLimit (i32s b at k) ≡ true
   unfolding allWithin i32s
   within-done zero h = refl
   within-done (suc k) h = absurd (omega arith)
 
-  pub within-yes : (k : ℕ) → 0 < k → within valueLimit (i32 b at) ≡ true → allWithin (i32s b at k) ≡ allWithin (i32s b (at + 4) (k - 1))
+  pub within-yes : (k : ℕ) → 0 < k → within valueLimit (i32 b at) ≡ true → allWithin valueLimit (i32s b at k) ≡ allWithin valueLimit (i32s b (at + 4) (k - 1))
   unfolding allWithin i32s
   within-yes zero h e = absurd (omega arith)
   within-yes (suc k) h e = rw (e, down k)
 
-  pub within-no : (k : ℕ) → 0 < k → within valueLimit (i32 b at) ≡ false → allWithin (i32s b at k) ≡ false
+  pub within-no : (k : ℕ) → 0 < k → within valueLimit (i32 b at) ≡ false → allWithin valueLimit (i32s b at k) ≡ false
   unfolding allWithin i32s
   within-no zero h e = absurd (omega arith)
   within-no (suc k) h e = rw e
@@ -112,22 +112,22 @@ module _ (b : List ℕ) (u : Question) (r at : ℕ) where
   abbrev byIntegers : Bool → Option ℕ
   byIntegers t = elim t as (λ _. Option ℕ) [ true ↦ none | false ↦ some r ]
 
-  pub outside-yes : (p : ℕ) → 0 < p → allCharacters (u .n) (stringAt b at) ≡ true → outside b u p r at ≡ outside b u (p - 1) (suc r) (next b at)
+  pub outside-yes : (p : ℕ) → 0 < p → allCharacters (u .n) (textAt b at) ≡ true → outside b u p r at ≡ outside b u (p - 1) (suc r) (next b at)
   unfolding outside
   outside-yes zero h e = absurd (omega arith)
   outside-yes (suc p) h e = ap (byStrings p) e ∙ ap (λ (k : ℕ). outside b u k (suc r) (next b at)) (sym (down p))
 
-  pub outside-no : (p : ℕ) → 0 < p → allCharacters (u .n) (stringAt b at) ≡ false → outside b u p r at ≡ some r
+  pub outside-no : (p : ℕ) → 0 < p → allCharacters (u .n) (textAt b at) ≡ false → outside b u p r at ≡ some r
   unfolding outside
   outside-no zero h e = absurd (omega arith)
   outside-no (suc p) h e = ap (byStrings p) e
 
-  pub outside-none : (p : ℕ) → p ≡ 0 → allWithin (integersAt b (u .q) at) ≡ true → outside b u p r at ≡ none
+  pub outside-none : (p : ℕ) → p ≡ 0 → allWithin valueLimit (integersAt b (u .q) at) ≡ true → outside b u p r at ≡ none
   unfolding outside
   outside-none zero h e = ap byIntegers e
   outside-none (suc p) h e = absurd (omega arith)
 
-  pub outside-last : (p : ℕ) → p ≡ 0 → allWithin (integersAt b (u .q) at) ≡ false → outside b u p r at ≡ some r
+  pub outside-last : (p : ℕ) → p ≡ 0 → allWithin valueLimit (integersAt b (u .q) at) ≡ false → outside b u p r at ≡ some r
   unfolding outside
   outside-last zero h e = ap byIntegers e
   outside-last (suc p) h e = absurd (omega arith)

@@ -6,14 +6,14 @@ ghost use mathlib.Core.List.{[], _++_};
 ghost use lib.ListN.{length, getD, take, drop};
 ghost use lib.Seq.{sets};
 ghost use lib.IntN.{pos, natAbs};
-ghost use Rattle.calculus.specs.Limits.{lengthLimit, variableLimit, numberLimit, answerBytes};
-ghost use Rattle.calculus.specs.Facts.{codeOf};
-ghost use Rattle.format.specs.Fields.{bytesOf, unsigned, i32s};
+ghost use Rattle.calculus.specs.Limits.{lengthLimit, variableLimit, numberLimit, answerBytes, valueLimit};
+ghost use Rattle.calculus.specs.Facts.{codeOf, blank};
+ghost use Rattle.format.specs.Fields.{bytesOf, unsigned, i32s, allWithin};
 ghost use Rattle.format.specs.Records.{next};
-ghost use Rattle.format.specs.Places.{skip};
-ghost use Rattle.format.specs.Answer.{recordBytes, characterBytes, integerBytes, stringRecords, encode, answerForm, stringAt, allWithin, outside};
+ghost use Rattle.format.specs.Places.{skip, textAt};
+ghost use Rattle.format.specs.Answer.{recordBytes, characterBytes, integerBytes, stringRecords, encode, answerForm, outside};
 ghost use Rattle.answer.specs.Table.{row, tableStrings, tableAnswer, Table, Integers};
-ghost use Rattle.answer.specs.Form.{recordIs, stringForm, asking, outsideOf, Placed, columnsAt};
+ghost use Rattle.answer.specs.Form.{recordIs, stringForm, outsideOf, Placed, columnsAt};
 use limits::COLUMN_LIMIT;
 use limits::LENGTH_LIMIT;
 use limits::TEXT_BYTES;
@@ -228,7 +228,7 @@ pub fn answer_formed(v: &[u8], p: usize, q: usize) -> bool
 // Whether the count integers from a position lie within ±100,000,000.
 pub fn integers_within(v: &[u8], at: usize, count: usize) -> bool
     requires { ⌜ at + 4 * count ≤ length (now v) ⌝ }
-    ensures { λ r. ⌜ r ≡ allWithin (i32s (now (v .entry)) at count) ⌝ }
+    ensures { λ r. ⌜ r ≡ allWithin valueLimit (i32s (now (v .entry)) at count) ⌝ }
 {
     let mut i = at;
     let mut left = count;
@@ -251,7 +251,7 @@ pub enum Outside {
 // "16 (the answer's first such record) when a character is not below n or an integer is outside ±100,000,000"
 pub fn first_outside(v: &[u8], n: usize, p: usize, q: usize) -> Outside
     requires { ⌜ answerForm (now v) p q 0 ≡ true ⌝ }
-    ensures { λ r. ⌜ outsideOf r ≡ outside (now (v .entry)) (asking n p q) p 0 0 ⌝ }
+    ensures { λ r. ⌜ outsideOf r ≡ outside (now (v .entry)) (blank n p q) p 0 0 ⌝ }
 {
     let mut at = 0;
     let mut r = 0;
@@ -290,7 +290,7 @@ pub fn record_places(b: &[u8], from: usize, count: usize) -> [usize; VARIABLE_LI
 // The code of the string whose record stands at a position.
 fn string_code(v: &[u8], at: usize) -> i64
     requires { ⌜ next (now v) at ≤ length (now v) ⌝ }
-    ensures { λ r. ⌜ r ≡ codeOf (stringAt (now (v .entry)) at) ⌝ }
+    ensures { λ r. ⌜ r ≡ codeOf (textAt (now (v .entry)) at) ⌝ }
 {
     let size = u32_at(v, at);
     text_code(v, at + 6, size / 4)

@@ -10,14 +10,15 @@ use mathlib.Core.List.{List, [], _∷_}
 use lib.ListN.{length, getD}
 use lib.Dec.{T, eqb, eqb→eq, eqb-refl}
 use borrow.Author.Tests.{eq-eqb, eqb-true}
+use Rattle.lists.specs.Lists.{anyBelow}
 use Rattle.lists.proofs.Options.{some-injective, none-some}
 use Rattle.lists.proofs.Tests.{true→, or→, →or-left, →or-right}
+use Rattle.lists.proofs.Below.{any-below→, →any-below}
 use Rattle.calculus.specs.Facts.{Question, Fact, same, apart, isLiteral, arithmetic, Branch}
 use Rattle.calculus.specs.Chains.{varNode, litNode, Edge, AnyEdge, Chain, here, along, back, OneClass, ClassHolds, Counts}
-use Rattle.calculus.specs.Classes.{upFrom, relabel, label, joinNodes, joinFact, labelsFrom, nodeCount, labels, sameClass, lowest, classLiteral, anyBelow, literalsMeet, apartMeet, conflict}
+use Rattle.calculus.specs.Classes.{upFrom, relabel, label, joinNodes, joinFact, labelsFrom, nodeCount, labels, sameClass, lowest, classLiteral, literalsMeet, apartMeet, conflict}
 use Rattle.calculus.specs.Instances.{FactAt, Stands, LiteralsMeet, ApartMeet}
 use Rattle.calculus.proofs.InRange.{HeadInRange, FactInRange, FactsInRange}
-use Rattle.calculus.proofs.Tests.{any→, →any}
 
 pub chain-trans : {b : Branch} {i j k : ℕ} → Chain b i j → Chain b j k → Chain b i k
 chain-trans here d = d
@@ -235,12 +236,12 @@ module _ (u : Question) (w : HeadInRange u) (b : Branch) (r : FactsInRange u b) 
 
   literals-meet→ : T (literalsMeet u (labels b)) → LiteralsMeet u b
   literals-meet→ t =
-      let (i, hi, s) = any→ (suc (length (u .literals))) (λ i. anyBelow i (meets i)) t in
-      let (j, hj, q) = any→ i (meets i) s in
+      let (i, hi, s) = any-below→ (suc (length (u .literals))) (λ i. anyBelow i (meets i)) t in
+      let (j, hj, q) = any-below→ i (meets i) s in
       record { first = i; second = j; first-defined = omega arith; second-defined = omega arith; different = λ e. omega arith; joined = class→chain b (litNode i) (litNode j) q }
 
   meet-in-order : (i j : ℕ) → i ≤ length (u .literals) → j < i → Chain b (litNode i) (litNode j) → T (literalsMeet u (labels b))
-  meet-in-order i j hi hj c = →any (suc (length (u .literals))) (λ i. anyBelow i (meets i)) i (omega arith) (→any i (meets i) j hj (chain→class u w b r (litNode i) (litNode j) c))
+  meet-in-order i j hi hj c = →any-below (suc (length (u .literals))) (λ i. anyBelow i (meets i)) i (omega arith) (→any-below i (meets i) j hj (chain→class u w b r (litNode i) (litNode j) c))
 
   →literals-meet : LiteralsMeet u b → T (literalsMeet u (labels b))
   →literals-meet m = go (decLt (m .second) (m .first)) (decLt (m .first) (m .second))

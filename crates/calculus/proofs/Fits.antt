@@ -9,22 +9,23 @@ use mathlib.Core.List.{List, [], _∷_}
 use lib.ListN.{length, getElem?}
 use lib.Dec.{T, leb, eqb}
 use lib.IntN.{ℤ, pos, negsuc, _+ℤ_, _*ℤ_}
-use lib.Signed.{_≤ℤ_, _<ℤ_}
+use lib.Signed.{_≤ℤ_, _<ℤ_, nonNeg}
 use borrow.Author.Tests.{leb-true, leb-false}
 use Rattle.integers.proofs.Laws.{minus-one-*ℤ}
+use Rattle.lists.specs.Lists.{any}
 use Rattle.lists.proofs.Options.{some-injective, none-some}
 use Rattle.lists.proofs.Lists.{all-at}
 use Rattle.lists.proofs.Tests.{and→, →and, or→, →or-left, →or-right}
 use Rattle.calculus.specs.Limits.{columnLimit}
 use Rattle.calculus.specs.Alphabet.{characterCount}
-use Rattle.calculus.specs.Rows.{plus, scale, minus, nonneg, isZero, eqRow, allZero}
-use Rattle.calculus.specs.Facts.{Question, Fact, same, apart, isLiteral, arithmetic, Branch, Relation, ge, eq, ne, Function, len, code, holds, apply}
+use Rattle.calculus.specs.Rows.{plus, scale, minus, isZero, eqRow, allZero}
+use Rattle.calculus.specs.Facts.{Question, Fact, same, apart, isLiteral, arithmetic, Branch, Relation, ge, eq, ne, Function, len, code, holds, apply, Holds}
 use Rattle.calculus.specs.Chains.{varNode}
 use Rattle.calculus.specs.Classes.{labels, sameClass, classLiteral, conflict}
 use Rattle.calculus.specs.Steps.{Step, Sum, Split, Apart, AConf, SConf, SProp, LIntro, LValid, CCollapse, CValid, CInj, Card, Join}
 use Rattle.calculus.specs.Children.{sumChild, literalChild, pairs, boundChild}
-use Rattle.calculus.specs.Rules.{guard, then, summand, sumOf, divided, falsum, joined, statesZero, anyFact, sameLength, neighbours, distinct, logUp, lastChild, cardChildren, children, parted}
-use Rattle.calculus.specs.Instances.{entry, FactAt, Stands, Multiplier, Summands, IsSum, IsApart, False, IsAConf, IsLiteral, LengthsStated, Neighbours, LastChild, IsJoin, Instance, StepInRange}
+use Rattle.calculus.specs.Rules.{guard, then, summand, sumOf, divided, falsum, joined, statesZero, sameLength, neighbours, distinct, logUp, lastChild, cardChildren, children, parted}
+use Rattle.calculus.specs.Instances.{entry, FactAt, Stands, Multiplier, Summands, IsSum, IsApart, IsAConf, IsLiteral, LengthsStated, Neighbours, LastChild, IsJoin, Instance, StepInRange}
 use Rattle.calculus.proofs.InRange.{HeadInRange, FactInRange, FactsInRange}
 use Rattle.calculus.proofs.Tests.{guard→, →guard, then→, →then, differ→, →differ, distinct→, →distinct}
 use Rattle.calculus.proofs.Rows.{eqRow→, →eqRow}
@@ -47,12 +48,12 @@ summand→ : (m : ℤ) (f : Fact) {s : List ℤ} → summand m f ≡ some s → 
 summand→ m (same x y) e = absurd (none-some e)
 summand→ m (apart x y) e = absurd (none-some e)
 summand→ m (isLiteral x l) e = absurd (none-some e)
-summand→ m (arithmetic ge g) e = let (t, h) = guard→ (nonneg m && not (isZero m)) e in record { relation = ge; form = g; is = refl; multiplier = positive→ m t; times = sym h }
+summand→ m (arithmetic ge g) e = let (t, h) = guard→ (nonNeg m && not (isZero m)) e in record { relation = ge; form = g; is = refl; multiplier = positive→ m t; times = sym h }
 summand→ m (arithmetic eq g) e = let (t, h) = guard→ (not (isZero m)) e in record { relation = eq; form = g; is = refl; multiplier = nonzero→ m t; times = sym h }
 summand→ m (arithmetic ne g) e = absurd (none-some e)
 
 →summand : (m : ℤ) (r : Relation) (e : List ℤ) → Multiplier r m → summand m (arithmetic r e) ≡ some (scale m e)
-→summand m ge e h = →guard (nonneg m && not (isZero m)) (→positive m h) refl
+→summand m ge e h = →guard (nonNeg m && not (isZero m)) (→positive m h) refl
 →summand m eq e h = →guard (not (isZero m)) (→nonzero m h) refl
 →summand m ne e h = absurd h
 
@@ -135,7 +136,7 @@ conf-fits b k (arithmetic r (c ∷ a)) h t n =
     let (z, s) = and→ (allZero a) (not (holds r c)) t in
     record { relation = r; form = c ∷ a; named = h; no-coefficient = allZero→ a z; false-constant = fails→ r c s; closes = n }
 
-fits-conf : (r : Relation) (e : List ℤ) → ((j : ℕ) → entry e (suc j) ≡ pos 0) → False r (entry e 0) → T (falsum (arithmetic r e))
+fits-conf : (r : Relation) (e : List ℤ) → ((j : ℕ) → entry e (suc j) ≡ pos 0) → (Holds r (entry e 0) → ⊥) → T (falsum (arithmetic r e))
 fits-conf r [] h f = →fails r (pos 0) f
 fits-conf r (c ∷ a) h f = →and (allZero a) (not (holds r c)) (→allZero a h) (→fails r c f)
 
@@ -149,22 +150,22 @@ states→ e (arithmetic ge g) t = absurd t
 states→ e (arithmetic eq g) t = ap (arithmetic eq) (sym (eqRow→ e g t))
 states→ e (arithmetic ne g) t = absurd t
 
-stated→ : (e : List ℤ) (b : Branch) → T (anyFact (statesZero e) b) → Stands b (arithmetic eq e)
+stated→ : (e : List ℤ) (b : Branch) → T (any (statesZero e) b) → Stands b (arithmetic eq e)
 stated→ e [] t = absurd t
-stated→ e (f ∷ b) t = go (or→ (statesZero e f) (anyFact (statesZero e) b) t) (stated→ e b)
+stated→ e (f ∷ b) t = go (or→ (statesZero e f) (any (statesZero e) b) t) (stated→ e b)
   where
-    go : T (statesZero e f) ⊎ T (anyFact (statesZero e) b) → (T (anyFact (statesZero e) b) → Stands b (arithmetic eq e)) → Stands (f ∷ b) (arithmetic eq e)
+    go : T (statesZero e f) ⊎ T (any (statesZero e) b) → (T (any (statesZero e) b) → Stands b (arithmetic eq e)) → Stands (f ∷ b) (arithmetic eq e)
     go (inl s) ih = (0, ap some (states→ e f s))
     go (inr s) ih = let (k, h) = ih s in (suc k, h)
 
-→stated : (e : List ℤ) (b : Branch) (k : ℕ) → FactAt b k (arithmetic eq e) → T (anyFact (statesZero e) b)
+→stated : (e : List ℤ) (b : Branch) (k : ℕ) → FactAt b k (arithmetic eq e) → T (any (statesZero e) b)
 →stated e [] k h = absurd (none-some h)
-→stated e (f ∷ b) zero h = →or-left (statesZero e f) (anyFact (statesZero e) b) (subst (λ f. T (statesZero e f)) (sym (some-injective h)) (→eqRow {a = e} refl))
-→stated e (f ∷ b) (suc k) h = →or-right (statesZero e f) (anyFact (statesZero e) b) (→stated e b k h)
+→stated e (f ∷ b) zero h = →or-left (statesZero e f) (any (statesZero e) b) (subst (λ f. T (statesZero e f)) (sym (some-injective h)) (→eqRow {a = e} refl))
+→stated e (f ∷ b) (suc k) h = →or-right (statesZero e f) (any (statesZero e) b) (→stated e b k h)
 
 module _ (u : Question) (b : Branch) where
   abbrev oneWay : ℕ → ℕ → Bool
-  oneWay x y = anyFact (statesZero (minus (apply u len x) (apply u len y))) b
+  oneWay x y = any (statesZero (minus (apply u len x) (apply u len y))) b
 
   same-length→ : (x y : ℕ) → T (sameLength u b x y) → LengthsStated u b x y
   same-length→ x y t = go (or→ (oneWay x y) (oneWay y x) t)

@@ -14,13 +14,13 @@ use Rattle.lists.specs.Lists.{All}
 use Rattle.lists.proofs.Options.{some-injective, none-some}
 use Rattle.lists.proofs.Lists.{Any}
 use Rattle.calculus.specs.Alphabet.{lastCharacter, Character}
-use Rattle.calculus.specs.Rows.{number, minus, less}
+use Rattle.calculus.specs.Rows.{number, minus, less, valueIn}
 use Rattle.calculus.specs.Facts.{Question, Fact, Branch, Function, len, code, literal, apply, valueOf}
 use Rattle.calculus.specs.Chains.{OneClass, ClassHolds, Counts}
 use Rattle.calculus.specs.Steps.{Step, SProp, LIntro, LValid, CCollapse, CValid, CInj}
 use Rattle.calculus.specs.Children.{one, lValidChildren, cValidChildren, cInjChildren}
 use Rattle.calculus.specs.Instances.{Instance}
-use Rattle.calculus.specs.Model.{modelOf, valueIn}
+use Rattle.calculus.specs.Model.{modelOf}
 use Rattle.calculus.specs.Saturation.{HoldsAlready, SomeChild}
 use Rattle.calculus.proofs.Rows.{dot-minus, dot-number, dot-column, dot-less}
 

@@ -10,6 +10,7 @@ pub mod Words
 pub mod Pairs
 pub mod Fits
 pub mod Ranges
+pub mod Columns
 pub mod Sound
 pub mod Trees
 pub mod Walks

@@ -3,26 +3,24 @@ use Prim.Native.Nat.{zero, suc}
 use native.Mathlib.Omega.{arith}
 use mathlib.Core.Path.{_≡_, refl}
 use mathlib.Core.Logic.{_≢_}
-use mathlib.Core.Bool.{Bool, true, false, not, _&&_}
+use mathlib.Core.Bool.{not, _&&_}
 use lib.Dec.{T, T-not, not-T, le→leb}
 use lib.IntN.{ℤ, pos, negsuc}
-use lib.Signed.{_≤ℤ_, leZ, clashℤ}
+use lib.Signed.{_≤ℤ_, leZ, nonNeg}
 use borrow.Author.Tests.{le-leb}
-use Rattle.calculus.specs.Rows.{nonneg, isZero}
-use Rattle.calculus.specs.Facts.{Relation, ge, eq, ne, holds}
-use Rattle.calculus.specs.Instances.{False}
-use Rattle.calculus.specs.Saturation.{Holds}
+use Rattle.calculus.specs.Rows.{isZero}
+use Rattle.calculus.specs.Facts.{Relation, ge, eq, ne, holds, Holds}
 use Rattle.calculus.proofs.Rows.{isZero→, →isZero}
 
-pub nonneg→ : (z : ℤ) → T (nonneg z) → pos 0 ≤ℤ z
+pub nonneg→ : (z : ℤ) → T (nonNeg z) → pos 0 ≤ℤ z
 nonneg→ (pos n) t = record { le = le→leb 0 n (omega arith) }
 nonneg→ (negsuc n) t = absurd t
 
-pub →nonneg : (z : ℤ) → pos 0 ≤ℤ z → T (nonneg z)
+pub →nonneg : (z : ℤ) → pos 0 ≤ℤ z → T (nonNeg z)
 →nonneg (pos n) h = tt
 →nonneg (negsuc n) h = absurd (h .le)
 
-pub nonneg-test : (z : ℤ) → leZ (pos 0) z ≡ nonneg z
+pub nonneg-test : (z : ℤ) → leZ (pos 0) z ≡ nonNeg z
 nonneg-test (pos n) = le-leb 0 n (omega arith)
 nonneg-test (negsuc n) = refl
 
@@ -44,32 +42,20 @@ pub →holds : (r : Relation) (z : ℤ) → Holds r z → T (holds r z)
 
 -- ---- a constant that makes a relation false
 
-pub false-not : (r : Relation) (z : ℤ) → False r z → Holds r z → ⊥
-false-not ge z f h = clashℤ f h
-false-not eq z f h = f h
-false-not ne z f h = h f
+pub fails→ : (r : Relation) (z : ℤ) → T (not (holds r z)) → Holds r z → ⊥
+fails→ r z t h = T-not (holds r z) t (→holds r z h)
 
-pub fails→ : (r : Relation) (z : ℤ) → T (not (holds r z)) → False r z
-fails→ ge (pos n) t = absurd t
-fails→ ge (negsuc n) t = record { lt = tt }
-fails→ eq z t = nonzero→ z t
-fails→ ne z t = isZero→ z (not-not (isZero z) t)
-  where
-    not-not : (a : Bool) → T (not (not a)) → T a
-    not-not true t = tt
-    not-not false t = absurd t
-
-pub →fails : (r : Relation) (z : ℤ) → False r z → T (not (holds r z))
-→fails r z f = not-T (holds r z) (λ t. false-not r z f (holds→ r z t))
+pub →fails : (r : Relation) (z : ℤ) → (Holds r z → ⊥) → T (not (holds r z))
+→fails r z f = not-T (holds r z) (λ t. f (holds→ r z t))
 
 -- ---- multipliers
 
-pub positive→ : (m : ℤ) → T (nonneg m && not (isZero m)) → pos 1 ≤ℤ m
+pub positive→ : (m : ℤ) → T (nonNeg m && not (isZero m)) → pos 1 ≤ℤ m
 positive→ (pos zero) t = absurd t
 positive→ (pos (suc n)) t = record { le = le→leb 1 (suc n) (omega arith) }
 positive→ (negsuc n) t = absurd t
 
-pub →positive : (m : ℤ) → pos 1 ≤ℤ m → T (nonneg m && not (isZero m))
+pub →positive : (m : ℤ) → pos 1 ≤ℤ m → T (nonNeg m && not (isZero m))
 →positive (pos zero) h = absurd (h .le)
 →positive (pos (suc n)) h = tt
 →positive (negsuc n) h = absurd (h .le)

@@ -13,11 +13,12 @@ use lib.Dec.{T, T-not, not-T, leb, leb→le, le→leb, nleb→lt}
 use lib.IntN.{ℤ, pos, natAbs}
 use lib.Signed.{_≤ℤ_}
 use Rattle.integers.proofs.Laws.{pos-≤ℤ, -ℤ-nonneg→, →-ℤ-nonneg, abs-nonneg, ≤ℤ-abs}
-use Rattle.lists.specs.Lists.{All, Distinct}
-use Rattle.lists.proofs.Lists.{In, all-map, at-most, map-same}
-use Rattle.lists.proofs.Tests.{→true, true→, and→, →and, or→, →or-left, →or-right}
+use Rattle.lists.specs.Lists.{All, Distinct, allBelow, all}
+use Rattle.lists.proofs.Lists.{In, all-map, at-most, map-same, any→, →any, all→, →all}
+use Rattle.lists.proofs.Tests.{→true, true→, and→, or→, →or-right}
+use Rattle.lists.proofs.Below.{all-below→, →all-below}
 use Rattle.calculus.specs.Alphabet.{characterCount}
-use Rattle.calculus.specs.Rows.{number}
+use Rattle.calculus.specs.Rows.{number, valueIn}
 use Rattle.calculus.specs.Facts.{Question, Fact, same, apart, isLiteral, arithmetic, Branch, Function, len, code, apply}
 use Rattle.calculus.specs.Chains.{varNode, litNode}
 use Rattle.calculus.specs.Classes.{labels, sameClass, conflict}
@@ -25,11 +26,10 @@ use Rattle.calculus.specs.Steps.{Step, Sum, Split, Apart, AConf, SConf, 
 use Rattle.calculus.specs.Children.{pairs, boundChild}
 use Rattle.calculus.specs.Rules.{children, logUp, lastChild}
 use Rattle.calculus.specs.Instances.{LastChild, Instance, StepInRange}
-use Rattle.calculus.specs.Model.{modelOf, valueIn}
+use Rattle.calculus.specs.Model.{modelOf}
 use Rattle.calculus.specs.Saturation.{HoldsAlready, SomeChild, IsLeafCard, LeafInstance, Saturated}
-use Rattle.calculus.specs.SaturationTest.{held, heldAll, heldSome, byChildren, saturatedStep, every, lowestVar, lowestOf, saturatedCard, saturated}
+use Rattle.calculus.specs.SaturationTest.{held, heldSome, byChildren, saturatedStep, lowestVar, lowestOf, saturatedCard, saturated}
 use Rattle.calculus.proofs.InRange.{HeadInRange, FactsInRange}
-use Rattle.calculus.proofs.Tests.{every→, →every}
 use Rattle.calculus.proofs.Rows.{dot-minus, dot-number}
 use Rattle.calculus.proofs.Relations.{holds→, →holds}
 use Rattle.calculus.proofs.Classes.{class→chain, chain→class, conflict→, →conflict}
@@ -54,26 +54,11 @@ module _ (u : Question) (w : HeadInRange u) (b : Branch) (r : FactsInRange u b) 
   →held (isLiteral x l) h = chain→class u w b r (varNode x) (litNode l) h
   →held (arithmetic s e) h = →holds s (valueIn m e) h
 
-  held-all→ : (c : List Fact) → T (heldAll (labels b) m c) → All (HoldsAlready b m) c
-  held-all→ [] t = tt
-  held-all→ (f ∷ c) t = let (p, q) = and→ (held (labels b) m f) (heldAll (labels b) m c) t in (held→ f p, held-all→ c q)
-
-  →held-all : (c : List Fact) → All (HoldsAlready b m) c → T (heldAll (labels b) m c)
-  →held-all [] h = tt
-  →held-all (f ∷ c) (h, hs) = →and (held (labels b) m f) (heldAll (labels b) m c) (→held f h) (→held-all c hs)
-
   held-some→ : (cs : List (List Fact)) → T (heldSome (labels b) m cs) → AnyHeld b m cs
-  held-some→ [] t = absurd t
-  held-some→ (c ∷ cs) t = go (or→ (heldAll (labels b) m c) (heldSome (labels b) m cs) t) (held-some→ cs)
-    where
-      go : T (heldAll (labels b) m c) ⊎ T (heldSome (labels b) m cs) → (T (heldSome (labels b) m cs) → AnyHeld b m cs) → AnyHeld b m (c ∷ cs)
-      go (inl s) ih = inl (held-all→ c s)
-      go (inr s) ih = inr (ih s)
+  held-some→ cs t = any→ (all (held (labels b) m)) cs (λ c. all→ (held (labels b) m) c held→) t
 
   →held-some : (cs : List (List Fact)) → AnyHeld b m cs → T (heldSome (labels b) m cs)
-  →held-some [] h = h
-  →held-some (c ∷ cs) (inl h) = →or-left (heldAll (labels b) m c) (heldSome (labels b) m cs) (→held-all c h)
-  →held-some (c ∷ cs) (inr h) = →or-right (heldAll (labels b) m c) (heldSome (labels b) m cs) (→held-some cs h)
+  →held-some cs h = →any (all (held (labels b) m)) cs (λ c. →all (held (labels b) m) c →held) h
 
   -- ---- a step of rules 6 to 11
 
@@ -196,17 +181,17 @@ module _ (u : Question) (w : HeadInRange u) (b : Branch) (r : FactsInRange u b) 
     step≡ : (st : Step) → StepInRange u st → Chosen u b m st → saturatedStep u b m st ≡ true
     step≡ st g h = →true (saturatedStep u b m st) (→step st g h)
 
-    every≡ : (k : ℕ) (t : ℕ → Bool) → ((x : ℕ) → x < k → t x ≡ true) → every k t ≡ true
-    every≡ k t h = →true (every k t) (→every k t (λ x g. true→ (h x g)))
+    allBelow≡ : (k : ℕ) (t : ℕ → Bool) → ((x : ℕ) → x < k → t x ≡ true) → allBelow k t ≡ true
+    allBelow≡ k t h = →true (allBelow k t) (→all-below k t (λ x g. true→ (h x g)))
 
     pub words→saturated : saturated u b m ≡ true
     unfolding Instance StepInRange
     words→saturated =
         let c = by-classes in
         ap₂ _&&_ (→true (not (conflict u b)) (not-T (conflict u b) (λ t. s .no-conflict [] (record { clash = conflict→ u w b r t; closes = refl }))))
-        (every≡ (u .p) _ (λ x hx.
+        (allBelow≡ (u .p) _ (λ x hx.
         ap₂ _&&_ (ap₂ _&&_ (ap₂ _&&_ (ap₂ _&&_ (ap₂ _&&_ (step≡ (LIntro x) hx (c .l-intro x hx)) (step≡ (LValid x) hx (c .l-valid x hx))) (step≡ (CCollapse x) hx (c .c-collapse x hx))) (step≡ (CValid x) hx (c .c-valid x hx))) (→true (saturatedCard u (labels b) m x) (card-test x)))
-        (every≡ (u .p) _ (λ y hy.
+        (allBelow≡ (u .p) _ (λ y hy.
         ap₂ _&&_ (ap₂ _&&_ (step≡ (SProp len x y) (hx, hy) (c .s-prop len x y hx hy)) (step≡ (SProp code x y) (hx, hy) (c .s-prop code x y hx hy))) (step≡ (CInj x y) (hx, hy) (c .c-inj x y hx hy))))))
 
   -- ---- the test gives the words
@@ -218,11 +203,11 @@ module _ (u : Question) (w : HeadInRange u) (b : Branch) (r : FactsInRange u b) 
     abbrev ofTwo : ℕ → ℕ → Bool
     ofTwo x y = saturatedStep u b m (SProp len x y) && saturatedStep u b m (SProp code x y) && saturatedStep u b m (CInj x y)
 
-    parts : T (not (conflict u b)) × T (every (u .p) (λ x. ofOne x && every (u .p) (ofTwo x)))
-    parts = and→ (not (conflict u b)) (every (u .p) (λ x. ofOne x && every (u .p) (ofTwo x))) (true→ ok)
+    parts : T (not (conflict u b)) × T (allBelow (u .p) (λ x. ofOne x && allBelow (u .p) (ofTwo x)))
+    parts = and→ (not (conflict u b)) (allBelow (u .p) (λ x. ofOne x && allBelow (u .p) (ofTwo x))) (true→ ok)
 
-    of-variable : (x : ℕ) → x < u .p → T (ofOne x) × T (every (u .p) (ofTwo x))
-    of-variable x hx = and→ (ofOne x) (every (u .p) (ofTwo x)) (every→ (u .p) (λ x. ofOne x && every (u .p) (ofTwo x)) (parts .1) x hx)
+    of-variable : (x : ℕ) → x < u .p → T (ofOne x) × T (allBelow (u .p) (ofTwo x))
+    of-variable x hx = and→ (ofOne x) (allBelow (u .p) (ofTwo x)) (all-below→ (u .p) (λ x. ofOne x && allBelow (u .p) (ofTwo x)) (parts .1) x hx)
 
     of-one : (x : ℕ) → x < u .p → T (saturatedStep u b m (LIntro x)) × T (saturatedStep u b m (LValid x)) × T (saturatedStep u b m (CCollapse x)) × T (saturatedStep u b m (CValid x)) × T (saturatedCard u (labels b) m x)
     of-one x hx =
@@ -236,7 +221,7 @@ module _ (u : Question) (w : HeadInRange u) (b : Branch) (r : FactsInRange u b) 
     of-two : (x y : ℕ) → x < u .p → y < u .p → T (saturatedStep u b m (SProp len x y)) × T (saturatedStep u b m (SProp code x y)) × T (saturatedStep u b m (CInj x y))
     of-two x y hx hy =
         let s0 = saturatedStep u b m (SProp len x y) in let s1 = saturatedStep u b m (SProp code x y) in
-        let (t1, p2) = and→ (s0 && s1) (saturatedStep u b m (CInj x y)) (every→ (u .p) (ofTwo x) (of-variable x hx .1) y hy) in
+        let (t1, p2) = and→ (s0 && s1) (saturatedStep u b m (CInj x y)) (all-below→ (u .p) (ofTwo x) (of-variable x hx .1) y hy) in
         let (p0, p1) = and→ s0 s1 t1 in
         (p0, p1, p2)
 

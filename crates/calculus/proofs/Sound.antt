@@ -1,51 +1,36 @@
 -- Every rule keeps an assignment alive: what meets a branch meets a child of each instance on it.
-use Prim.Native.Nat.{ℕ, zero, suc, _+_, _*_, _/_, _%_, _^_, _<_, _≤_}
+use Prim.Native.Nat.{ℕ, suc, _+_, _*_, _/_, _%_, _^_, _<_, _≤_}
 use native.Mathlib.Omega.{arith}
 use native.Mathlib.Decide.{ℕ-discrete}
 use mathlib.Core.Path.{_≡_, refl, sym, _∙_, ap, ap₂, subst}
 use mathlib.Core.Logic.{_≢_, _⊎_, inl, inr}
 use mathlib.Core.Bool.{cond}
-use mathlib.Core.List.{List, [], _∷_, _++_, map, tail, List-discrete}
-use lib.ListN.{length, getD, length-map, List·getD-append}
-use lib.Seq.{getD-append-add}
+use mathlib.Core.List.{List, [], _∷_, map, tail, List-discrete}
+use lib.ListN.{length, length-map}
 use lib.Dec.{eqb}
 use lib.IntN.{ℤ, pos, negsuc, negℤ, _+ℤ_, _-ℤ_, _*ℤ_, +ℤ-idr, *ℤ-zero, ℤ-discrete, pos-ne-negsuc}
 use lib.Signed.{_≤ℤ_, ≤ℤ-refl}
 use Rattle.integers.proofs.Laws.{minus-one-*ℤ, pos-injective, pos-≤ℤ, ≤ℤ-antisym, ≤ℤ-trans, +ℤ-mono, *ℤ-mono, -ℤ-zero→, →-ℤ-zero, →-ℤ-nonneg, neg-nonneg→, split-cases, apart-cases, tighten}
 use Rattle.lists.specs.Lists.{All, Distinct}
-use Rattle.lists.proofs.Options.{some-injective, none-some}
-use Rattle.lists.proofs.Lists.{Any, distinct-at, getD-map}
+use Rattle.lists.proofs.Lists.{Any, all-at, distinct-at}
 use Rattle.calculus.specs.Alphabet.{lastCharacter, Over}
 use Rattle.calculus.specs.Rows.{scale, number, minus, less, below, dot}
-use Rattle.calculus.specs.Facts.{Question, Fact, same, apart, isLiteral, arithmetic, Branch, Relation, ge, eq, ne, Function, len, code, literal, apply, codeOf, valueOf}
+use Rattle.calculus.specs.Facts.{Question, Fact, same, apart, isLiteral, arithmetic, Branch, Relation, ge, eq, ne, Holds, Function, len, code, literal, columnOf, apply, codeOf, valueOf}
 use Rattle.calculus.specs.Chains.{varNode, litNode, Edge, AnyEdge, Chain, here, along, back}
 use Rattle.calculus.specs.Steps.{Step, Sum, Split, Apart, AConf, SConf, SProp, LIntro, LValid, CCollapse, CValid, CInj, Card, Join}
 use Rattle.calculus.specs.Children.{pairs, cValidChildren, cInjChildren}
-use Rattle.calculus.specs.Instances.{entry, FactAt, Multiplier, Summands, total, IsSum, False, IsAConf, LiteralsMeet, ApartMeet, IsLiteral, LengthsStated, Neighbours, LastChild, IsCard, IsJoin, Instance, StepInRange}
+use Rattle.calculus.specs.Instances.{entry, FactAt, Multiplier, Summands, total, IsSum, IsAConf, LiteralsMeet, ApartMeet, IsLiteral, LengthsStated, Neighbours, LastChild, IsCard, IsJoin, Instance, StepInRange}
 use Rattle.calculus.specs.Meaning.{Assignment, str, For, columns, value, Meets, Met}
 use Rattle.calculus.proofs.Rows.{dot-plus, dot-scale, dot-neg, dot-minus, dot-number, dot-column, dot-less, dot-below}
-use Rattle.calculus.proofs.Relations.{holds→, →holds, false-not}
 use Rattle.calculus.proofs.Entries.{entry-scale, entry-tail, dot-entries, dot-split, summed, entry-summed}
 use Rattle.calculus.proofs.Powers.{one-power}
+use Rattle.calculus.proofs.Columns.{column-value}
 use Rattle.calculus.proofs.Words.{one-or-no-code, Word, count}
 use Rattle.calculus.proofs.Pairs.{pairs-last, pairs-or-distinct}
 
 -- the assignment meets one of the children
 abbrev pub AnyMet : Question → Assignment → List (List Fact) → Type 0
 AnyMet u a cs = Any (Met u a) cs
-
-pub met-append : (u : Question) (a : Assignment) (b c : Branch) → Met u a b → Met u a c → Met u a (b ++ c)
-met-append u a [] c m k = k
-met-append u a (f ∷ b) c m k = (m .0, met-append u a b c (m .1) k)
-
-pub met-left : (u : Question) (a : Assignment) (b c : Branch) → Met u a (b ++ c) → Met u a b
-met-left u a [] c m = tt
-met-left u a (f ∷ b) c m = (m .0, met-left u a b c (m .1))
-
-pub met-at : (u : Question) (a : Assignment) (b : Branch) (k : ℕ) {f : Fact} → Met u a b → FactAt b k f → Meets u a f
-met-at u a [] k m e = absurd (none-some e)
-met-at u a (g ∷ b) zero m e = subst (Meets u a) (some-injective e) (m .0)
-met-at u a (g ∷ b) (suc k) m e = met-at u a b k (m .1) e
 
 -- ---- strings and their codes
 
@@ -64,41 +49,31 @@ module _ (u : Question) (a : Assignment) (f : For u a) where
 
   -- the values of the columns
   abbrev v : List ℤ
-  v = a .ints ++ (map (valueOf len) (a .strs) ++ map (valueOf code) (a .strs))
+  v = columns a
 
   apply-value : (g : Function) (x : ℕ) → x < u .p → value a (apply u g x) ≡ valueOf g (str a x)
-  apply-value len x h = dot-column v (u .q + x)
-      ∙ ap (λ q. getD v (q + x) (pos 0)) (sym (f .integers))
-      ∙ getD-append-add (a .ints) (map (valueOf len) (a .strs) ++ map (valueOf code) (a .strs)) x (pos 0)
-      ∙ List·getD-append (map (valueOf len) (a .strs)) (map (valueOf code) (a .strs)) (pos 0) x (rw length-map (rw (f .strings) h))
-      ∙ getD-map (valueOf len) (a .strs) x [] (pos 0) (rw (f .strings) h)
-  apply-value code x h = dot-column v (u .q + (u .p + x))
-      ∙ ap (λ q. getD v (q + (u .p + x)) (pos 0)) (sym (f .integers))
-      ∙ getD-append-add (a .ints) (map (valueOf len) (a .strs) ++ map (valueOf code) (a .strs)) (u .p + x) (pos 0)
-      ∙ ap (λ p. getD (map (valueOf len) (a .strs) ++ map (valueOf code) (a .strs)) (p + x) (pos 0)) (sym (length-map (a .strs) (valueOf len) ∙ f .strings))
-      ∙ getD-append-add (map (valueOf len) (a .strs)) (map (valueOf code) (a .strs)) x (pos 0)
-      ∙ getD-map (valueOf code) (a .strs) x [] (pos 0) (rw (f .strings) h)
+  apply-value g x h = dot-column v (columnOf u g x) ∙ column-value u a (f .strings) (f .integers) g x h
 
   less-length : (x : ℕ) → x < u .p → value a (less (apply u len x)) ≡ pos (length (str a x)) -ℤ pos 1
   less-length x h = dot-less v (apply u len x) (apply-value len x h)
 
   -- an equation f(x) − k = 0 holds where f(x) is k
   equals-number : (g : Function) (x : ℕ) (k : ℤ) → x < u .p → valueOf g (str a x) ≡ k → Meets u a (arithmetic eq (minus (apply u g x) (number k)))
-  equals-number g x k h e = →holds eq _ (dot-minus (apply u g x) (number k) (columns a) (apply-value g x h) (dot-number v k) ∙ →-ℤ-zero e)
+  equals-number g x k h e = (dot-minus (apply u g x) (number k) (pos 1 ∷ v) (apply-value g x h) (dot-number v k) ∙ →-ℤ-zero e)
 
   -- ---- 1 Sum
 
   summand-met : (r : Relation) (k : ℤ) (e : List ℤ) → Multiplier r k → Meets u a (arithmetic r e) → pos 0 ≤ℤ (k *ℤ value a e)
-  summand-met ge k e h m = subst (λ z. z ≤ℤ (k *ℤ value a e)) (*ℤ-zero k) (*ℤ-mono k (≤ℤ-trans (pos-≤ℤ (omega arith)) h) (holds→ ge (value a e) m))
-  summand-met eq k e h m = subst (λ z. pos 0 ≤ℤ z) (sym (ap (λ z. k *ℤ z) (holds→ eq (value a e) m) ∙ *ℤ-zero k)) (≤ℤ-refl (pos 0))
+  summand-met ge k e h m = subst (λ z. z ≤ℤ (k *ℤ value a e)) (*ℤ-zero k) (*ℤ-mono k (≤ℤ-trans (pos-≤ℤ (omega arith)) h) m)
+  summand-met eq k e h m = subst (λ z. pos 0 ≤ℤ z) (sym (ap (λ z. k *ℤ z) m ∙ *ℤ-zero k)) (≤ℤ-refl (pos 0))
   summand-met ne k e h m = absurd h
 
   sum-met : (b : Branch) (ts : List (ℕ × ℤ)) (es : List (List ℤ)) → Met u a b → Summands b ts es → pos 0 ≤ℤ value a (summed ts es)
   sum-met b [] [] m h = ≤ℤ-refl (pos 0)
   sum-met b [] (e ∷ es) m h = absurd h
   sum-met b (t ∷ ts) [] m h = absurd h
-  sum-met b (t ∷ ts) (e ∷ es) m (h, hs) = subst (λ z. pos 0 ≤ℤ z) (sym (dot-plus (scale (t .1) e) (summed ts es) (columns a) ∙ ap (λ z. z +ℤ value a (summed ts es)) (dot-scale (t .1) e (columns a))))
-      (+ℤ-mono (summand-met (h .relation) (t .1) e (h .multiplier) (met-at u a b (t .0) m (h .named))) (sum-met b ts es m hs))
+  sum-met b (t ∷ ts) (e ∷ es) m (h, hs) = subst (λ z. pos 0 ≤ℤ z) (sym (dot-plus (scale (t .1) e) (summed ts es) (pos 1 ∷ v) ∙ ap (λ z. z +ℤ value a (summed ts es)) (dot-scale (t .1) e (pos 1 ∷ v))))
+      (+ℤ-mono (summand-met (h .relation) (t .1) e (h .multiplier) (all-at (Meets u a) b (t .0) m (h .named))) (sum-met b ts es m hs))
 
   new-met : (b : Branch) (d : ℕ) (ts : List (ℕ × ℤ)) (cs : List (List Fact)) → Met u a b → (i : IsSum b d ts cs) → pos 0 ≤ℤ value a (i .new)
   new-met b d ts cs m i = subst (λ z. pos 0 ≤ℤ z) (sym (dot-split (i .new) v))
@@ -116,16 +91,16 @@ module _ (u : Question) (a : Assignment) (f : For u a) where
   -- ---- 4 A-Conf, 13 Join
 
   conf-dead : (b : Branch) (k : ℕ) (cs : List (List Fact)) → Met u a b → IsAConf b k cs → ⊥
-  conf-dead b k cs m i = false-not (i .relation) (value a (i .form)) (subst (False (i .relation)) (sym constant) (i .false-constant)) (holds→ (i .relation) (value a (i .form)) (met-at u a b k m (i .named)))
+  conf-dead b k cs m i = i .false-constant (subst (Holds (i .relation)) constant (all-at (Meets u a) b k m (i .named)))
     where
       constant : value a (i .form) ≡ entry (i .form) 0
       constant = dot-split (i .form) v ∙ ap (λ z. entry (i .form) 0 +ℤ z) (dot-entries (tail (i .form)) [] v (λ j. entry-tail (i .form) j ∙ i .no-coefficient j)) ∙ +ℤ-idr (entry (i .form) 0)
 
   join-met : (b : Branch) (j k : ℕ) (cs : List (List Fact)) → Met u a b → (i : IsJoin b j k cs) → value a (i .form) ≡ pos 0
-  join-met b j k cs m i = ≤ℤ-antisym (neg-nonneg→ (subst (λ z. pos 0 ≤ℤ z) negative (holds→ ge (value a (i .negative)) (met-at u a b k m (i .second))))) (holds→ ge (value a (i .form)) (met-at u a b j m (i .first)))
+  join-met b j k cs m i = ≤ℤ-antisym (neg-nonneg→ (subst (λ z. pos 0 ≤ℤ z) negative (all-at (Meets u a) b k m (i .second)))) (all-at (Meets u a) b j m (i .first))
     where
       negative : value a (i .negative) ≡ negℤ (value a (i .form))
-      negative = dot-entries (i .negative) (scale (negsuc 0) (i .form)) (columns a) (λ p. i .negated p ∙ sym (entry-scale (negsuc 0) (i .form) p ∙ minus-one-*ℤ (entry (i .form) p))) ∙ dot-neg (i .form) (columns a)
+      negative = dot-entries (i .negative) (scale (negsuc 0) (i .form)) (pos 1 ∷ v) (λ p. i .negated p ∙ sym (entry-scale (negsuc 0) (i .form) p ∙ minus-one-*ℤ (entry (i .form) p))) ∙ dot-neg (i .form) (pos 1 ∷ v)
 
   -- ---- classes
 
@@ -165,12 +140,12 @@ module _ (u : Question) (a : Assignment) (f : For u a) where
   clash-dead : (b : Branch) → Distinct ([] ∷ u .literals) → Met u a b → LiteralsMeet u b ⊎ ApartMeet b → ⊥
   clash-dead b d m (inl i) = distinct-at [] ([] ∷ u .literals) (i .first) (i .second) d (omega (arith, i .first-defined)) (omega (arith, i .second-defined)) (i .different)
       (sym (node-literal (i .first)) ∙ chain-met m (i .joined) ∙ node-literal (i .second))
-  clash-dead b d m (inr i) = met-at u a b (i .stands .0) m (i .stands .1) (sym (node-variable (i .left)) ∙ chain-met m (i .joined) ∙ node-variable (i .right))
+  clash-dead b d m (inr i) = all-at (Meets u a) b (i .stands .0) m (i .stands .1) (sym (node-variable (i .left)) ∙ chain-met m (i .joined) ∙ node-variable (i .right))
 
   -- ---- 12 Card
 
   stated-met : (b : Branch) (x y k : ℕ) → Met u a b → x < u .p → y < u .p → FactAt b k (arithmetic eq (minus (apply u len x) (apply u len y))) → length (str a x) ≡ length (str a y)
-  stated-met b x y k m hx hy h = pos-injective (-ℤ-zero→ (sym (dot-minus (apply u len x) (apply u len y) (columns a) (apply-value len x hx) (apply-value len y hy)) ∙ holds→ eq _ (met-at u a b k m h)))
+  stated-met b x y k m hx hy h = pos-injective (-ℤ-zero→ (sym (dot-minus (apply u len x) (apply u len y) (pos 1 ∷ v) (apply-value len x hx) (apply-value len y hy)) ∙ all-at (Meets u a) b k m h))
 
   lengths-met : (b : Branch) (x y : ℕ) → Met u a b → x < u .p → y < u .p → LengthsStated u b x y → length (str a x) ≡ length (str a y)
   lengths-met b x y m hx hy (inl (k, h)) = stated-met b x y k m hx hy h
@@ -185,7 +160,7 @@ module _ (u : Question) (a : Assignment) (f : For u a) where
   last-met : (x m : ℕ) (cs : List (List Fact)) → x < u .p → 2 ≤ m → m ≤ u .n ^ length (str a x) → LastChild u x m cs → AnyMet u a cs
   last-met x m cs hx h g (inl (e, p)) = absurd (let k : m ≤ 1 = subst (λ z. m ≤ z) (ap (λ n. n ^ length (str a x)) e ∙ one-power (length (str a x))) g in omega arith)
   last-met x m cs hx h g (inr (e, p)) = subst (AnyMet u a) (sym (p .adds)) (inl (
-    →holds ge _ (subst (λ z. pos 0 ≤ℤ z) (sym (dot-minus (apply u len x) (number (pos (p .power))) (columns a) (apply-value len x hx) (dot-number v (pos (p .power)))))
+    (subst (λ z. pos 0 ≤ℤ z) (sym (dot-minus (apply u len x) (number (pos (p .power))) (pos 1 ∷ v) (apply-value len x hx) (dot-number v (pos (p .power)))))
         (→-ℤ-nonneg (pos-≤ℤ (p .least .least (length (str a x)) g)))),
     tt,
   ))
@@ -208,19 +183,19 @@ module _ (u : Question) (a : Assignment) (f : For u a) where
   two c d g h (inr q) = inr (inl (h q, tt))
 
   at-least : (e : List ℤ) {z : ℤ} → value a e ≡ z → pos 0 ≤ℤ z → Meets u a (arithmetic ge e)
-  at-least e p h = →holds ge (value a e) (subst (λ z. pos 0 ≤ℤ z) (sym p) h)
+  at-least e p h = (subst (λ z. pos 0 ≤ℤ z) (sym p) h)
 
   pub instance-sound : Distinct ([] ∷ u .literals) → (b : Branch) (st : Step) (cs : List (List Fact)) → StepInRange u st → Instance u b st cs → Met u a b → AnyMet u a cs
   unfolding Instance StepInRange
-  instance-sound d b (Sum k ts) cs g i m = subst (AnyMet u a) (sym (i .adds)) (inl (→holds ge _ (new-met b k ts cs m i), tt))
+  instance-sound d b (Sum k ts) cs g i m = subst (AnyMet u a) (sym (i .adds)) (inl ((new-met b k ts cs m i), tt))
   instance-sound d b (Split e) cs g i m = subst (AnyMet u a) (sym i) (two (arithmetic ge e) (arithmetic ge (below e)) (at-least e refl) (at-least (below e) (dot-below v e refl)) (split-cases (value a e)))
   instance-sound d b (Apart k) cs g i m = let e = i .form in
       subst (AnyMet u a) (sym (i .adds)) (two (arithmetic ge (less e)) (arithmetic ge (below e)) (at-least (less e) (dot-less v e refl)) (at-least (below e) (dot-below v e refl))
-      (apart-cases (value a e) (holds→ ne (value a e) (met-at u a b k m (i .named)))))
+      (apart-cases (value a e) (all-at (Meets u a) b k m (i .named))))
   instance-sound d b (AConf k) cs g i m = absurd (conf-dead b k cs m i)
   instance-sound d b SConf cs g i m = absurd (clash-dead b d m (i .clash))
   instance-sound d b (SProp h x y) cs (hx, hy) i m = subst (AnyMet u a) (sym (i .adds)) (inl (
-    →holds eq _ (dot-minus (apply u h x) (apply u h y) (columns a) (apply-value h x hx) (apply-value h y hy) ∙ →-ℤ-zero (ap (valueOf h) (sym (node-variable x) ∙ chain-met m (i .joined) ∙ node-variable y))),
+    (dot-minus (apply u h x) (apply u h y) (pos 1 ∷ v) (apply-value h x hx) (apply-value h y hy) ∙ →-ℤ-zero (ap (valueOf h) (sym (node-variable x) ∙ chain-met m (i .joined) ∙ node-variable y))),
     tt,
   ))
   instance-sound d b (LIntro x) cs g i m = literal-met b len x cs m g i
@@ -237,13 +212,13 @@ module _ (u : Question) (a : Assignment) (f : For u a) where
 
       go : ((c : ℕ) × (str a x ≡ c ∷ [])) ⊎ ((length (str a x) ≢ 1) × (codeOf (str a x) ≡ negsuc 0))
           → AnyMet u a (cValidChildren u x)
-      go (inr (h, e)) = inl (→holds ne _ (λ z. h (pos-injective (-ℤ-zero→ (sym (less-length x g) ∙ z)))), (equals-number code x (negsuc 0) g e, tt))
+      go (inr (h, e)) = inl ((λ z. h (pos-injective (-ℤ-zero→ (sym (less-length x g) ∙ z)))), (equals-number code x (negsuc 0) g e, tt))
       go (inl (c, e)) = inr (inl (
-        →holds eq _ (less-length x g ∙ →-ℤ-zero (ap (λ s. pos (length s)) e)),
+        (less-length x g ∙ →-ℤ-zero (ap (λ s. pos (length s)) e)),
         (
           at-least (apply u code x) (apply-value code x g ∙ ap codeOf e) (pos-≤ℤ {m = 0} {n = c} (omega arith)),
           (
-            at-least (minus (number (pos (lastCharacter (u .n)))) (apply u code x)) (dot-minus (number (pos (lastCharacter (u .n)))) (apply u code x) (columns a) (dot-number v (pos (lastCharacter (u .n)))) (apply-value code x g ∙ ap codeOf e))
+            at-least (minus (number (pos (lastCharacter (u .n)))) (apply u code x)) (dot-minus (number (pos (lastCharacter (u .n)))) (apply u code x) (pos 1 ∷ v) (dot-number v (pos (lastCharacter (u .n)))) (apply-value code x g ∙ ap codeOf e))
                 (→-ℤ-nonneg (pos-≤ℤ (one-character c e))),
             tt,
           ),
@@ -254,9 +229,9 @@ module _ (u : Question) (a : Assignment) (f : For u a) where
       go : (codeOf (str a x) ≡ negsuc 0) ⊎ ((codeOf (str a x) ≢ codeOf (str a y)) ⊎ (str a x ≡ str a y))
           → AnyMet u a (cInjChildren u x y)
       go (inl e) = inl (equals-number code x (negsuc 0) hx e, tt)
-      go (inr (inl h)) = inr (inl (→holds ne _ (λ z. h (-ℤ-zero→ (sym (dot-minus (apply u code x) (apply u code y) (columns a) (apply-value code x hx) (apply-value code y hy)) ∙ z))), tt))
+      go (inr (inl h)) = inr (inl ((λ z. h (-ℤ-zero→ (sym (dot-minus (apply u code x) (apply u code y) (pos 1 ∷ v) (apply-value code x hx) (apply-value code y hy)) ∙ z))), tt))
       go (inr (inr e)) = inr (inr (inl (e, tt)))
   instance-sound d b (Card []) cs g i m = absurd i
   instance-sound d b (Card (x ∷ [])) cs g i m = absurd i
   instance-sound d b (Card (x ∷ y ∷ xs)) cs (g, l) i m = card-met b x (y ∷ xs) cs m g l i
-  instance-sound d b (Join j k) cs g i m = subst (AnyMet u a) (sym (i .adds)) (inl (→holds eq _ (join-met b j k cs m i), tt))
+  instance-sound d b (Join j k) cs g i m = subst (AnyMet u a) (sym (i .adds)) (inl ((join-met b j k cs m i), tt))

@@ -18,19 +18,18 @@ use Rattle.lists.proofs.Options.{some-injective, none-some, some-none}
 use Rattle.lists.proofs.Lists.{In, in-map, in-append, in-left, in-right, in-at, distinct-at, without, length-without, in-without, at-most, getD-map, all-getD}
 use Rattle.lists.proofs.Tests.{→true, true→}
 use Rattle.calculus.specs.Alphabet.{Character, Over}
-use Rattle.calculus.specs.Rows.{eqℤ, dot}
-use Rattle.calculus.specs.Facts.{Question, Fact, same, apart, isLiteral, arithmetic, Branch, Function, len, code, literal, codeOf, valueOf}
+use Rattle.calculus.specs.Rows.{eqℤ, valueIn}
+use Rattle.calculus.specs.Facts.{Question, Fact, same, apart, isLiteral, arithmetic, Branch, Function, len, code, literal, codeOf, valueOf, Holds}
 use Rattle.calculus.specs.Chains.{varNode, litNode, Edge, AnyEdge, Chain, here, along, OneClass, Counts}
 use Rattle.calculus.specs.Classes.{labels, classLiteral}
 use Rattle.calculus.specs.Instances.{FactAt, Instance}
 use Rattle.calculus.specs.Model.{modelOf}
-use Rattle.calculus.specs.Saturation.{Holds, Saturated, MeetsArithmetic}
+use Rattle.calculus.specs.Saturation.{Saturated, MeetsArithmetic}
 use Rattle.calculus.specs.SaturationTest.{lowestVar, lowestOf}
 use Rattle.calculus.specs.Strings.{word, freshFrom, oneChar, fixedBy, fixedString, fixedStrings, stringOf, stringsTo, strings}
 use Rattle.calculus.specs.Meaning.{Assignment, str, For, columns, Meets, Met}
 use Rattle.calculus.proofs.InRange.{HeadInRange, FactInRange, FactsInRange}
 use Rattle.calculus.proofs.Rows.{eqℤ→, →eqℤ}
-use Rattle.calculus.proofs.Relations.{→holds}
 use Rattle.calculus.proofs.Classes.{chain-trans, chain-sym, literal→counts, no-literal, literal-same}
 use Rattle.calculus.proofs.Words.{one-or-no-code, length-word, word-over, words, length-words, in-words→, words-distinct, Fresh, fresh, length-fresh}
 use Rattle.calculus.proofs.Lowest.{lowest-joined, lowest-le, lowest→class, class→lowest, lowest-lowest, in-lowests, lowests-few}
@@ -368,8 +367,8 @@ module _ (u : Question) (w : HeadInRange u) (b : Branch) (r : FactsInRange u b) 
           go : (x : ℕ) → x < u .p → getD (map (valueOf f) (strings u b m)) x (pos 0) ≡ getD l x (pos 0)
           go x k = getD-map (valueOf f) (strings u b m) x [] (pos 0) (subst (λ n. x < n) (sym (length-strings u b m (u .p))) k) ∙ ap (valueOf f) (str-is x k) ∙ sym (values x k f) ∙ h x k
 
-      columns-are : columns (answer u b m) ≡ pos 1 ∷ m
-      columns-are = ap (λ l. pos 1 ∷ (take (u .q) m ++ l)) (ap₂ _++_ lengths codes ∙ take-append-drop (u .p) (drop (u .q) m)) ∙ ap (λ l. pos 1 ∷ l) (take-append-drop (u .q) m)
+      columns-are : columns (answer u b m) ≡ m
+      columns-are = ap (λ l. take (u .q) m ++ l) (ap₂ _++_ lengths codes ∙ take-append-drop (u .p) (drop (u .q) m)) ∙ take-append-drop (u .q) m
         where
           behind : length (drop (u .q) m) ≡ u .p + u .p
           behind = let e : length (drop (u .q) m) ≡ length m - u .q = length-drop (u .q) m in omega arith
@@ -408,7 +407,7 @@ module _ (u : Question) (w : HeadInRange u) (b : Branch) (r : FactsInRange u b) 
       meets k (same x y) h (hx, hy) a = str-is x hx ∙ string-class x y hx hy (along (joined b k (same x y) (varNode x) (varNode y) h (refl, refl)) here) ∙ sym (str-is y hy)
       meets k (apart x y) h (hx, hy) a = λ e. classes-differ x y hx hy (λ c. sat .no-conflict [] (record { clash = inr (record { left = x; right = y; stands = (k, h); joined = c }); closes = refl })) (sym (str-is x hx) ∙ e ∙ str-is y hy)
       meets k (isLiteral x l) h (hx, hl) a = str-is x hx ∙ string-literal x l hl (along (joined b k (isLiteral x l) (varNode x) (litNode l) h (refl, refl)) here)
-      meets k (arithmetic s e) h n a = →holds s _ (subst (Holds s) (sym (ap (λ v. dot e v) columns-are)) a)
+      meets k (arithmetic s e) h n a = subst (Holds s) (sym (ap (λ v. valueIn v e) columns-are)) a
 
       all-met : (c : Branch) → ((f : Fact) → In f c → In f b) → FactsInRange u c → All (MeetsArithmetic m) c → Met u (answer u b m) c
       all-met [] i g a = tt

@@ -1,19 +1,15 @@
 -- Tests and partial results of the rules: what they say of the parts that gave them, and the other way round.
-use Prim.Native.Nat.{ℕ, zero, suc, _<_}
-use native.Mathlib.Omega.{arith}
-use native.Mathlib.Decide.{ℕ-discrete}
+use Prim.Native.Nat.{ℕ}
 use mathlib.Core.Path.{_≡_, refl, _∙_, ap, subst}
-use mathlib.Core.Logic.{_≢_, _⊎_, inl, inr}
-use mathlib.Core.Bool.{Bool, true, false, not, _||_}
+use mathlib.Core.Logic.{_≢_}
+use mathlib.Core.Bool.{Bool, true, false, not}
 use mathlib.Core.Option.{Option, none, some}
 use mathlib.Core.List.{List, [], _∷_}
 use lib.Dec.{T, T-not, not-T, eqb, eqb→eq, eqb-refl}
 use Rattle.lists.specs.Lists.{NotIn, Distinct}
 use Rattle.lists.proofs.Options.{some-injective, none-some}
-use Rattle.lists.proofs.Tests.{and→, →and, or→, →or-left, →or-right, nor→, →nor}
-use Rattle.calculus.specs.Classes.{anyBelow}
+use Rattle.lists.proofs.Tests.{and→, →and, nor→, →nor}
 use Rattle.calculus.specs.Rules.{guard, then, elem, distinct}
-use Rattle.calculus.specs.SaturationTest.{every}
 
 -- ---- partial results
 
@@ -31,35 +27,6 @@ then→ (some a) f e = (a, refl, e)
 
 pub →then : {A B : Type 0} {o : Option A} (f : A → Option B) {a : A} {y : B} → o ≡ some a → f a ≡ some y → then o f ≡ some y
 →then f e h = ap (λ o. then o f) e ∙ h
-
--- ---- numbers below a bound
-
-below-suc : (P : ℕ → Type 0) (m i : ℕ) → i < suc m → P m → (i < m → P i) → P i
-below-suc P m i h p ih = go (ℕ-discrete m i)
-  where
-    go : Dec (m ≡ i) → P i
-    go (yes e) = subst P e p
-    go (no f) = ih (omega arith)
-
-pub any→ : (m : ℕ) (t : ℕ → Bool) → T (anyBelow m t) → (i : ℕ) × (i < m) × T (t i)
-any→ zero t h = absurd h
-any→ (suc m) t h = go (or→ (t m) (anyBelow m t) h) (any→ m t)
-  where
-    go : T (t m) ⊎ T (anyBelow m t) → (T (anyBelow m t) → (i : ℕ) × (i < m) × T (t i)) → (i : ℕ) × (i < suc m) × T (t i)
-    go (inl s) ih = (m, omega arith, s)
-    go (inr s) ih = let (i, g, r) = ih s in (i, omega arith, r)
-
-pub →any : (m : ℕ) (t : ℕ → Bool) (i : ℕ) → i < m → T (t i) → T (anyBelow m t)
-→any zero t i h s = absurd (omega arith)
-→any (suc m) t i h s = below-suc (λ k. T (t k) → T (t m || anyBelow m t)) m i h (→or-left (t m) (anyBelow m t)) (λ g s. →or-right (t m) (anyBelow m t) (→any m t i g s)) s
-
-pub every→ : (m : ℕ) (t : ℕ → Bool) → T (every m t) → (i : ℕ) → i < m → T (t i)
-every→ zero t h i g = absurd (omega arith)
-every→ (suc m) t h i g = let (s, r) = and→ (t m) (every m t) h in below-suc (λ k. T (t k)) m i g s (every→ m t r i)
-
-pub →every : (m : ℕ) (t : ℕ → Bool) → ((i : ℕ) → i < m → T (t i)) → T (every m t)
-→every zero t h = tt
-→every (suc m) t h = →and (t m) (every m t) (h m (omega arith)) (→every m t (λ i g. h i (omega arith)))
 
 -- ---- different numbers
 

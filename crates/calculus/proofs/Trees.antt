@@ -3,13 +3,13 @@ use mathlib.Core.Path.{subst}
 use mathlib.Core.Logic.{inl, inr}
 use mathlib.Core.List.{List, [], _∷_}
 use Rattle.lists.specs.Lists.{All, Distinct}
-use Rattle.lists.proofs.Lists.{all-left, all-right}
+use Rattle.lists.proofs.Lists.{all-left, all-right, all-append}
 use Rattle.calculus.specs.Facts.{Question, Fact, Branch}
 use Rattle.calculus.specs.Steps.{Step}
 use Rattle.calculus.specs.Instances.{StepInRange}
 use Rattle.calculus.specs.Derivations.{Closes, by, ClosesAll, none-left, child}
-use Rattle.calculus.specs.Meaning.{Assignment, For, Met}
-use Rattle.calculus.proofs.Sound.{AnyMet, met-append, instance-sound}
+use Rattle.calculus.specs.Meaning.{Assignment, For, Met, Meets}
+use Rattle.calculus.proofs.Sound.{AnyMet, instance-sound}
 
 module _ (u : Question) (d : Distinct ([] ∷ u .literals)) (a : Assignment) (f : For u a) where
   mutual
@@ -18,5 +18,5 @@ module _ (u : Question) (d : Distinct ([] ∷ u .literals)) (a : Assignment) (f 
 
     all-sound : {b : Branch} {cs : List (List Fact)} {s : List Step} → ClosesAll u b cs s → All (StepInRange u) s → Met u a b → AnyMet u a cs → ⊥
     all-sound none-left g m h = h
-    all-sound (child {b = b} {c = c} {first = p} {others = q} e k ks) g m (inl h) = closes-sound k (all-left _ p q (subst (All (StepInRange u)) e g)) (met-append u a b c m h)
+    all-sound (child {b = b} {c = c} {first = p} {others = q} e k ks) g m (inl h) = closes-sound k (all-left _ p q (subst (All (StepInRange u)) e g)) (all-append (Meets u a) b c m h)
     all-sound (child {b = b} {c = c} {first = p} {others = q} e k ks) g m (inr h) = all-sound ks (all-right _ p q (subst (All (StepInRange u)) e g)) m h

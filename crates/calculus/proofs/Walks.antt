@@ -15,12 +15,11 @@ use Rattle.calculus.specs.Rules.{then, children}
 use Rattle.calculus.specs.Instances.{Instance, StepInRange}
 use Rattle.calculus.specs.Walk.{Waiting, Walk, working, closed, wait, cutBack, enter}
 use Rattle.calculus.specs.Derivations.{Closes, by, ClosesAll, none-left, child, Takes, Path}
-use Rattle.calculus.specs.Meaning.{Assignment, Met}
+use Rattle.calculus.specs.Meaning.{Assignment, Met, Meets}
 use Rattle.calculus.proofs.InRange.{HeadInRange, FactsInRange}
 use Rattle.calculus.proofs.Tests.{then→, →then}
 use Rattle.calculus.proofs.Fits.{fits→instance, instance→fits}
 use Rattle.calculus.proofs.Ranges.{children-in-range}
-use Rattle.calculus.proofs.Sound.{met-left}
 
 -- ---- claim 1
 
@@ -184,4 +183,4 @@ module _ (u : Question) (w : HeadInRange u) where
 pub leaf-met : (u : Question) (a : Assignment) (ts : List (Step × ℕ)) (b leaf : Branch) → Path u b ts leaf → Met u a leaf → Met u a b
 unfolding Path
 leaf-met u a [] b leaf h m = subst (Met u a) (sym h) m
-leaf-met u a (t ∷ ts) b leaf (c, k, h) m = met-left u a b c (leaf-met u a ts (b ++ c) leaf h m)
+leaf-met u a (t ∷ ts) b leaf (c, k, h) m = all-left (Meets u a) b c (leaf-met u a ts (b ++ c) leaf h m)

@@ -11,21 +11,19 @@ use lib.ListN.{length}
 use lib.Dec.{T, eqb, ltb→lt, lt→ltb, eqb→eq, eqb-refl}
 use lib.IntN.{negsuc}
 use Rattle.lists.specs.Lists.{All, NotIn, Distinct}
-use Rattle.lists.proofs.Lists.{In, all-in, at-most}
-use Rattle.lists.proofs.Tests.{true→, and→, →and, or→, →or-left, →or-right}
+use Rattle.lists.proofs.Lists.{In, all-in, at-most, all→, →all, any→, →any}
+use Rattle.lists.proofs.Tests.{true→, and→, →and}
 use Rattle.calculus.specs.Alphabet.{characterCount, isCharacter, Over, allCharacters}
 use Rattle.calculus.specs.Facts.{codeOf}
 use Rattle.calculus.specs.Strings.{word, eqString, given, freshFrom}
 
 pub over→ : (n : ℕ) (s : List ℕ) → T (allCharacters n s) → Over n s
 unfolding allCharacters
-over→ n [] t = tt
-over→ n (c ∷ s) t = let (h, g) = and→ (isCharacter n c) (allCharacters n s) t in (ltb→lt c n h, over→ n s g)
+over→ n s t = all→ (isCharacter n) s (λ c h. ltb→lt c n h) t
 
 pub →over : (n : ℕ) (s : List ℕ) → Over n s → T (allCharacters n s)
 unfolding allCharacters
-→over n [] h = tt
-→over n (c ∷ s) (h, hs) = →and (isCharacter n c) (allCharacters n s) (lt→ltb c n h) (→over n s hs)
+→over n s h = →all (isCharacter n) s (λ c g. lt→ltb c n g) h
 
 -- a string has one character, or its code is −1
 pub one-or-no-code : (s : List ℕ) → ((c : ℕ) × (s ≡ c ∷ [])) ⊎ ((length s ≢ 1) × (codeOf s ≡ negsuc 0))
@@ -139,17 +137,10 @@ pub →eqString : {s t : List ℕ} → s ≡ t → T (eqString s t)
 →eqString {s} e = subst (λ t. T (eqString s t)) e (eqString-refl s)
 
 pub given→ : (s : List ℕ) (ts : List (List ℕ)) → T (given s ts) → In s ts
-given→ s [] h = absurd h
-given→ s (t ∷ ts) h = go (or→ (eqString s t) (given s ts) h) (given→ s ts)
-  where
-    go : T (eqString s t) ⊎ T (given s ts) → (T (given s ts) → In s ts) → (s ≡ t) ⊎ In s ts
-    go (inl e) ih = inl (eqString→ s t e)
-    go (inr g) ih = inr (ih g)
+given→ s ts h = any→ (eqString s) ts (λ t. eqString→ s t) h
 
 pub →given : (s : List ℕ) (ts : List (List ℕ)) → In s ts → T (given s ts)
-→given s [] h = h
-→given s (t ∷ ts) (inl e) = →or-left (eqString s t) (given s ts) (→eqString e)
-→given s (t ∷ ts) (inr h) = →or-right (eqString s t) (given s ts) (→given s ts h)
+→given s ts h = →any (eqString s) ts (λ t e. →eqString e) h
 
 -- the first word that is not given, or all that were tried are given
 abbrev pub Fresh : ℕ → ℕ → List (List ℕ) → ℕ → List ℕ → Type 0

@@ -1,8 +1,9 @@
 -- The alphabet: "an alphabet of n characters numbered 0 to n−1". Nothing else compares a character with n.
 use Prim.Native.Nat.{ℕ, _-_, _<_}
-use mathlib.Core.Bool.{Bool, true, _&&_}
-use mathlib.Core.List.{List, [], _∷_}
+use mathlib.Core.Bool.{Bool}
+use mathlib.Core.List.{List}
 use lib.Dec.{ltb}
+use Rattle.lists.specs.Lists.{All, all}
 
 -- how many characters there are
 abbrev pub characterCount : ℕ → ℕ
@@ -25,9 +26,7 @@ isCharacter n c = ltb c n
 
 -- a string over the alphabet
 abbrev pub Over : ℕ → List ℕ → Type 0
-Over n [] = Unit {0}
-Over n (c ∷ s) = Character n c × Over n s
+Over n s = All (Character n) s
 
 unfoldable pub allCharacters : ℕ → List ℕ → Bool
-allCharacters n [] = true
-allCharacters n (c ∷ s) = isCharacter n c && allCharacters n s
+allCharacters n s = all (isCharacter n) s

@@ -5,14 +5,14 @@ use mathlib.Core.Option.{Option, none, some}
 use mathlib.Core.List.{List, [], _∷_}
 use lib.ListN.{length, getD}
 use lib.Dec.{eqb}
+use Rattle.lists.specs.Lists.{anyBelow, along}
 use Rattle.calculus.specs.Limits.{variableLimit}
 use Rattle.calculus.specs.Facts.{Fact, Branch, Question, same, apart, isLiteral, arithmetic}
 use Rattle.calculus.specs.Chains.{varNode, litNode}
 
 -- m numbers from k on
 abbrev pub upFrom : ℕ → ℕ → List ℕ
-upFrom k zero = []
-upFrom k (suc m) = k ∷ upFrom (suc k) m
+upFrom k m = along suc (λ i. i) k m
 
 -- each label old becomes new
 abbrev pub relabel : ℕ → ℕ → List ℕ → List ℕ
@@ -54,11 +54,6 @@ lowest ls x k (suc m) = elim (sameClass ls (varNode x) (litNode k)) [ true ↦ s
 
 abbrev pub classLiteral : Question → Branch → ℕ → Option ℕ
 classLiteral u b x = lowest (labels b) x 0 (suc (length (u .literals)))
-
--- some number below m passes the test
-abbrev pub anyBelow : ℕ → (ℕ → Bool) → Bool
-anyBelow zero t = false
-anyBelow (suc m) t = t m || anyBelow m t
 
 -- "two different literals share a class"
 abbrev pub literalsMeet : Question → List ℕ → Bool

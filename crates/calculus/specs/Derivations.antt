@@ -4,9 +4,8 @@ use mathlib.Core.Path.{_≡_}
 use mathlib.Core.Option.{some}
 use mathlib.Core.List.{List, [], _∷_, _++_}
 use lib.ListN.{length}
-use lib.IntN.{ℤ, natAbs}
 use Rattle.lists.specs.Lists.{All}
-use Rattle.calculus.specs.Limits.{numberLimit, factLimit, pendingLimit}
+use Rattle.calculus.specs.Limits.{Small, numberLimit, factLimit, pendingLimit}
 use Rattle.calculus.specs.Facts.{Question, Fact, same, apart, isLiteral, arithmetic, Branch}
 use Rattle.calculus.specs.Steps.{Step}
 use Rattle.calculus.specs.Children.{childAt}
@@ -28,14 +27,11 @@ mutual
 -- ---- the limits
 
 -- 9: "when a new number passes the limit"
-abbrev pub Small : ℤ → Type 0
-Small z = natAbs z ≤ numberLimit
-
 abbrev pub SmallFact : Fact → Type 0
 SmallFact (same x y) = Unit {0}
 SmallFact (apart x y) = Unit {0}
 SmallFact (isLiteral x l) = Unit {0}
-SmallFact (arithmetic r e) = All Small e
+SmallFact (arithmetic r e) = All (Small numberLimit) e
 
 -- a child's facts are in the limits on the branch b: "At most 128 facts stand on a branch"
 pub record ChildLimits (b : Branch) (c : List Fact) : Type 0 where

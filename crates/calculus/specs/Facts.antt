@@ -1,17 +1,26 @@
 -- Questions and their facts; "Its constraints are facts 0, 1 and on".
 use Prim.Native.Nat.{ℕ, _+_}
+use mathlib.Core.Path.{_≡_}
+use mathlib.Core.Logic.{_≢_}
 use mathlib.Core.Bool.{Bool, not}
 use mathlib.Core.List.{List, [], _∷_}
 use lib.ListN.{length, getD}
 use lib.IntN.{ℤ, pos, negsuc}
-use Rattle.calculus.specs.Rows.{column, nonneg, isZero}
+use lib.Signed.{_≤ℤ_, nonNeg}
+use Rattle.calculus.specs.Rows.{column, isZero}
 
 -- "relation (0 is ≥ 0, 1 is = 0, 2 is ≠ 0)"
 pub data Relation : Type 0 where
   ge eq ne : Relation
 
+-- the relation holds for a number, in words and as a test
+abbrev pub Holds : Relation → ℤ → Type 0
+Holds ge z = pos 0 ≤ℤ z
+Holds eq z = z ≡ pos 0
+Holds ne z = z ≢ pos 0
+
 abbrev pub holds : Relation → ℤ → Bool
-holds ge z = nonneg z
+holds ge z = nonNeg z
 holds eq z = isZero z
 holds ne z = not (isZero z)
 
@@ -34,6 +43,10 @@ pub record Question : Type 0 where
   pub literals : List (List ℕ)
   pub constraints : Branch
 
+-- a question of n characters and p and q variables, without literals and constraints
+abbrev pub blank : ℕ → ℕ → ℕ → Question
+blank n p q = record { n = n; p = p; q = q; literals = []; constraints = [] }
+
 -- "literal 0 is the empty string and is never written"
 abbrev pub literal : Question → ℕ → List ℕ
 literal u l = getD ([] ∷ u .literals) l []
@@ -42,10 +55,17 @@ literal u l = getD ([] ∷ u .literals) l []
 pub data Function : Type 0 where
   len code : Function
 
--- the form f(x): "Columns: the q integer variables, then len of each string variable, then code of each"
+-- "Columns: the q integer variables, then len of each string variable, then code of each": how many there are, and that of f(x)
+abbrev pub columnCount : Question → ℕ
+columnCount u = u .q + (u .p + u .p)
+
+abbrev pub columnOf : Question → Function → ℕ → ℕ
+columnOf u len x = u .q + x
+columnOf u code x = u .q + (u .p + x)
+
+-- the form f(x)
 abbrev pub apply : Question → Function → ℕ → List ℤ
-apply u len x = column (u .q + x)
-apply u code x = column (u .q + (u .p + x))
+apply u f x = column (columnOf u f x)
 
 -- "code (the code point of a one-character string, else −1)"
 abbrev pub codeOf : List ℕ → ℤ

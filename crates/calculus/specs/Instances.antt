@@ -11,7 +11,7 @@ use Rattle.lists.specs.Lists.{All, Distinct}
 use Rattle.calculus.specs.Limits.{columnLimit}
 use Rattle.calculus.specs.Alphabet.{characterCount}
 use Rattle.calculus.specs.Rows.{minus}
-use Rattle.calculus.specs.Facts.{Question, Fact, apart, arithmetic, Branch, Relation, ge, eq, ne, Function, len, code, apply}
+use Rattle.calculus.specs.Facts.{Question, Fact, apart, arithmetic, Branch, Relation, ge, eq, ne, Holds, Function, len, code, apply}
 use Rattle.calculus.specs.Chains.{litNode, Chain, OneClass, Counts}
 use Rattle.calculus.specs.Steps.{Step, Sum, Split, Apart, AConf, SConf, SProp, LIntro, LValid, CCollapse, CValid, CInj, Card, Join}
 use Rattle.calculus.specs.Children.{sumChild, splitChildren, apartChildren, sPropChild, literalChild, lValidChildren, cValidChildren, cInjChildren, pairs, boundChild, joinChild}
@@ -77,18 +77,12 @@ pub record IsApart (b : Branch) (k : ℕ) (cs : List (List Fact)) : Type 0 where
 
 -- ---- 4 A-Conf: "an arithmetic fact without coefficients and false. Closes"
 
--- the constant c makes the relation false
-abbrev pub False : Relation → ℤ → Type 0
-False ge c = c <ℤ pos 0
-False eq c = c ≢ pos 0
-False ne c = c ≡ pos 0
-
 pub record IsAConf (b : Branch) (k : ℕ) (cs : List (List Fact)) : Type 0 where
   pub relation : Relation
   pub form : List ℤ
   pub named : FactAt b k (arithmetic relation form)
   pub no-coefficient : (j : ℕ) → entry form (suc j) ≡ pos 0
-  pub false-constant : False relation (entry form 0)
+  pub false-constant : Holds relation (entry form 0) → ⊥
   pub closes : cs ≡ []
 
 -- ---- 5 S-Conf: "two different literals share a class, or a ≉ fact has both sides in one"

@@ -1,5 +1,10 @@
 -- The limits of document 01, each under its name.
-use Prim.Native.Nat.{ℕ}
+use Prim.Native.Nat.{ℕ, _≤_}
+use lib.IntN.{ℤ, natAbs}
+
+-- z is at least −k and at most k, "ends included"
+abbrev pub Small : ℕ → ℤ → Type 0
+Small k z = natAbs z ≤ k
 
 -- "1 when the work area has under 6,400 numbers or the answer buffer under 4,268 bytes"
 abbrev pub workNumbers : ℕ

@@ -3,13 +3,13 @@
 use Prim.Native.Nat.{ℕ}
 use mathlib.Core.Path.{_≡_}
 use mathlib.Core.Logic.{_≢_}
-use mathlib.Core.List.{List, [], _∷_, _++_, map}
+use mathlib.Core.List.{List, [], _++_, map}
 use lib.ListN.{length, getD}
-use lib.Dec.{T}
-use lib.IntN.{ℤ, pos}
+use lib.IntN.{ℤ}
+use Rattle.lists.specs.Lists.{All}
 use Rattle.calculus.specs.Alphabet.{Over}
-use Rattle.calculus.specs.Rows.{dot}
-use Rattle.calculus.specs.Facts.{Question, Fact, same, apart, isLiteral, arithmetic, Branch, holds, literal, valueOf, len, code}
+use Rattle.calculus.specs.Rows.{valueIn}
+use Rattle.calculus.specs.Facts.{Question, Fact, same, apart, isLiteral, arithmetic, Branch, Holds, literal, valueOf, len, code}
 
 pub record Assignment : Type 0 where
   pub strs : List (List ℕ)
@@ -24,19 +24,18 @@ pub record For (u : Question) (a : Assignment) : Type 0 where
   pub integers : length (a .ints) ≡ u .q
   pub over : (x : ℕ) → Over (u .n) (str a x)
 
--- 1, then the columns' values
+-- "Columns: the q integer variables, then len of each string variable, then code of each": their values
 abbrev pub columns : Assignment → List ℤ
-columns a = pos 1 ∷ (a .ints ++ (map (valueOf len) (a .strs) ++ map (valueOf code) (a .strs)))
+columns a = a .ints ++ (map (valueOf len) (a .strs) ++ map (valueOf code) (a .strs))
 
 abbrev pub value : Assignment → List ℤ → ℤ
-value a e = dot e (columns a)
+value a e = valueIn (columns a) e
 
 abbrev pub Meets : Question → Assignment → Fact → Type 0
 Meets u a (same x y) = str a x ≡ str a y
 Meets u a (apart x y) = str a x ≢ str a y
 Meets u a (isLiteral x l) = str a x ≡ literal u l
-Meets u a (arithmetic r e) = T (holds r (value a e))
+Meets u a (arithmetic r e) = Holds r (value a e)
 
 abbrev pub Met : Question → Assignment → Branch → Type 0
-Met u a [] = Unit {0}
-Met u a (f ∷ b) = Meets u a f × Met u a b
+Met u a b = All (Meets u a) b

@@ -5,6 +5,7 @@ use mathlib.Core.List.{List, [], _∷_, _++_}
 use lib.ListN.{replicate}
 use lib.Dec.{eqb}
 use lib.IntN.{ℤ, pos, negsuc, _+ℤ_, _*ℤ_}
+use Rattle.lists.specs.Lists.{all}
 use Rattle.calculus.specs.Limits.{columnLimit}
 
 abbrev pub plus : List ℤ → List ℤ → List ℤ
@@ -38,10 +39,6 @@ less e = plus e (number (negsuc 0))
 abbrev pub below : List ℤ → List ℤ
 below e = plus (scale (negsuc 0) e) (number (negsuc 0))
 
-abbrev pub nonneg : ℤ → Bool
-nonneg (pos n) = true
-nonneg (negsuc n) = false
-
 abbrev pub isZero : ℤ → Bool
 isZero (pos zero) = true
 isZero (pos (suc n)) = false
@@ -60,8 +57,7 @@ eqRow (x ∷ a) [] = false
 eqRow (x ∷ a) (y ∷ b) = eqℤ x y && eqRow a b
 
 abbrev pub allZero : List ℤ → Bool
-allZero [] = true
-allZero (x ∷ a) = isZero x && allZero a
+allZero a = all isZero a
 
 -- division by d, rounding down
 abbrev pub floorDiv : ℤ → ℕ → ℤ
@@ -72,8 +68,12 @@ abbrev pub divRow : List ℤ → ℕ → List ℤ
 divRow [] d = []
 divRow (x ∷ a) d = floorDiv x d ∷ divRow a d
 
--- the value of a form where the columns have the values v, with 1 in front
+-- the sum of products
 abbrev pub dot : List ℤ → List ℤ → ℤ
 dot [] v = pos 0
 dot (k ∷ ks) [] = pos 0
 dot (k ∷ ks) (z ∷ v) = (k *ℤ z) +ℤ dot ks v
+
+-- the value of a form where the columns have the values v
+abbrev pub valueIn : List ℤ → List ℤ → ℤ
+valueIn v e = dot e (pos 1 ∷ v)

@@ -6,8 +6,10 @@ use mathlib.Core.List.{List, [], _∷_}
 use lib.ListN.{length, getElem?}
 use lib.Dec.{leb, eqb}
 use lib.IntN.{ℤ, pos, negsuc}
+use lib.Signed.{nonNeg}
+use Rattle.lists.specs.Lists.{any}
 use Rattle.calculus.specs.Alphabet.{characterCount}
-use Rattle.calculus.specs.Rows.{plus, scale, minus, nonneg, isZero, eqRow, allZero, floorDiv, divRow}
+use Rattle.calculus.specs.Rows.{plus, scale, minus, isZero, eqRow, allZero, floorDiv, divRow}
 use Rattle.calculus.specs.Facts.{holds, Fact, Branch, Question, apply, ge, eq, ne, same, apart, isLiteral, arithmetic, len, code}
 use Rattle.calculus.specs.Chains.{varNode}
 use Rattle.calculus.specs.Classes.{labels, sameClass, classLiteral, conflict}
@@ -29,7 +31,7 @@ abbrev pub summand : ℤ → Fact → Option (List ℤ)
 summand m (same x y) = none
 summand m (apart x y) = none
 summand m (isLiteral x l) = none
-summand m (arithmetic ge e) = guard (nonneg m && not (isZero m)) (scale m e)
+summand m (arithmetic ge e) = guard (nonNeg m && not (isZero m)) (scale m e)
 summand m (arithmetic eq e) = guard (not (isZero m)) (scale m e)
 summand m (arithmetic ne e) = none
 
@@ -82,13 +84,9 @@ statesZero e (arithmetic ge g) = false
 statesZero e (arithmetic eq g) = eqRow e g
 statesZero e (arithmetic ne g) = false
 
-abbrev pub anyFact : (Fact → Bool) → Branch → Bool
-anyFact t [] = false
-anyFact t (f ∷ b) = t f || anyFact t b
-
 -- "a fact states their lengths' difference = 0, coefficients 1 and −1 in either order"
 abbrev pub sameLength : Question → Branch → ℕ → ℕ → Bool
-sameLength u b x y = anyFact (statesZero (minus (apply u len x) (apply u len y))) b || anyFact (statesZero (minus (apply u len y) (apply u len x))) b
+sameLength u b x y = any (statesZero (minus (apply u len x) (apply u len y))) b || any (statesZero (minus (apply u len y) (apply u len x))) b
 
 -- "for each neighbouring pair"
 abbrev pub neighbours : Question → Branch → ℕ → List ℕ → Bool
@@ -96,8 +94,7 @@ neighbours u b x [] = true
 neighbours u b x (y ∷ ys) = sameLength u b x y && neighbours u b y ys
 
 abbrev pub elem : ℕ → List ℕ → Bool
-elem x [] = false
-elem x (y ∷ ys) = eqb x y || elem x ys
+elem x ys = any (eqb x) ys
 
 abbrev pub distinct : List ℕ → Bool
 distinct [] = true

@@ -1,7 +1,6 @@
 -- Saturation (document 01: "settled") in words: by chains, by the model's values, over every choice of operands.
 use Prim.Native.Nat.{ℕ, suc, _<_}
 use mathlib.Core.Path.{_≡_}
-use mathlib.Core.Logic.{_≢_}
 use mathlib.Core.Option.{some}
 use mathlib.Core.List.{List, [], _∷_}
 use lib.ListN.{length, getElem?}
@@ -9,17 +8,13 @@ use lib.IntN.{ℤ, pos}
 use lib.Signed.{_≤ℤ_}
 use Rattle.lists.specs.Lists.{All, Distinct}
 use Rattle.calculus.specs.Limits.{lengthLimit}
-use Rattle.calculus.specs.Facts.{Question, Fact, same, apart, isLiteral, arithmetic, Branch, Relation, ge, eq, ne, len}
+use Rattle.calculus.specs.Rows.{valueIn}
+use Rattle.calculus.specs.Facts.{Question, Fact, same, apart, isLiteral, arithmetic, Branch, Holds, len}
 use Rattle.calculus.specs.Chains.{OneClass, ClassHolds}
 use Rattle.calculus.specs.Steps.{Step, Sum, Split, Apart, AConf, SConf, SProp, LIntro, LValid, CCollapse, CValid, CInj, Card, Join}
 use Rattle.calculus.specs.Children.{pairs}
 use Rattle.calculus.specs.Instances.{LastChild, Instance, StepInRange}
-use Rattle.calculus.specs.Model.{modelOf, valueIn}
-
-abbrev pub Holds : Relation → ℤ → Type 0
-Holds ge z = pos 0 ≤ℤ z
-Holds eq z = z ≡ pos 0
-Holds ne z = z ≢ pos 0
+use Rattle.calculus.specs.Model.{modelOf}
 
 -- "holds already: an arithmetic fact by the model's values, an ≈ by classes"; no child has a ≉ fact
 abbrev pub HoldsAlready : Branch → List ℤ → Fact → Type 0

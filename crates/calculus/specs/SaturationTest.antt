@@ -6,14 +6,15 @@ use mathlib.Core.List.{List, [], _∷_}
 use lib.ListN.{length}
 use lib.Dec.{leb, eqb}
 use lib.IntN.{ℤ, natAbs}
+use Rattle.lists.specs.Lists.{all, any, allBelow}
 use Rattle.calculus.specs.Alphabet.{characterCount}
-use Rattle.calculus.specs.Rows.{eqℤ}
+use Rattle.calculus.specs.Rows.{eqℤ, valueIn}
 use Rattle.calculus.specs.Facts.{Question, Fact, same, apart, isLiteral, arithmetic, Branch, holds, len, code}
 use Rattle.calculus.specs.Chains.{varNode, litNode}
 use Rattle.calculus.specs.Classes.{labels, sameClass, conflict}
 use Rattle.calculus.specs.Steps.{Step, SProp, LIntro, LValid, CCollapse, CValid, CInj}
 use Rattle.calculus.specs.Rules.{logUp, children}
-use Rattle.calculus.specs.Model.{modelOf, valueIn}
+use Rattle.calculus.specs.Model.{modelOf}
 
 -- a fact holds at the leaf: an arithmetic one by the model's values, an ≈ by classes
 abbrev pub held : List ℕ → List ℤ → Fact → Bool
@@ -22,14 +23,9 @@ held ls m (apart x y) = not (sameClass ls (varNode x) (varNode y))
 held ls m (isLiteral x l) = sameClass ls (varNode x) (litNode l)
 held ls m (arithmetic r e) = holds r (valueIn m e)
 
-abbrev pub heldAll : List ℕ → List ℤ → List Fact → Bool
-heldAll ls m [] = true
-heldAll ls m (f ∷ fs) = held ls m f && heldAll ls m fs
-
--- some child holds
+-- some child holds, with all its facts
 abbrev pub heldSome : List ℕ → List ℤ → List (List Fact) → Bool
-heldSome ls m [] = false
-heldSome ls m (c ∷ cs) = heldAll ls m c || heldSome ls m cs
+heldSome ls m cs = any (all (held ls m)) cs
 
 abbrev pub byChildren : List ℕ → List ℤ → Option (List (List Fact)) → Bool
 byChildren ls m none = true
@@ -37,11 +33,6 @@ byChildren ls m (some cs) = heldSome ls m cs
 
 abbrev pub saturatedStep : Question → Branch → List ℤ → Step → Bool
 saturatedStep u b m st = byChildren (labels b) m (children u b st)
-
--- every number below k passes the test
-abbrev pub every : ℕ → (ℕ → Bool) → Bool
-every zero t = true
-every (suc k) t = t k && every k t
 
 -- the lowest variable from y on that is in one class with x, within fuel
 abbrev pub lowestFrom : ℕ → List ℕ → ℕ → ℕ → ℕ
@@ -64,7 +55,7 @@ saturatedCard u ls m x =
 
 -- S-Conf does not fit, and a child of each step of rules 6 to 12 holds
 abbrev pub saturated : Question → Branch → List ℤ → Bool
-saturated u b m = not (conflict u b) && every (u .p) (λ x.
+saturated u b m = not (conflict u b) && allBelow (u .p) (λ x.
     saturatedStep u b m (LIntro x) && saturatedStep u b m (LValid x) && saturatedStep u b m (CCollapse x) && saturatedStep u b m (CValid x)
     && saturatedCard u (labels b) m x
-    && every (u .p) (λ y. saturatedStep u b m (SProp len x y) && saturatedStep u b m (SProp code x y) && saturatedStep u b m (CInj x y)))
+    && allBelow (u .p) (λ y. saturatedStep u b m (SProp len x y) && saturatedStep u b m (SProp code x y) && saturatedStep u b m (CInj x y)))

@@ -1,11 +1,12 @@
 -- "The strings: a class with a literal gets it; a class of length 1 gets the character of its code; then each other class .."
 use Prim.Native.Nat.{ℕ, zero, suc, _/_, _%_, _^_}
-use mathlib.Core.Bool.{Bool, true, false, _&&_, _||_}
+use mathlib.Core.Bool.{Bool, true, false, _&&_}
 use mathlib.Core.Option.{Option, none, some}
 use mathlib.Core.List.{List, [], _∷_, _++_}
 use lib.ListN.{getD}
 use lib.Dec.{ltb, eqb}
 use lib.IntN.{ℤ, pos, natAbs}
+use Rattle.lists.specs.Lists.{any}
 use Rattle.calculus.specs.Alphabet.{characterCount, character}
 use Rattle.calculus.specs.Rows.{eqℤ}
 use Rattle.calculus.specs.Facts.{Question, Branch, len, code, literal}
@@ -25,8 +26,7 @@ eqString (c ∷ s) [] = false
 eqString (c ∷ s) (d ∷ t) = eqb c d && eqString s t
 
 abbrev pub given : List ℕ → List (List ℕ) → Bool
-given s [] = false
-given s (t ∷ ts) = eqString s t || given s ts
+given s ts = any (eqString s) ts
 
 -- the first string of length l from number k on that is not among ts, within fuel
 abbrev pub freshFrom : ℕ → ℕ → ℕ → List (List ℕ) → ℕ → List ℕ

@@ -2,25 +2,24 @@
 use Prim.Native.Nat.{ℕ, zero, suc, _+_, _*_, _-_, _/_, _%_}
 use native.Mathlib.Omega.{arith}
 use mathlib.Core.Path.{_≡_}
-use mathlib.Core.Bool.{Bool, true, false, not, _&&_}
+use mathlib.Core.Bool.{Bool, true, false, not, _&&_, cond}
 use mathlib.Core.Option.{Option}
 use mathlib.Core.List.{List, [], _∷_}
 use lib.ListN.{length}
 use lib.Dec.{eqb, leb}
 use lib.IntN.{ℤ}
-use Rattle.calculus.specs.Limits.{ticketBytes, lengthLimit, columnLimit}
+use Rattle.calculus.specs.Limits.{ticketBytes, lengthLimit, columnLimit, valueLimit}
 use Rattle.calculus.specs.Alphabet.{allCharacters}
 use Rattle.calculus.specs.Strings.{given}
 use Rattle.calculus.specs.Rules.{children}
 use Rattle.calculus.specs.SaturationTest.{saturated}
-use Rattle.calculus.specs.Facts.{Question, Fact, Branch}
+use Rattle.calculus.specs.Facts.{Question, Fact, Branch, columnCount}
 use Rattle.calculus.specs.Walk.{working, closed}
-use Rattle.format.specs.Fields.{pick, u16}
+use Rattle.format.specs.Fields.{u16, allWithin}
 use Rattle.format.specs.Records.{need, kind, next, whole, records, size}
 use Rattle.format.specs.Question as question
-use Rattle.format.specs.Question.{Progress, Reading, Stopped, Ended, fresh, headRange, textOf, stringRange, columnCount, formRange}
+use Rattle.format.specs.Question.{Progress, Reading, Stopped, Ended, fresh, headRange, textOf, stringRange, formRange}
 use Rattle.format.specs.StepForms.{rule, child, lengthFits, operandsInRange, stepAt, childInRange}
-use Rattle.format.specs.Answer.{allWithin}
 use Rattle.format.specs.Reading.{State, proving, taking, modelled, Ticket, Faulty, Done, fault, advanced, readSteps, claimFault, claimAt, begin, bodyFault, lastFault, stepFault, modelAt, modelFault, readBehind}
 use Rattle.format.specs.Checking as format
 use Rattle.format.specs.Checking.{checker, outcomeOf, fits, orNone, factsWithin, childrenWithin, room, roomForAll, roomToPend, allTried, takenTried, keeps, shortLengths, leafFault, complete, takenFacts}
@@ -34,7 +33,7 @@ need-other : (c : ℕ) (t : Bool) (later : ℕ) → Other c → Other later → 
 need-other c true later p q = q
 need-other c false later p q = p
 
-pick-other : (t : Bool) (c d : ℕ) → Other c → Other d → Other (pick t c d)
+pick-other : (t : Bool) (c d : ℕ) → Other c → Other d → Other (cond t c d)
 pick-other true c d p q = p
 pick-other false c d p q = q
 
@@ -118,7 +117,7 @@ module _ (b : List ℕ) (u : Question) where
   leaf-other br v = then 10 (keeps v br) (then 11 (saturated u br v) (then 12 (shortLengths u v) zero-other))
 
   model-other : (later at m : ℕ) → Other later → Other (modelFault b u later at m)
-  model-other later at m p = then 3 (eqb m (4 * columnCount u)) (then 4 (allWithin (modelAt b u at)) p)
+  model-other later at m p = then 3 (eqb m (4 * columnCount u)) (then 4 (allWithin valueLimit (modelAt b u at)) p)
 
   behind-other : (s : State Branch (List Fact)) (k at m : ℕ) → Other (bodyFault (checker u) b u s k at m)
   behind-other (proving (working br ss)) k at m =

@@ -17,13 +17,13 @@ use Rattle.format.specs.Question.{fault, fresh, ending, readOn, question, advan
 use Rattle.format.specs.Reading.{State, proving, taking, Ticket, readSteps, claimFault, claimAt, begin, readClaim}
 use Rattle.format.specs.Checking.{checker}
 use Rattle.format.proofs.Faults.{none-applies, and-true, clash}
-use Rattle.format.proofs.Turns.{read-none, read-ended, read-stopped, read-more, read-long, read-begin}
+use Rattle.format.proofs.Turns.{read-none, read-ended, read-stopped, read-more, read-begin}
 use Rattle.format.proofs.StepTurns.{claim-clean}
 use Rattle.question.specs.declared.Progress.{Progress}
 use Rattle.question.specs.Progress.{progressOf}
 use Rattle.question.specs.Standing.{Stands}
 use Rattle.question.specs.Posed.{Posed, asked}
-use Rattle.question.proofs.Standing.{question-stands}
+use Rattle.question.proofs.Standing.{question-stands, question-short}
 
 -- ---- the question
 
@@ -53,18 +53,15 @@ pub record Read (b : List ℕ) (s : Progress) (at r : ℕ) : Type 0 where
   pub few : r ≤ at
 
 pub read-question : (b : List ℕ) (s : Progress) (at r : ℕ) → question b ≡ format.Ended (progressOf b s) at r → Read b s at r
-read-question b s at r e = go (leb (length b) ticketBytes) refl
-  where
-    go : (x : Bool) → leb (length b) ticketBytes ≡ x → Read b s at r
-    go false ex = let g = read-long fault b (leb-false _ _ ex) in clash cc
-    go true ex =
-        let (stands, headed) = question-stands b s at r e in
-        record {
-          stands = stands;
-          headed = headed;
-          short = leb-true _ _ ex;
-          few = numbered (length b) b fresh (progressOf b s) 0 0 at r (omega arith) (omega arith) (sym (read-begin fault b (leb-true _ _ ex)) ∙ e);
-        }
+read-question b s at r e =
+    let (stands, headed) = question-stands b s at r e in
+    let short = question-short b (progressOf b s) at r e in
+    record {
+      stands = stands;
+      headed = headed;
+      short = short;
+      few = numbered (length b) b fresh (progressOf b s) 0 0 at r (omega arith) (omega arith) (sym (read-begin fault b short) ∙ e);
+    }
 
 -- ---- the claim
 

@@ -2,7 +2,7 @@
 use Prim.Native.Nat.{ℕ, suc, _+_, _≤_, _<_}
 use native.Mathlib.Omega.{arith}
 use mathlib.Core.Path.{_≡_, refl, sym, _∙_, ap}
-use mathlib.Core.Bool.{Bool, true, false}
+use mathlib.Core.Bool.{Bool, true, false, cond}
 use mathlib.Core.List.{List}
 use lib.ListN.{length}
 use lib.Dec.{leb, eqb}
@@ -10,7 +10,6 @@ use lib.IntN.{ℤ}
 use borrow.Author.Tests.{leb-true, leb-false, le-leb, lt-leb}
 use Rattle.calculus.specs.Facts.{Question, Fact, Branch}
 use Rattle.calculus.specs.Walk.{closed}
-use Rattle.format.specs.Fields.{pick}
 use Rattle.format.specs.Records.{size, kind, next, whole, need}
 use Rattle.format.specs.Reading.{State, proving, taking, modelled, modelAt, modelFault, lastFault, bodyFault, fault, advanced, Faulty, Done}
 use Rattle.format.specs.Checking.{leafFault, checker}
@@ -28,7 +27,7 @@ module _ (b : List ℕ) (u : Question) (br : Branch) (r at : ℕ) (k : kind b at
   unfolding fault
   by-model =
       rw (le-leb (next b at) (length b) h)
-      (ap (λ j. pick (eqb j 8) (lastFault (checker u) b (taking br) at) (bodyFault (checker u) b u (taking br) j (at + 6) (size b at))) k)
+      (ap (λ j. cond (eqb j 8) (lastFault (checker u) b (taking br) at) (bodyFault (checker u) b u (taking br) j (at + 6) (size b at))) k)
 
   on-model : advanced (checker u) b u (taking br) at ≡ modelled br (modelAt b u (at + 6))
   unfolding advanced
@@ -44,7 +43,7 @@ module _ (b : List ℕ) (u : Question) (br : Branch) (r at : ℕ) (k : kind b at
 
 -- ---- the record that must be the end
 
-must-end : (x : Bool) (last : ℕ) → pick x last 4 ≡ need 4 x last
+must-end : (x : Bool) (last : ℕ) → cond x last 4 ≡ need 4 x last
 must-end true last = refl
 must-end false last = refl
 

@@ -2,14 +2,13 @@
 use Prim.Native.Nat.{ℕ, _+_, _≤_}
 use native.Mathlib.Omega.{arith}
 use mathlib.Core.Path.{_≡_, refl, sym, _∙_, ap}
-use mathlib.Core.Bool.{Bool, true, false}
+use mathlib.Core.Bool.{Bool, true, false, cond}
 use mathlib.Core.List.{List}
 use lib.ListN.{length}
 use lib.Dec.{eqb}
 use borrow.Author.Tests.{le-leb, ne-eqb, eqb-true}
 use Rattle.calculus.specs.Facts.{Question, Fact, Branch}
 use Rattle.calculus.specs.Walk.{Waiting, working}
-use Rattle.format.specs.Fields.{pick}
 use Rattle.format.specs.Records.{size, kind, next, need}
 use Rattle.format.specs.StepForms.{child, stepAt, childInRange}
 use Rattle.format.specs.Reading.{proving, taking, stepFault, fault}
@@ -22,7 +21,7 @@ use Rattle.claims.specs.Numbers.{lastNumber, openNumber}
 -- ---- where a branch is open
 
 -- a number at a record that is no step stands whatever a step comes to
-open-other : (x y : Bool) (f last step : ℕ) → f ≡ pick x last (need 4 y 0) → (f ≡ 0 → ⊥) → f ≡ pick x last (need 4 y step)
+open-other : (x y : Bool) (f last step : ℕ) → f ≡ cond x last (need 4 y 0) → (f ≡ 0 → ⊥) → f ≡ cond x last (need 4 y step)
 open-other true y f last step e n = e
 open-other false true f last step e n = absurd (n e)
 open-other false false f last step e n = e
@@ -36,7 +35,7 @@ end-some false y e = omega arith
 pub open-step : (n to k m step : ℕ) → openNumber n to k m step ≡ 0 → k ≡ 6
 open-step n to k m step e = go (eqb k 8) (eqb k 6) refl e
   where
-    go : (x y : Bool) → eqb k 6 ≡ y → pick x (lastNumber n to m 11) (need 4 y step) ≡ 0 → k ≡ 6
+    go : (x y : Bool) → eqb k 6 ≡ y → cond x (lastNumber n to m 11) (need 4 y step) ≡ 0 → k ≡ 6
     go true y h e = absurd (end-some (eqb to n) (eqb m 0) e)
     go false true h e = eqb-true k 6 h
     go false false h e = absurd (omega arith)
@@ -89,13 +88,13 @@ module _ (b : List ℕ) (u : Question) (br : Branch) (at : ℕ) (h : next b at �
   abbrev tried : ℕ
   tried = takenTried br (nth (offered b u br (at + 6) (size b at)) (child b (at + 6)))
 
-  no-model : (y : Bool) (step later : ℕ) → pick y step (need 4 false later) ≡ need 4 y step
+  no-model : (y : Bool) (step later : ℕ) → cond y step (need 4 false later) ≡ need 4 y step
   no-model true step later = refl
   no-model false step later = refl
 
   path-fault : pathFault ≡ openNumber (length b) (next b at) (kind b at) (size b at) (formTwo tried)
   unfolding fault offered
-  path-fault = rw (le-leb (next b at) (length b) h, ne-eqb (kind b at) 7 k7) (ap (λ f. pick (eqb (kind b at) 8) (lastNumber (length b) (next b at) (size b at) 11) f) (no-model (eqb (kind b at) 6) _ 0))
+  path-fault = rw (le-leb (next b at) (length b) h, ne-eqb (kind b at) 7 k7) (ap (λ f. cond (eqb (kind b at) 8) (lastNumber (length b) (next b at) (size b at) 11) f) (no-model (eqb (kind b at) 6) _ 0))
 
   -- no number: a step
   pub path-kind : pathFault ≡ 0 → kind b at ≡ 6

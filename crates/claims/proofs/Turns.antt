@@ -2,14 +2,13 @@
 use Prim.Native.Nat.{ℕ, zero, suc, _+_, _≤_, _<_}
 use native.Mathlib.Omega.{arith}
 use mathlib.Core.Path.{_≡_, refl, sym, _∙_, ap}
-use mathlib.Core.Bool.{Bool, true, false}
+use mathlib.Core.Bool.{Bool, true, false, cond}
 use mathlib.Core.List.{List, _++_}
 use lib.ListN.{length}
 use lib.Dec.{leb, eqb}
 use borrow.Author.Tests.{leb-true, leb-false, lt-leb}
 use Rattle.calculus.specs.Facts.{Question, Fact, Branch}
 use Rattle.calculus.specs.Walk.{Waiting, working, enter}
-use Rattle.format.specs.Fields.{pick}
 use Rattle.format.specs.Records.{size, kind, next}
 use Rattle.format.specs.StepForms.{child}
 use Rattle.format.specs.Reading.{State, proving, taking, modelled, modelAt, fault, advanced, Ticket, Faulty}
@@ -61,7 +60,7 @@ module _ (b : List ℕ) (u : Question) where
     module _ (br : Branch) where
       taken-on : kind b at ≡ 6 → advanced (checker u) b u (taking br) at ≡ taking (br ++ offeredChild b u br (at + 6) (size b at) (child b (at + 6)))
       unfolding advanced offered
-      taken-on k = ap (λ j. pick (eqb j 6) (taking (br ++ offeredChild b u br (at + 6) (size b at) (child b (at + 6)))) (modelled br (modelAt b u (at + 6)))) k
+      taken-on k = ap (λ j. cond (eqb j 6) (taking (br ++ offeredChild b u br (at + 6) (size b at) (child b (at + 6)))) (modelled br (modelAt b u (at + 6)))) k
 
       pub turn-taken : (kind b at ≡ 7 → ⊥) → fault (checker u) b u (taking br) at ≡ 0
           → on (taking br) r at ≡ on (taking (br ++ offeredChild b u br (at + 6) (size b at) (child b (at + 6)))) (suc r) (next b at)

@@ -3,7 +3,7 @@ use Prim.Native.Nat.{ℕ}
 use mathlib.Core.List.{List}
 use lib.ListN.{length}
 use lib.Dec.{eqb}
-use Rattle.format.specs.Fields.{pick}
+use mathlib.Core.Bool.{cond}
 use Rattle.format.specs.Records.{size, kind, next, whole, need}
 
 -- an end record with a body of m bytes that ends at a position, in a ticket of n bytes: "a byte follows the end record, counted at that end record", then
@@ -13,7 +13,7 @@ lastNumber n to m later = need 4 (eqb to n) (need 5 (eqb m 0) later)
 
 -- a record of kind k where a branch is open: "11 when the end comes before every branch closed, or before a model". At a step it is what is asked next.
 abbrev pub openNumber : ℕ → ℕ → ℕ → ℕ → ℕ → ℕ
-openNumber n to k m step = pick (eqb k 8) (lastNumber n to m 11) (need 4 (eqb k 6) step)
+openNumber n to k m step = cond (eqb k 8) (lastNumber n to m 11) (need 4 (eqb k 6) step)
 
 -- the record that must be the end, behind the last closed branch or a model; 0 where it is
 unfoldable pub endNumber : List ℕ → ℕ → ℕ

@@ -11,10 +11,11 @@ use borrow.Author.Tests.{le-leb, lt-leb}
 use lib.Dec.{eqb}
 use lib.ListN.{length, getD}
 use lib.IntN.{ℤ, pos}
+use Rattle.lists.specs.Lists.{anyBelow}
 use Rattle.lists.proofs.Options.{some-injective, none-some}
 use Rattle.calculus.specs.Facts.{Fact, Branch, same, apart, isLiteral, arithmetic}
 use Rattle.calculus.specs.Chains.{varNode, litNode}
-use Rattle.calculus.specs.Classes.{upFrom, relabel, joinNodes, joinFact, labelsFrom, labels, sameClass, lowest, anyBelow, apartMeet}
+use Rattle.calculus.specs.Classes.{upFrom, relabel, joinNodes, joinFact, labelsFrom, labels, sameClass, lowest, apartMeet}
 use Rattle.calculus.specs.Rules.{logUp}
 use Rattle.calculus.specs.SaturationTest.{lowestFrom}
 use Rattle.format.proofs.Fields.{down}

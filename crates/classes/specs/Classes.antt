@@ -3,9 +3,10 @@ use Prim.Native.Nat.{ℕ}
 use mathlib.Core.Bool.{Bool, _||_}
 use mathlib.Core.Option.{Option, none, some}
 use mathlib.Core.List.{List}
+use Rattle.lists.specs.Lists.{anyBelow}
 use Rattle.calculus.specs.Facts.{Branch}
 use Rattle.calculus.specs.Chains.{litNode}
-use Rattle.calculus.specs.Classes.{sameClass, anyBelow, apartMeet}
+use Rattle.calculus.specs.Classes.{sameClass, apartMeet}
 use Rattle.classes.specs.declared.Lowest.{Lowest}
 use Rattle.classes.specs.declared.Lowest.the-variants.{Literal, Nothing}
 

@@ -8,10 +8,10 @@ use mathlib.Core.List.{List, [], _∷_}
 use lib.ListN.{List·getD-eq-default}
 use lib.Dec.{T, leb, eqb}
 use borrow.Author.Tests.{leb-true, eqb-true, ne-eqb}
+use Rattle.lists.specs.Lists.{allBelow}
 use Rattle.lists.proofs.Tests.{→true}
+use Rattle.lists.proofs.Below.{all-below→}
 use Rattle.calculus.specs.Steps.{Sum, AConf, SConf, SProp, LIntro, CCollapse, Join}
-use Rattle.calculus.specs.SaturationTest.{every}
-use Rattle.calculus.proofs.Tests.{every→}
 use Rattle.format.specs.Fields.{u16, u32}
 use Rattle.format.specs.StepForms.{Rule, sum, unknown, ruleNames, ruleOf, formFor, fitsForm, rule, lengthFits, sumPairs, multipliersWithin, functionOf, operandsInRange, stepOf, stepAt}
 use Rattle.format.proofs.Faults.{and-true}
@@ -21,11 +21,11 @@ use Rattle.conclusions.specs.Made.{isClosing, isConcluding}
 -- ---- rules by number
 
 -- what holds of the 13 rules by their numbers, and of an unknown one, holds by any number
-by-number : (t : ℕ → Rule → Bool) → ((k : ℕ) → T (t k unknown)) → T (every 14 (λ k. t k (ruleOf k))) → (k : ℕ) → T (t k (ruleOf k))
+by-number : (t : ℕ → Rule → Bool) → ((k : ℕ) → T (t k unknown)) → T (allBelow 14 (λ k. t k (ruleOf k))) → (k : ℕ) → T (t k (ruleOf k))
 by-number t other named k = go (decLt k 14)
   where
     go : Dec (k < 14) → T (t k (ruleOf k))
-    go (yes l) = every→ 14 (λ k. t k (ruleOf k)) named k l
+    go (yes l) = all-below→ 14 (λ k. t k (ruleOf k)) named k l
     go (no n) = subst (λ (r : Rule). T (t k r)) (sym (List·getD-eq-default ruleNames unknown {n = k} (omega arith))) (other k)
 
 pub four-bytes : (k : ℕ) → 4 ≤ formFor (ruleOf k) .least

@@ -2,16 +2,15 @@
 ghost use mathlib.Core.Path.{_≡_};
 ghost use mathlib.Core.Bool.{true};
 ghost use mathlib.Core.List.{_++_};
-ghost use Prim.Native.Nat.{ℕ, _+_, _*_, _<_, _≤_};
+ghost use Prim.Native.Nat.{_+_, _*_, _<_, _≤_};
 ghost use lib.ListN.{length};
 ghost use lib.IntN.{negℤ};
 ghost use Rattle.calculus.specs.Limits.{variableLimit, literalLimit, columnLimit};
 ghost use Rattle.calculus.specs.Rows.{zeros};
-ghost use Rattle.calculus.specs.Facts.{Question, valueOf};
+ghost use Rattle.calculus.specs.Facts.{Question, valueOf, columnCount};
 ghost use Rattle.calculus.specs.Steps.{Sum, AConf, SConf, SProp, Join};
 ghost use Rattle.calculus.specs.Rules.{children};
 ghost use Rattle.format.specs.Fields.{u32, u32s};
-ghost use Rattle.format.specs.Question.{columnCount};
 ghost use Rattle.format.specs.Places.{skip, literalsFrom};
 ghost use Rattle.format.specs.StepForms as forms;
 ghost use Rattle.format.specs.StepForms.{formFor, fitsForm, sumPairs, functionOf, rule, lengthFits, operandsInRange, stepAt};

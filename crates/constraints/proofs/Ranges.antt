@@ -4,7 +4,7 @@ use native.Mathlib.Omega.{arith}
 use native.Mathlib.Nat.{div-add-mod}
 use native.Mathlib.Decide.{ℕ-discrete}
 use mathlib.Core.Path.{_≡_, refl, sym, _∙_, ap, ap₂}
-use mathlib.Core.Bool.{Bool, true, false, _&&_}
+use mathlib.Core.Bool.{Bool, true, false, _&&_, cond}
 use mathlib.Core.List.{List, [], _∷_}
 use borrow.Author.Tests.{eqb-true, leb-true, ltb-true, eq-eqb, ne-eqb, le-leb, lt-ltb}
 use lib.ListN.{set}
@@ -12,10 +12,10 @@ use lib.Dec.{eqb, leb, ltb}
 use lib.IntN.{ℤ, natAbs}
 use Rattle.calculus.specs.Limits.{variableLimit, literalLimit, columnLimit, numberLimit}
 use Rattle.calculus.specs.Rows.{zeros}
-use Rattle.format.specs.Fields.{pick, u16, i32, pairsAt, within}
+use Rattle.format.specs.Fields.{u16, i32, pairsAt, within, allWithin}
 use Rattle.format.specs.Records.{size, kind, need}
 use Rattle.format.specs.Question.{stringRange, stringFact, stringFault, coefficientInRange, pairInRange, rising, formRange, fillRow, formOf, arithmeticFault, constraintOf}
-use Rattle.format.specs.Checking.{rowWithin, factWithin}
+use Rattle.format.specs.Checking.{factWithin}
 use Rattle.format.proofs.Faults.{none-applies, passed, and-true}
 use Rattle.format.proofs.Sums.{ranged}
 use Rattle.question.specs.Standing.{ConstraintAt}
@@ -29,18 +29,18 @@ pub record StringInRange (b : List ℕ) (at m : ℕ) : Type 0 where
   pub first : u16 b (at + 2) < 16
   pub second : u16 b (at + 4) < 16
 
-second-small : (t : Bool) (y : ℕ) → pick t (leb y literalLimit) (ltb y variableLimit) ≡ true → y < 16
+second-small : (t : Bool) (y : ℕ) → cond t (leb y literalLimit) (ltb y variableLimit) ≡ true → y < 16
 second-small true y e = let h = leb-true y literalLimit e in omega arith
 second-small false y e = ltb-true y variableLimit e
 
 pub string-in-range : (b : List ℕ) (k at m : ℕ) → k ≡ 3 → constraintFault b k at m ≡ 0 → StringInRange b at m
 unfolding constraintFault
 string-in-range b k at m e h =
-    let f : stringFault b variableLimit literalLimit at m ≡ 0 = ap (λ t. pick t (stringFault b variableLimit literalLimit at m) (arithmeticFault b columnLimit at m)) (sym (eq-eqb k 3 e)) ∙ h in
+    let f : stringFault b variableLimit literalLimit at m ≡ 0 = ap (λ t. cond t (stringFault b variableLimit literalLimit at m) (arithmeticFault b columnLimit at m)) (sym (eq-eqb k 3 e)) ∙ h in
     let (size, later) = none-applies 4 (eqb m 6) (need 6 (stringRange variableLimit literalLimit (u16 b at) (u16 b (at + 2)) (u16 b (at + 4))) 0) f in
     let (range, nothing) = none-applies 5 (stringRange variableLimit literalLimit (u16 b at) (u16 b (at + 2)) (u16 b (at + 4))) 0 later in
-    let (r, xy) = and-true (leb (u16 b at) 2) (ltb (u16 b (at + 2)) variableLimit && pick (eqb (u16 b at) 2) (leb (u16 b (at + 4)) literalLimit) (ltb (u16 b (at + 4)) variableLimit)) range in
-    let (x, y) = and-true (ltb (u16 b (at + 2)) variableLimit) (pick (eqb (u16 b at) 2) (leb (u16 b (at + 4)) literalLimit) (ltb (u16 b (at + 4)) variableLimit)) xy in
+    let (r, xy) = and-true (leb (u16 b at) 2) (ltb (u16 b (at + 2)) variableLimit && cond (eqb (u16 b at) 2) (leb (u16 b (at + 4)) literalLimit) (ltb (u16 b (at + 4)) variableLimit)) range in
+    let (x, y) = and-true (ltb (u16 b (at + 2)) variableLimit) (cond (eqb (u16 b at) 2) (leb (u16 b (at + 4)) literalLimit) (ltb (u16 b (at + 4)) variableLimit)) xy in
     record {
       size = eqb-true m 6 size;
       relation = leb-true (u16 b at) 2 r;
@@ -60,7 +60,7 @@ pub record FormInRange (b : List ℕ) (at m : ℕ) : Type 0 where
 pub form-in-range : (b : List ℕ) (k at m : ℕ) → (k ≡ 3 → ⊥) → constraintFault b k at m ≡ 0 → FormInRange b at m
 unfolding constraintFault
 form-in-range b k at m e h =
-    let f : arithmeticFault b columnLimit at m ≡ 0 = ap (λ t. pick t (stringFault b variableLimit literalLimit at m) (arithmeticFault b columnLimit at m)) (sym (ne-eqb k 3 e)) ∙ h in
+    let f : arithmeticFault b columnLimit at m ≡ 0 = ap (λ t. cond t (stringFault b variableLimit literalLimit at m) (arithmeticFault b columnLimit at m)) (sym (ne-eqb k 3 e)) ∙ h in
     let (size, later) = none-applies 4 (leb 6 m && (eqb (m % 6) 0 && leb (m / 6) (suc columnLimit))) (need 6 (leb (u16 b at) 2 && formRange b columnLimit (at + 2) (m / 6 - 1)) 0) f in
     let (range, nothing) = none-applies 5 (leb (u16 b at) 2 && formRange b columnLimit (at + 2) (m / 6 - 1)) 0 later in
     let (six, whole) = and-true (leb 6 m) (eqb (m % 6) 0 && leb (m / 6) (suc columnLimit)) size in
@@ -86,27 +86,27 @@ body-long b k at m h = go (ℕ-discrete k 3)
 
 -- ---- the numbers of a constraint
 
-pub within-set : (row : List ℤ) (j : ℕ) (z : ℤ) → rowWithin row ≡ true → within numberLimit z ≡ true → rowWithin (set row j z) ≡ true
-unfolding rowWithin
+pub within-set : (row : List ℤ) (j : ℕ) (z : ℤ) → allWithin numberLimit row ≡ true → within numberLimit z ≡ true → allWithin numberLimit (set row j z) ≡ true
+unfolding allWithin
 within-set [] j z e h = e
-within-set (x ∷ row) zero z e h = ap₂ _&&_ h (and-true (within numberLimit x) (rowWithin row) e .1)
-within-set (x ∷ row) (suc j) z e h = ap₂ _&&_ (and-true (within numberLimit x) (rowWithin row) e .0) (within-set row j z (and-true (within numberLimit x) (rowWithin row) e .1) h)
+within-set (x ∷ row) zero z e h = ap₂ _&&_ h (and-true (within numberLimit x) (allWithin numberLimit row) e .1)
+within-set (x ∷ row) (suc j) z e h = ap₂ _&&_ (and-true (within numberLimit x) (allWithin numberLimit row) e .0) (within-set row j z (and-true (within numberLimit x) (allWithin numberLimit row) e .1) h)
 
-within-fill : (c low : ℕ) (row : List ℤ) (ts : List (ℕ × ℤ)) → rowWithin row ≡ true → rising c low ts ≡ true → rowWithin (fillRow row ts) ≡ true
+within-fill : (c low : ℕ) (row : List ℤ) (ts : List (ℕ × ℤ)) → allWithin numberLimit row ≡ true → rising c low ts ≡ true → allWithin numberLimit (fillRow row ts) ≡ true
 unfolding rising fillRow
 within-fill c low row [] e h = e
 within-fill c low row (t ∷ ts) e h =
     let r = ranged c low t ts h in
     within-fill c (t .0 + 1) (set row (t .0) (t .1)) ts (within-set row (t .0) (t .1) e (le-leb (natAbs (t .1)) numberLimit (r .coefficient))) (r .rest)
 
-within-zeros : (n : ℕ) → rowWithin (zeros n) ≡ true
-unfolding rowWithin
+within-zeros : (n : ℕ) → allWithin numberLimit (zeros n) ≡ true
+unfolding allWithin
 within-zeros zero = refl
 within-zeros (suc n) = within-zeros n
 
 -- a form in range
-pub form-within : (b : List ℕ) (c at count : ℕ) → formRange b c at count ≡ true → rowWithin (formOf b at count) ≡ true
-unfolding rowWithin
+pub form-within : (b : List ℕ) (c at count : ℕ) → formRange b c at count ≡ true → allWithin numberLimit (formOf b at count) ≡ true
+unfolding allWithin
 form-within b c at count e =
     let (p, q) = and-true (within numberLimit (i32 b at)) (rising c 0 (pairsAt b (at + 4) count)) e in
     ap₂ _&&_ p (within-fill c 0 (zeros columnLimit) (pairsAt b (at + 4) count) (within-zeros columnLimit) q)
@@ -141,7 +141,7 @@ rising-more c d low (t ∷ ts) h e =
 pub form-rises : (b : List ℕ) (c at count : ℕ) → c ≤ columnLimit → formRange b c at count ≡ true → rising columnLimit 0 (pairsAt b (at + 4) count) ≡ true
 form-rises b c at count h e = rising-more c columnLimit 0 (pairsAt b (at + 4) count) h (and-true (within numberLimit (i32 b at)) (rising c 0 (pairsAt b (at + 4) count)) e .1)
 
-second-more : (t : Bool) (y l p : ℕ) → l ≤ literalLimit → p ≤ variableLimit → pick t (leb y l) (ltb y p) ≡ true → pick t (leb y literalLimit) (ltb y variableLimit) ≡ true
+second-more : (t : Bool) (y l p : ℕ) → l ≤ literalLimit → p ≤ variableLimit → cond t (leb y l) (ltb y p) ≡ true → cond t (leb y literalLimit) (ltb y variableLimit) ≡ true
 second-more true y l p h g e = let k = leb-true y l e in le-leb y literalLimit (omega arith)
 second-more false y l p h g e = let k = ltb-true y p e in lt-ltb y variableLimit (omega arith)
 
@@ -152,8 +152,8 @@ string-more b p l at m h g f =
     let y = u16 b (at + 4) in
     let (size, later) = none-applies 4 (eqb m 6) (need 6 (stringRange p l r x y) 0) f in
     let (range, nothing) = none-applies 5 (stringRange p l r x y) 0 later in
-    let (er, exy) = and-true (leb r 2) (ltb x p && pick (eqb r 2) (leb y l) (ltb y p)) range in
-    let (ex, ey) = and-true (ltb x p) (pick (eqb r 2) (leb y l) (ltb y p)) exy in
+    let (er, exy) = and-true (leb r 2) (ltb x p && cond (eqb r 2) (leb y l) (ltb y p)) range in
+    let (ex, ey) = and-true (ltb x p) (cond (eqb r 2) (leb y l) (ltb y p)) exy in
     let n = ltb-true x p ex in
     let new : stringRange variableLimit literalLimit r x y ≡ true = ap₂ _&&_ er (ap₂ _&&_ (lt-ltb x variableLimit (omega arith)) (second-more (eqb r 2) y l p h g ey)) in
     passed 5 (eqb m 6) (need 6 (stringRange variableLimit literalLimit r x y) 0) size ∙ passed 6 (stringRange variableLimit literalLimit r x y) 0 new

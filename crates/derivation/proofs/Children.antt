@@ -2,11 +2,12 @@
 use Prim.Native.Nat.{ℕ, zero, suc, _+_, _≤_, _<_}
 use native.Mathlib.Omega.{arith}
 use mathlib.Core.Path.{_≡_, refl, sym, _∙_, ap, ap₂}
-use mathlib.Core.Bool.{Bool, true, _&&_}
+use mathlib.Core.Bool.{Bool, true}
 use mathlib.Core.Option.{some}
 use mathlib.Core.List.{List, [], _∷_}
 use lib.ListN.{length, drop, getElem?}
 use borrow.Author.Tests.{leb-true, le-leb}
+use Rattle.lists.specs.Lists.{all}
 use Rattle.lists.proofs.Options.{none-some}
 use Rattle.lists.proofs.Every.{every-at}
 use Rattle.calculus.specs.Limits.{factLimit}
@@ -34,10 +35,9 @@ next-child [] k h = absurd (omega arith)
 next-child (c ∷ cs) zero h = refl
 next-child (c ∷ cs) (suc k) h = next-child cs k (omega arith)
 
-at-passes : (test : List Fact → Bool) (every : List (List Fact) → Bool) → every [] ≡ true → ((c : List Fact) (cs : List (List Fact)) → every (c ∷ cs) ≡ (test c && every cs))
-    → (cs : List (List Fact)) (k : ℕ) (c : List Fact) → every cs ≡ true → childAt cs k ≡ some c → test c ≡ true
-at-passes test every none more cs zero c e h = absurd (none-some h)
-at-passes test every none more cs (suc k) c e h = every-at test every none more cs k c e h
+at-passes : (test : List Fact → Bool) (cs : List (List Fact)) (k : ℕ) (c : List Fact) → all test cs ≡ true → childAt cs k ≡ some c → test c ≡ true
+at-passes test cs zero c e h = absurd (none-some h)
+at-passes test cs (suc k) c e h = every-at test cs k c e h
 
 -- ---- the children of a split
 
@@ -58,11 +58,11 @@ module _ {b : List ℕ} {u : Question} {br : Branch} {at n : ℕ} (sp : Splits b
   -- its numbers are within the limit, and it finds room
   pub child-within : (k : ℕ) → 1 ≤ k → k ≤ n → factsWithin (childOn b u br at k) ≡ true
   unfolding childrenWithin
-  child-within k l h = at-passes factsWithin childrenWithin refl (λ c cs. refl) (sp .its-children) k (childOn b u br at k) (sp .within) (child-at k l h)
+  child-within k l h = at-passes factsWithin (sp .its-children) k (childOn b u br at k) (sp .within) (child-at k l h)
 
   pub child-room : (k : ℕ) → 1 ≤ k → k ≤ n → length br + length (childOn b u br at k) ≤ factLimit
   unfolding roomForAll
-  child-room k l h = leb-true _ factLimit (at-passes (room (length br)) (roomForAll (length br)) refl (λ c cs. refl) (sp .its-children) k (childOn b u br at k) (sp .room) (child-at k l h))
+  child-room k l h = leb-true _ factLimit (at-passes (room (length br)) (sp .its-children) k (childOn b u br at k) (sp .room) (child-at k l h))
 
   -- so none of the numbers 8 to 10 applies to it
   pub none-of-these : (k : ℕ) → 1 ≤ k → k ≤ n → takenTried br (nth (offeredIn b u br at) k) ≡ 0

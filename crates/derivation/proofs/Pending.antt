@@ -52,11 +52,11 @@ module _ (b : List ℕ) (u : Question) where
 
 pub within-append : (br c : Branch) → factsWithin br ≡ true → factsWithin c ≡ true → factsWithin (br ++ c) ≡ true
 unfolding factsWithin
-within-append br c e f = every-append factWithin factsWithin refl (λ x xs. refl) br c ∙ ap₂ _&&_ e f
+within-append br c e f = every-append factWithin br c ∙ ap₂ _&&_ e f
 
 pub within-take : (br : Branch) (n : ℕ) → factsWithin br ≡ true → factsWithin (take n br) ≡ true
 unfolding factsWithin
-within-take br n e = every-take factWithin factsWithin refl (λ x xs. refl) br n e
+within-take br n e = every-take factWithin br n e
 
 -- ---- the first child of a split is begun
 

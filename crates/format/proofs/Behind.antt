@@ -2,7 +2,7 @@
 use Prim.Native.Nat.{ℕ, zero, suc, _+_, _*_}
 use native.Mathlib.Omega.{arith}
 use mathlib.Core.Path.{_≡_, refl, sym, _∙_, ap, ap₂, subst}
-use mathlib.Core.Bool.{Bool, true, false, _&&_}
+use mathlib.Core.Bool.{Bool, true, false, _&&_, cond}
 use mathlib.Core.Option.{Option, none, some}
 use mathlib.Core.List.{List, [], _∷_}
 use lib.ListN.{length, getD}
@@ -10,17 +10,16 @@ use lib.Dec.{eqb}
 use lib.IntN.{ℤ}
 use borrow.Author.Tests.{eqb-true}
 use Rattle.lists.specs.Lists.{All}
-use Rattle.calculus.specs.Facts.{Question}
+use Rattle.calculus.specs.Facts.{Question, columnCount}
 use Rattle.calculus.specs.Steps.{Step}
 use Rattle.calculus.specs.Instances.{StepInRange}
 use Rattle.calculus.specs.Walk.{Walk, working, closed, enter}
-use Rattle.format.specs.Fields.{pick}
+use Rattle.calculus.specs.Limits.{valueLimit}
 use Rattle.format.specs.Records.{size, kind, next, whole, need}
-use Rattle.format.specs.Question.{columnCount}
 use Rattle.format.specs.StepForms.{rule, child, lengthFits, operandsInRange, stepAt, childInRange}
-use Rattle.format.specs.Answer.{allWithin}
 use Rattle.format.specs.Reading.{State, proving, taking, modelled, Method, stepFault, modelAt, modelFault, bodyFault, lastFault, fault, advanced, Ticket, Faulty, Done, readSteps}
 use Rattle.format.specs.ProperForm.{stepsAt}
+use Rattle.format.specs.Fields.{allWithin}
 use Rattle.format.proofs.Faults.{none-applies, passed, and-true}
 use Rattle.format.proofs.Decoded.{step-in-range}
 
@@ -36,7 +35,7 @@ record ModelAt (b : List ℕ) (u : Question) (at : ℕ) (m : List ℤ) : Type 0 
   is-whole : whole b at ≡ true
   is-model : kind b at ≡ 7
   fits : eqb (size b at) (4 * columnCount u) ≡ true
-  values : allWithin (modelAt b u (at + 6)) ≡ true
+  values : allWithin valueLimit (modelAt b u (at + 6)) ≡ true
   holds : m ≡ modelAt b u (at + 6)
 
 -- a step with its child field, which passes a test
@@ -86,10 +85,10 @@ formed-model b u ok (at ∷ ats) [] h = h .0 .holds
 formed-model b u ok (at ∷ ats) (t ∷ ts) h = formed-model b u ok ats ts (h .1)
 
 -- and within its range
-pub formed-within : (b : List ℕ) (u : Question) (ok : Step → ℕ → Bool) (ats : List ℕ) (ts : List (Step × ℕ)) (m : List ℤ) → Formed b u ok ats ts (some m) → allWithin m ≡ true
+pub formed-within : (b : List ℕ) (u : Question) (ok : Step → ℕ → Bool) (ats : List ℕ) (ts : List (Step × ℕ)) (m : List ℤ) → Formed b u ok ats ts (some m) → allWithin valueLimit m ≡ true
 unfolding Formed
 formed-within b u ok [] ts m h = absurd h
-formed-within b u ok (at ∷ ats) [] m h = ap allWithin (h .0 .holds) ∙ h .0 .values
+formed-within b u ok (at ∷ ats) [] m h = ap (allWithin valueLimit) (h .0 .holds) ∙ h .0 .values
 formed-within b u ok (at ∷ ats) (t ∷ ts) m h = formed-within b u ok ats ts m (h .1)
 
 -- ---- the method's part
@@ -156,8 +155,8 @@ module _ {B C : Type 0} (w : Method B C) (b : List ℕ) (u : Question) where
   unfolding fault
   end→ s at k e =
       let body : ℕ = bodyFault w b u s (kind b at) (at + 6) (size b at) in
-      let a3 = none-applies 2 (whole b at) (pick (eqb (kind b at) 8) (lastFault w b s at) body) e in
-      let z : lastFault w b s at ≡ 0 = subst (λ x. pick x (lastFault w b s at) body ≡ 0) k (a3 .1) in
+      let a3 = none-applies 2 (whole b at) (cond (eqb (kind b at) 8) (lastFault w b s at) body) e in
+      let z : lastFault w b s at ≡ 0 = subst (λ x. cond x (lastFault w b s at) body ≡ 0) k (a3 .1) in
       let a4 = none-applies 3 (eqb (next b at) (length b)) (need 5 (eqb (size b at) 0) (w .endFault s)) z in
       let a5 = none-applies 4 (eqb (size b at) 0) (w .endFault s) (a4 .1) in
       (record { is-whole = a3 .0; is-end = eqb-true _ _ k; last = a4 .0; empty = a5 .0 }, a5 .1)
@@ -166,8 +165,8 @@ module _ {B C : Type 0} (w : Method B C) (b : List ℕ) (u : Question) where
   unfolding fault
   body→ s at k e =
       let body : ℕ = bodyFault w b u s (kind b at) (at + 6) (size b at) in
-      let a3 = none-applies 2 (whole b at) (pick (eqb (kind b at) 8) (lastFault w b s at) body) e in
-      (a3 .0, subst (λ x. pick x (lastFault w b s at) body ≡ 0) k (a3 .1))
+      let a3 = none-applies 2 (whole b at) (cond (eqb (kind b at) 8) (lastFault w b s at) body) e in
+      (a3 .0, subst (λ x. cond x (lastFault w b s at) body ≡ 0) k (a3 .1))
 
   step→ : (ok : Step → ℕ → Bool) (at later : ℕ) → whole b at ≡ true → eqb (kind b at) 6 ≡ true
       → stepFault b u (ok (stepAt b (at + 6) (size b at)) (child b (at + 6))) later (at + 6) (size b at) ≡ 0
@@ -183,8 +182,8 @@ module _ {B C : Type 0} (w : Method B C) (b : List ℕ) (u : Question) where
   model→ : (at later : ℕ) → whole b at ≡ true → need 4 (eqb (kind b at) 7) (modelFault b u later (at + 6) (size b at)) ≡ 0 → ModelAt b u at (modelAt b u (at + 6)) × (later ≡ 0)
   model→ at later h e =
       let a4 = none-applies 3 (eqb (kind b at) 7) (modelFault b u later (at + 6) (size b at)) e in
-      let a5 = none-applies 4 (eqb (size b at) (4 * columnCount u)) (need 6 (allWithin (modelAt b u (at + 6))) later) (a4 .1) in
-      let a6 = none-applies 5 (allWithin (modelAt b u (at + 6))) later (a5 .1) in
+      let a5 = none-applies 4 (eqb (size b at) (4 * columnCount u)) (need 6 (allWithin valueLimit (modelAt b u (at + 6))) later) (a4 .1) in
+      let a6 = none-applies 5 (allWithin valueLimit (modelAt b u (at + 6))) later (a5 .1) in
       (record { is-whole = h; is-model = eqb-true _ _ (a4 .0); fits = a5 .0; values = a6 .0; holds = refl }, a6 .1)
 
   -- behind the model only the end stands
@@ -204,9 +203,9 @@ module _ {B C : Type 0} (w : Method B C) (b : List ℕ) (u : Question) where
       On = (t : State B C) → readSteps w b u t (suc r) ats ≡ Done v s' → Read w b u t ats v s'
 
       taken-or-model : (br : B) (y : Bool) → eqb (kind b at) 6 ≡ y → whole b at ≡ true
-          → pick y (stepFault b u (childInRange (u .n) (stepAt b (at + 6) (size b at)) (child b (at + 6))) (w .takenFault br (stepAt b (at + 6) (size b at)) (child b (at + 6))) (at + 6) (size b at))
+          → cond y (stepFault b u (childInRange (u .n) (stepAt b (at + 6) (size b at)) (child b (at + 6))) (w .takenFault br (stepAt b (at + 6) (size b at)) (child b (at + 6))) (at + 6) (size b at))
           (need 4 (eqb (kind b at) 7) (modelFault b u (w .leafFault br (modelAt b u (at + 6))) (at + 6) (size b at))) ≡ 0
-          → readSteps w b u (pick y (taking (w .taken br (stepAt b (at + 6) (size b at)) (child b (at + 6)))) (modelled br (modelAt b u (at + 6)))) (suc r) ats ≡ Done v s'
+          → readSteps w b u (cond y (taking (w .taken br (stepAt b (at + 6) (size b at)) (child b (at + 6)))) (modelled br (modelAt b u (at + 6)))) (suc r) ats ≡ Done v s'
           → On → Read w b u (taking br) (at ∷ ats) v s'
       taken-or-model br true y h f e ih =
           let (a, l) = step→ (childInRange (u .n)) at (w .takenFault br (stepAt b (at + 6) (size b at)) (child b (at + 6))) h y f in
@@ -238,17 +237,17 @@ module _ {B C : Type 0} (w : Method B C) (b : List ℕ) (u : Question) where
   end-fault : (s : State B C) (at : ℕ) → EndAt b at → fault w b u s at ≡ w .endFault s
   unfolding fault
   end-fault s at h =
-      passed 3 (whole b at) (pick (eqb (kind b at) 8) (lastFault w b s at) (bodyFault w b u s (kind b at) (at + 6) (size b at))) (h .is-whole)
-      ∙ ap (λ k. pick (eqb k 8) (lastFault w b s at) (bodyFault w b u s k (at + 6) (size b at))) (h .is-end)
+      passed 3 (whole b at) (cond (eqb (kind b at) 8) (lastFault w b s at) (bodyFault w b u s (kind b at) (at + 6) (size b at))) (h .is-whole)
+      ∙ ap (λ k. cond (eqb k 8) (lastFault w b s at) (bodyFault w b u s k (at + 6) (size b at))) (h .is-end)
       ∙ passed 4 (eqb (next b at) (length b)) (need 5 (eqb (size b at) 0) (w .endFault s)) (h .last)
       ∙ passed 5 (eqb (size b at) 0) (w .endFault s) (h .empty)
 
   body-fault : (s : State B C) (at k : ℕ) → whole b at ≡ true → kind b at ≡ k → eqb k 8 ≡ false → fault w b u s at ≡ bodyFault w b u s k (at + 6) (size b at)
   unfolding fault
   body-fault s at k h e f =
-      passed 3 (whole b at) (pick (eqb (kind b at) 8) (lastFault w b s at) (bodyFault w b u s (kind b at) (at + 6) (size b at))) h
-      ∙ ap (λ k. pick (eqb k 8) (lastFault w b s at) (bodyFault w b u s k (at + 6) (size b at))) e
-      ∙ ap (λ x. pick x (lastFault w b s at) (bodyFault w b u s k (at + 6) (size b at))) f
+      passed 3 (whole b at) (cond (eqb (kind b at) 8) (lastFault w b s at) (bodyFault w b u s (kind b at) (at + 6) (size b at))) h
+      ∙ ap (λ k. cond (eqb k 8) (lastFault w b s at) (bodyFault w b u s k (at + 6) (size b at))) e
+      ∙ ap (λ x. cond x (lastFault w b s at) (bodyFault w b u s k (at + 6) (size b at))) f
 
   step-fault : (ok : Step → ℕ → Bool) (at later : ℕ) {t : Step × ℕ} → StepAt b u ok at t → stepFault b u (ok (stepAt b (at + 6) (size b at)) (child b (at + 6))) later (at + 6) (size b at) ≡ later
   step-fault ok at later h =
@@ -258,7 +257,7 @@ module _ {B C : Type 0} (w : Method B C) (b : List ℕ) (u : Question) where
 
   model-fault : (at later : ℕ) {m : List ℤ} → ModelAt b u at m → modelFault b u later (at + 6) (size b at) ≡ later
   model-fault at later h =
-      passed 5 (eqb (size b at) (4 * columnCount u)) (need 6 (allWithin (modelAt b u (at + 6))) later) (h .fits) ∙ passed 6 (allWithin (modelAt b u (at + 6))) later (h .values)
+      passed 5 (eqb (size b at) (4 * columnCount u)) (need 6 (allWithin valueLimit (modelAt b u (at + 6))) later) (h .fits) ∙ passed 6 (allWithin valueLimit (modelAt b u (at + 6))) later (h .values)
 
   pub →done : (s : State B C) (r : ℕ) (ats : List ℕ) (ts : List (Step × ℕ)) (o : Option (List ℤ)) {s' : State B C} → Formed b u (childOk u s) ats ts o → Taken w s ts o s' → readSteps w b u s r ats ≡ Done u s'
   unfolding readSteps advanced Formed Taken
@@ -269,7 +268,7 @@ module _ {B C : Type 0} (w : Method B C) (b : List ℕ) (u : Question) where
       ap₂ (turn (taking br) r at ats)
       (body-fault (taking br) at 7 (h .is-whole) (h .is-model) refl ∙ model-fault at (w .leafFault br (modelAt b u (at + 6))) h ∙ ap (w .leafFault br) (sym (h .holds)) ∙ f)
       (ap (λ k. eqb k 8) (h .is-model))
-      ∙ ap (λ k. readSteps w b u (pick (eqb k 6) (taking (w .taken br (stepAt b (at + 6) (size b at)) (child b (at + 6)))) (modelled br (modelAt b u (at + 6)))) (suc r) ats) (h .is-model)
+      ∙ ap (λ k. readSteps w b u (cond (eqb k 6) (taking (w .taken br (stepAt b (at + 6) (size b at)) (child b (at + 6)))) (modelled br (modelAt b u (at + 6)))) (suc r) ats) (h .is-model)
       ∙ ap (λ m. readSteps w b u (modelled br m) (suc r) ats) (sym (h .holds))
       ∙ →done (modelled br m) (suc r) ats [] none hs (g, k)
   →done (modelled br v) r (at ∷ ats) [] (some m) h k = absurd k
@@ -286,7 +285,7 @@ module _ {B C : Type 0} (w : Method B C) (b : List ℕ) (u : Question) where
       (body-fault (taking br) at 6 (h .is-whole) (h .is-step) refl ∙ step-fault (childInRange (u .n)) at (w .takenFault br (stepAt b (at + 6) (size b at)) (child b (at + 6))) h
       ∙ ap (λ (t : Step × ℕ). w .takenFault br (t .0) (t .1)) (sym (h .holds)) ∙ f)
       (ap (λ k. eqb k 8) (h .is-step))
-      ∙ ap (λ k. readSteps w b u (pick (eqb k 6) (taking (w .taken br (stepAt b (at + 6) (size b at)) (child b (at + 6)))) (modelled br (modelAt b u (at + 6)))) (suc r) ats) (h .is-step)
+      ∙ ap (λ k. readSteps w b u (cond (eqb k 6) (taking (w .taken br (stepAt b (at + 6) (size b at)) (child b (at + 6)))) (modelled br (modelAt b u (at + 6)))) (suc r) ats) (h .is-step)
       ∙ ap (λ (t : Step × ℕ). readSteps w b u (taking (w .taken br (t .0) (t .1))) (suc r) ats) (sym (h .holds))
       ∙ →done (taking (w .taken br (t .0) (t .1))) (suc r) ats ts o hs k
   →done (modelled br v) r (at ∷ ats) (t ∷ ts) o h k = absurd k

@@ -2,7 +2,7 @@
 use Prim.Native.Nat.{ℕ, zero, suc, _≤_}
 use native.Mathlib.Omega.{arith}
 use mathlib.Core.Path.{_≡_, refl, _∙_, ap, subst}
-use mathlib.Core.Bool.{Bool, _&&_}
+use mathlib.Core.Bool.{Bool, _&&_, cond}
 use mathlib.Core.Option.{Option, some}
 use mathlib.Core.List.{List, []}
 use lib.ListN.{length}
@@ -13,7 +13,6 @@ use Rattle.calculus.specs.Limits.{factLimit}
 use Rattle.calculus.specs.Facts.{Question}
 use Rattle.calculus.specs.Steps.{Step}
 use Rattle.calculus.specs.Walk.{working}
-use Rattle.format.specs.Fields.{pick}
 use Rattle.format.specs.Records.{size, kind, next, whole, records, need}
 use Rattle.format.specs.Question.{Reading, Stopped, Ended, question, questionForm, asked, questionOf}
 use Rattle.format.specs.Reading.{State, proving, taking, Method, Done, readSteps, claimAt, claimFault, begin, readBehind}
@@ -42,7 +41,7 @@ behindClaim {b} c = records b (next b (c .position))
 
 -- the state behind the claim
 abbrev pub started : {B C : Type 0} → Method B C → Bool → State B C
-started w x = pick x (proving (working (w .root) [])) (taking (w .root))
+started w x = cond x (proving (working (w .root) [])) (taking (w .root))
 
 abbrev pub claimed→form : {b : List ℕ} {u : Question} → Claimed b (question b) u → Claimed b (questionForm b) u
 claimed→form {b} c = record { last = c .last; position = c .position; number = c .number; ended = question→form b (c .ended); claim-formed = c .claim-formed }

@@ -6,18 +6,17 @@ use mathlib.Core.Bool.{true, _&&_}
 use mathlib.Core.List.{List, [], _∷_}
 use lib.Dec.{ltb, leb}
 use borrow.Author.Tests.{ltb-true, leb-true}
+use Rattle.lists.proofs.Lists.{all-true→}
 use Rattle.lists.specs.Lists.{All}
-use Rattle.calculus.specs.Facts.{Question}
+use Rattle.calculus.specs.Facts.{Question, columnCount}
 use Rattle.calculus.specs.Instances.{StepInRange}
 use Rattle.format.specs.Fields.{u16, u32}
-use Rattle.format.specs.Question.{columnCount}
-use Rattle.format.specs.StepForms.{Rule, sum, branch, apart, aConf, sConf, sProp, lIntro, lValid, cCollapse, cValid, cInj, card, join, unknown, Form, formFor, fitsForm, rule, lengthFits, sumPairs, multipliersWithin, splitPairs, cardVariables, allBelow, operandsInRange, stepOf, stepAt}
+use Rattle.format.specs.StepForms.{Rule, sum, branch, apart, aConf, sConf, sProp, lIntro, lValid, cCollapse, cValid, cInj, card, join, unknown, Form, formFor, fitsForm, rule, lengthFits, sumPairs, multipliersWithin, splitPairs, cardVariables, variables, operandsInRange, stepOf, stepAt}
 use Rattle.format.proofs.Faults.{and-true}
 use Rattle.format.proofs.Fields.{length-u16s, length-pairs, length-form}
 
-pub below→ : (p : ℕ) (xs : List ℕ) → allBelow p xs ≡ true → All (λ x. x < p) xs
-below→ p [] e = tt
-below→ p (x ∷ xs) e = let (h, g) = and-true (ltb x p) (allBelow p xs) e in (ltb-true x p h, below→ p xs g)
+pub below→ : (p : ℕ) (xs : List ℕ) → variables p xs ≡ true → All (λ x. x < p) xs
+below→ p xs e = all-true→ (λ x. ltb x p) xs (λ x. ltb-true x p) e
 
 pub at-least : (f : Form) (m : ℕ) → fitsForm f m ≡ true → f .least ≤ m
 at-least f m e = leb-true (f .least) m (and-true (leb (f .least) m) _ e .0)

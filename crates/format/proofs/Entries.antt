@@ -3,7 +3,7 @@ use Prim.Native.Nat.{ℕ, zero, suc, _+_, _*_, _-_, _/_, _%_, _<_, _≤_}
 use native.Mathlib.Omega.{arith}
 use mathlib.Core.Path.{_≡_, refl, sym, ap}
 use mathlib.Core.Logic.{_≢_, inl, inr}
-use mathlib.Core.Bool.{Bool, true, false, not, _&&_, _||_}
+use mathlib.Core.Bool.{Bool, true, false, not, _&&_, _||_, cond}
 use mathlib.Core.List.{List, [], _∷_, _++_}
 use lib.ListN.{length, length-append}
 use lib.Dec.{T-not, ltb, leb, eqb}
@@ -13,13 +13,13 @@ use Rattle.lists.proofs.Tests.{true→}
 use Rattle.lists.proofs.Lists.{all-map, all-append, In, distinct-snoc}
 use Rattle.calculus.specs.Limits.{alphabetLimit, variableLimit, literalLimit, lengthLimit}
 use Rattle.calculus.specs.Alphabet.{Over, allCharacters}
-use Rattle.calculus.specs.Facts.{Question, Fact, same, apart, isLiteral, arithmetic}
+use Rattle.calculus.specs.Facts.{Question, Fact, same, apart, isLiteral, arithmetic, columnCount}
 use Rattle.calculus.specs.Strings.{given}
 use Rattle.calculus.proofs.InRange.{HeadInRange, FactInRange, FactsInRange}
 use Rattle.calculus.proofs.Words.{over→, →given}
-use Rattle.format.specs.Fields.{pick, u16, u32, u32s}
+use Rattle.format.specs.Fields.{u16, u32, u32s}
 use Rattle.format.specs.Records.{size, kind, whole, need}
-use Rattle.format.specs.Question.{Progress, withLiteral, withFact, headRange, headFault, headOf, textOf, literalFault, stringRange, stringFact, stringFault, columnCount, formOf, relationOf, arithmeticFault, inPlace, bodyFault, formFault, advanced}
+use Rattle.format.specs.Question.{Progress, withLiteral, withFact, headRange, headFault, headOf, textOf, literalFault, stringRange, stringFact, stringFault, formOf, relationOf, arithmeticFault, inPlace, bodyFault, formFault, advanced}
 use Rattle.format.proofs.Faults.{none-applies, and-true}
 use Rattle.format.proofs.Fields.{length-u32s, length-form}
 
@@ -147,10 +147,10 @@ module _ (b : List ℕ) (s : Progress) (at : ℕ) where
   more f = omega (arith, length-append (u .constraints) (f ∷ []))
 
   -- by the tests of the record's kind
-  by-kind : (x y z : Bool) → eqb (kind b at) 1 ≡ x → eqb (kind b at) 2 ≡ y → pick x (eqb (s .last) 0) (behindHead y) ≡ true
-      → pick x (headFault b (at + 6) (size b at)) (pick y (literalFault b (u .n) (u .literals) (at + 6) (size b at)) (pick z (stringFault b (u .p) (length (u .literals)) (at + 6) (size b at)) (arithmeticFault b (columnCount u) (at + 6) (size b at)))) ≡ 0
-      → Entry b s at (pick x (headOf b (at + 6)) (pick y (withLiteral u (textOf b (at + 6) (size b at))) (withFact u
-      (pick z (stringFact (u16 b (at + 6)) (u16 b (at + 6 + 2)) (u16 b (at + 6 + 4))) (arithmetic (relationOf (u16 b (at + 6))) (formOf b (at + 6 + 2) (size b at / 6 - 1)))))))
+  by-kind : (x y z : Bool) → eqb (kind b at) 1 ≡ x → eqb (kind b at) 2 ≡ y → cond x (eqb (s .last) 0) (behindHead y) ≡ true
+      → cond x (headFault b (at + 6) (size b at)) (cond y (literalFault b (u .n) (u .literals) (at + 6) (size b at)) (cond z (stringFault b (u .p) (length (u .literals)) (at + 6) (size b at)) (arithmeticFault b (columnCount u) (at + 6) (size b at)))) ≡ 0
+      → Entry b s at (cond x (headOf b (at + 6)) (cond y (withLiteral u (textOf b (at + 6) (size b at))) (withFact u
+      (cond z (stringFact (u16 b (at + 6)) (u16 b (at + 6 + 2)) (u16 b (at + 6 + 4))) (arithmetic (relationOf (u16 b (at + 6))) (formOf b (at + 6 + 2) (size b at / 6 - 1)))))))
   by-kind true y z p q t e = head (eqb-true _ _ p) (eqb-true _ _ t) refl (head-in-range b (at + 6) (size b at) e)
   by-kind false true z p q t e =
       let (l, _, f) = behind true t in

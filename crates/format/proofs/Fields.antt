@@ -1,14 +1,15 @@
 -- The numbers of 32 bits, and the lengths of what is read: as many numbers as were asked for, and forms with a constant and 48 coefficients.
-use Prim.Native.Nat.{ℕ, zero, suc, _+_, _-_, _≤_, _<_}
+use Prim.Native.Nat.{ℕ, suc, _+_, _-_, _≤_, _<_, _*_}
 use native.Mathlib.Omega.{arith}
 use mathlib.Core.Path.{_≡_, refl, _∙_, ap}
 use mathlib.Core.List.{List, [], _∷_}
-use lib.ListN.{length, set, length-set}
+use lib.ListN.{length, set, length-set, getD}
 use lib.IntN.{ℤ, pos, negsuc}
 use borrow.Author.Tests.{lt-ltb, le-ltb}
+use Rattle.lists.proofs.Lists.{length-along, getD-along, onward-by}
 use Rattle.calculus.specs.Limits.{columnLimit}
 use Rattle.calculus.specs.Rows.{zeros}
-use Rattle.format.specs.Fields.{signed, u16s, i32s, u32s, pairsAt}
+use Rattle.format.specs.Fields.{signed, u16s, i32s, u32s, pairsAt, fields, u16, u32, i32, pairAt}
 use Rattle.format.specs.Question.{fillRow, formOf}
 
 pub signed-low : (v : ℕ) → v < 2147483648 → signed v ≡ pos v
@@ -25,23 +26,23 @@ down k = omega arith
 
 pub length-u16s : (b : List ℕ) (at k : ℕ) → length (u16s b at k) ≡ k
 unfolding u16s
-length-u16s b at zero = refl
-length-u16s b at (suc k) = ap suc (length-u16s b (at + 2) k)
+length-u16s b at k = length-along (λ i. i + 2) (u16 b) at k
 
 pub length-u32s : (b : List ℕ) (at k : ℕ) → length (u32s b at k) ≡ k
 unfolding u32s
-length-u32s b at zero = refl
-length-u32s b at (suc k) = ap suc (length-u32s b (at + 4) k)
+length-u32s b at k = length-along (λ i. i + 4) (u32 b) at k
 
 pub length-i32s : (b : List ℕ) (at k : ℕ) → length (i32s b at k) ≡ k
 unfolding i32s
-length-i32s b at zero = refl
-length-i32s b at (suc k) = ap suc (length-i32s b (at + 4) k)
+length-i32s b at k = length-along (λ i. i + 4) (i32 b) at k
 
 pub length-pairs : (b : List ℕ) (at k : ℕ) → length (pairsAt b at k) ≡ k
 unfolding pairsAt
-length-pairs b at zero = refl
-length-pairs b at (suc k) = ap suc (length-pairs b (at + 6) k)
+length-pairs b at k = length-along (λ i. i + 6) (pairAt b) at k
+
+-- the fields themselves
+pub field-at : {A : Type 0} (w : ℕ) (read : ℕ → A) (at k j : ℕ) (d : A) → j < k → getD (fields w read at k) j d ≡ read (at + w * j)
+field-at w read at k j d h = getD-along (λ i. i + w) read at k j d h ∙ ap read (onward-by w at j)
 
 length-fill : (row : List ℤ) (ts : List (ℕ × ℤ)) → length (fillRow row ts) ≡ length row
 unfolding fillRow

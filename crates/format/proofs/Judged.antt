@@ -5,7 +5,7 @@ use mathlib.Core.Path.{_≡_, refl, sym, _∙_, ap, subst}
 use mathlib.Core.Bool.{Bool, true, false, not}
 use mathlib.Core.Option.{Option, none, some}
 use mathlib.Core.List.{List, [], _∷_}
-use lib.ListN.{length, getD, getElem?}
+use lib.ListN.{getD, getElem?}
 use lib.Dec.{T-not, not-T, leb}
 use Rattle.lists.proofs.Tests.{→true, true→}
 use Rattle.calculus.specs.Alphabet.{Over, allCharacters}
@@ -13,16 +13,18 @@ use Rattle.calculus.specs.Facts.{Question, Fact, same, apart, isLiteral, arithm
 use Rattle.calculus.specs.Strings.{eqString}
 use Rattle.calculus.specs.Meaning.{Assignment, str, value, For, Meets, Met}
 use Rattle.calculus.proofs.Words.{over→, eqString→, →eqString}
-use Rattle.calculus.proofs.Sound.{met-at}
+use Rattle.calculus.proofs.Relations.{holds→, →holds}
+use Rattle.lists.proofs.Lists.{all-at, all-true→}
 use Rattle.format.specs.Records.{next}
 use Rattle.format.specs.Question.{Reading, Stopped, Ended, question, asked, questionOf}
-use Rattle.format.specs.Places.{skip}
-use Rattle.format.specs.Answer.{answerForm, stringAt, stringsAt, assignmentOf, outside}
+use Rattle.format.specs.Places.{skip, textAt, texts}
+use Rattle.format.specs.Answer.{answerForm, assignmentOf, outside}
 use Rattle.format.specs.Judging.{Judging, Refused, Judged, judgeAnswer, judgeBehind, judging, meets, meetsAll, Judgement, Refusal, AllMet, Unmet, Says}
 use Rattle.format.specs.Demands.{TH-3}
-use Rattle.format.proofs.Faults.{and-true, not-both}
+use Rattle.format.proofs.Faults.{not-both}
 use Rattle.format.proofs.Fields.{length-i32s}
 use Rattle.format.proofs.Asked.{headed-asked, question→form}
+use Rattle.format.proofs.Places.{length-texts}
 
 -- ---- a constraint is met exactly when its test holds
 
@@ -30,35 +32,29 @@ meets→ : (u : Question) (a : Assignment) (f : Fact) → meets u a f ≡ true �
 meets→ u a (same x y) e = eqString→ (str a x) (str a y) (true→ e)
 meets→ u a (apart x y) e = λ p. T-not (eqString (str a x) (str a y)) (true→ e) (→eqString p)
 meets→ u a (isLiteral x l) e = eqString→ (str a x) (literal u l) (true→ e)
-meets→ u a (arithmetic r e) h = true→ h
+meets→ u a (arithmetic r e) h = holds→ r (value a e) (true→ h)
 
 →meets : (u : Question) (a : Assignment) (f : Fact) → Meets u a f → meets u a f ≡ true
 →meets u a (same x y) h = →true (eqString (str a x) (str a y)) (→eqString h)
 →meets u a (apart x y) h = →true (not (eqString (str a x) (str a y))) (not-T (eqString (str a x) (str a y)) (λ t. h (eqString→ (str a x) (str a y) t)))
 →meets u a (isLiteral x l) h = →true (eqString (str a x) (literal u l)) (→eqString h)
-→meets u a (arithmetic r e) h = →true (holds r (value a e)) h
+→meets u a (arithmetic r e) h = →true (holds r (value a e)) (→holds r (value a e) h)
 
 meetsAll→ : (u : Question) (a : Assignment) (b : Branch) → meetsAll u a b ≡ true → Met u a b
 unfolding meetsAll
-meetsAll→ u a [] e = tt
-meetsAll→ u a (f ∷ b) e = let (h, g) = and-true (meets u a f) (meetsAll u a b) e in (meets→ u a f h, meetsAll→ u a b g)
+meetsAll→ u a b e = all-true→ (meets u a) b (meets→ u a) e
 
 -- ---- the answer's values are an assignment of the question
 
-pub length-strings : (v : List ℕ) (p at : ℕ) → length (stringsAt v p at) ≡ p
-unfolding stringsAt
-length-strings v zero at = refl
-length-strings v (suc p) at = ap suc (length-strings v p (next v at))
-
-inside-over : (v : List ℕ) (u : Question) (p r at : ℕ) → outside v u p r at ≡ none → (x : ℕ) → Over (u .n) (getD (stringsAt v p at) x [])
-unfolding stringsAt outside
+inside-over : (v : List ℕ) (u : Question) (p r at : ℕ) → outside v u p r at ≡ none → (x : ℕ) → Over (u .n) (getD (texts v p at) x [])
+unfolding texts outside
 inside-over v u zero r at e x = tt
-inside-over v u (suc p) r at e x = go (allCharacters (u .n) (stringAt v at)) refl e x (λ p' y. inside-over v u p (suc r) (next v at) p' y)
+inside-over v u (suc p) r at e x = go (allCharacters (u .n) (textAt v at)) refl e x (λ p' y. inside-over v u p (suc r) (next v at) p' y)
   where
-    go : (b : Bool) → allCharacters (u .n) (stringAt v at) ≡ b → _≡_ {A = Option ℕ} (elim b as (λ _. Option ℕ) [ true ↦ outside v u p (suc r) (next v at) | false ↦ some r ]) none → (x : ℕ)
-        → (outside v u p (suc r) (next v at) ≡ none → (y : ℕ) → Over (u .n) (getD (stringsAt v p (next v at)) y []))
-        → Over (u .n) (getD (stringAt v at ∷ stringsAt v p (next v at)) x [])
-    go true t e zero ih = over→ (u .n) (stringAt v at) (true→ t)
+    go : (b : Bool) → allCharacters (u .n) (textAt v at) ≡ b → _≡_ {A = Option ℕ} (elim b as (λ _. Option ℕ) [ true ↦ outside v u p (suc r) (next v at) | false ↦ some r ]) none → (x : ℕ)
+        → (outside v u p (suc r) (next v at) ≡ none → (y : ℕ) → Over (u .n) (getD (texts v p (next v at)) y []))
+        → Over (u .n) (getD (textAt v at ∷ texts v p (next v at)) x [])
+    go true t e zero ih = over→ (u .n) (textAt v at) (true→ t)
     go true t e (suc y) ih = ih e y
     go false t e x ih = absurd (let z : _≡_ {A = ℕ} 0 1 = cc in omega arith)
 
@@ -98,7 +94,7 @@ judging-is-theory b v j s u a e =
       asked = t .asked-is;
       values = t .values-are;
       for-question = subst (For u) (sym (t .values-are)) (record {
-        strings = length-strings v (u .p) 0;
+        strings = length-texts v (u .p) 0;
         integers = length-i32s v (skip v (u .p) 0 + 6) (u .q);
         over = inside-over v u (u .p) 0 0 (t .all-inside);
       });
@@ -114,7 +110,7 @@ judging-is-theory b v j s u a e =
     said-all-met : (j : Judgement) → Says (Judged u a) j → Met u a (u .constraints) → j ≡ AllMet
     said-all-met (Refusal c r) s m = absurd s
     said-all-met AllMet s m = refl
-    said-all-met (Unmet k) s m = absurd (not-both (meets u a (s .0)) (→meets u a (s .0) (met-at u a (u .constraints) k m (s .1))) (s .2))
+    said-all-met (Unmet k) s m = absurd (not-both (meets u a (s .0)) (→meets u a (s .0) (all-at (Meets u a) (u .constraints) k m (s .1))) (s .2))
 
     unmet-said : (j : Judgement) → Says (Judged u a) j → (k : ℕ) → j ≡ Unmet k → (f : Fact) × (getElem? (u .constraints) k ≡ some f) × (Meets u a f → ⊥)
     unmet-said (Refusal c r) s k p = absurd s

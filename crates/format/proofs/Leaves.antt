@@ -1,30 +1,31 @@
 -- None of 12 to 14 applies to a leaf and its model exactly when demand 3 accepts them, and then the strings and integers meet every fact of the leaf.
 use Prim.Native.Nat.{ℕ, _+_, _<_, _≤_}
-use mathlib.Core.Path.{_≡_, refl, sym, _∙_, ap₂, subst}
-use mathlib.Core.Bool.{Bool, true, _&&_}
-use mathlib.Core.List.{List, [], _∷_}
+use mathlib.Core.Path.{_≡_, refl, sym, _∙_, subst}
+use mathlib.Core.Bool.{Bool, true}
+use mathlib.Core.List.{List, []}
 use lib.ListN.{length}
 use lib.Dec.{T, leb}
 use lib.IntN.{ℤ, pos, negsuc, natAbs}
 use lib.Signed.{_≤ℤ_}
 use Rattle.integers.proofs.Laws.{≤ℤ-pos}
 use Rattle.lists.specs.Lists.{All}
-use Rattle.lists.proofs.Lists.{getD-all}
+use Rattle.lists.proofs.Lists.{getD-all, all-true→, →all-true}
 use Rattle.lists.proofs.Tests.{→true, true→}
+use Rattle.lists.proofs.Below.{all-below→, →all-below}
 use Rattle.calculus.specs.Limits.{lengthLimit}
 use Rattle.calculus.specs.Facts.{Question, Fact, same, apart, isLiteral, arithmetic, Branch, holds, len}
-use Rattle.calculus.specs.Model.{modelOf, valueIn}
+use Rattle.calculus.specs.Model.{modelOf}
 use Rattle.calculus.specs.Saturation.{MeetsArithmetic, AcceptedLeaf}
 use Rattle.calculus.specs.SaturationTest.{saturated}
+use Rattle.calculus.specs.Rows.{valueIn}
 use Rattle.calculus.proofs.InRange.{FactsInRange}
-use Rattle.calculus.proofs.Tests.{every→, →every}
 use Rattle.calculus.proofs.Relations.{holds→, →holds}
 use Rattle.calculus.proofs.Leaf.{length-nonneg}
 use Rattle.calculus.proofs.Saturation.{by-classes, saturated→words, words→saturated}
 use Rattle.calculus.proofs.Strings.{Answers, strings-answer}
 use Rattle.format.specs.Records.{need}
 use Rattle.format.specs.Checking.{keepsFact, keeps, shortLengths, leafFault, answerOf}
-use Rattle.format.proofs.Faults.{none-applies, passed, and-true}
+use Rattle.format.proofs.Faults.{none-applies, passed}
 use Rattle.format.proofs.Entries.{QuestionInRange}
 
 -- ---- 12 to 14 in document 01's words
@@ -43,13 +44,11 @@ keeps-fact→ m (arithmetic r e) h = holds→ r (valueIn m e) (true→ h)
 
 keeps→ : (m : List ℤ) (b : Branch) → keeps m b ≡ true → All (MeetsArithmetic m) b
 unfolding keeps
-keeps→ m [] e = tt
-keeps→ m (f ∷ b) e = let (h, g) = and-true (keepsFact m f) (keeps m b) e in (keeps-fact→ m f h, keeps→ m b g)
+keeps→ m b e = all-true→ (keepsFact m) b (keeps-fact→ m) e
 
 →keeps : (m : List ℤ) (b : Branch) → All (MeetsArithmetic m) b → keeps m b ≡ true
 unfolding keeps
-→keeps m [] h = refl
-→keeps m (f ∷ b) (h, hs) = ap₂ _&&_ (→keeps-fact m f h) (→keeps m b hs)
+→keeps m b h = →all-true (keepsFact m) b (→keeps-fact m) h
 
 short→ : (z : ℤ) → T (leb (natAbs z) lengthLimit) → z ≤ℤ pos lengthLimit
 short→ (pos n) t = record { le = t }
@@ -71,14 +70,14 @@ module _ (u : Question) (q : QuestionInRange u) (b : Branch) (r : FactsInRange u
       record {
         met = keeps→ m b (a12 .0);
         saturated = saturated→words u (q .head) b r m (a13 .0);
-        short = λ x h. short→ (modelOf u m len x) (every→ (u .p) short (true→ (a14 .0)) x h);
+        short = λ x h. short→ (modelOf u m len x) (all-below→ (u .p) short (true→ (a14 .0)) x h);
       }
 
   pub accepted→unfaulted : AcceptedLeaf u b m → leafFault u b m ≡ 0
   accepted→unfaulted a =
       passed 12 (keeps m b) (need 13 (saturated u b m) (need 14 (shortLengths u m) 0)) (→keeps m b (a .met))
       ∙ passed 13 (saturated u b m) (need 14 (shortLengths u m) 0) (words→saturated u (q .head) b r m (a .saturated))
-      ∙ passed 14 (shortLengths u m) 0 (→true (shortLengths u m) (→every (u .p) short (λ x h. →short (modelOf u m len x) (length-nonneg u b m (by-classes u (q .head) b r m (a .saturated)) x h) (a .short x h))))
+      ∙ passed 14 (shortLengths u m) 0 (→true (shortLengths u m) (→all-below (u .p) short (λ x h. →short (modelOf u m len x) (length-nonneg u b m (by-classes u (q .head) b r m (a .saturated)) x h) (a .short x h))))
 
   -- the strings and integers
   pub accepted-answers : length m ≡ u .q + (u .p + u .p) → AcceptedLeaf u b m → Answers u b m (answerOf u b m)

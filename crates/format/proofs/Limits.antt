@@ -9,41 +9,39 @@ use lib.ListN.{length}
 use lib.Dec.{leb, ltb}
 use lib.IntN.{ℤ, natAbs}
 use borrow.Author.Tests.{leb-true, ltb-true, le-leb, lt-ltb, leb-false}
+use Rattle.lists.proofs.Lists.{→all-true, all-true→}
 use Rattle.lists.specs.Lists.{All}
-use Rattle.calculus.specs.Limits.{numberLimit, factLimit, pendingLimit}
+use Rattle.calculus.specs.Limits.{Small, numberLimit, factLimit, pendingLimit}
 use Rattle.calculus.specs.Facts.{Fact, same, apart, isLiteral, arithmetic, Branch}
-use Rattle.calculus.specs.Derivations.{Small, SmallFact, ChildLimits, SplitLimits}
+use Rattle.calculus.specs.Derivations.{SmallFact, ChildLimits, SplitLimits}
 use Rattle.format.specs.Records.{need}
-use Rattle.format.specs.Checking.{rowWithin, factWithin, factsWithin, childrenWithin, room, roomForAll, roomToPend, allTried, takenTried}
+use Rattle.format.specs.Checking.{factWithin, factsWithin, childrenWithin, room, roomForAll, roomToPend, allTried, takenTried}
+use Rattle.format.specs.Fields.{allWithin, within}
 use Rattle.format.proofs.Faults.{none-applies, passed, and-true}
 
 -- ---- where the limits hold, the tests are passed
 
-row-within : (e : List ℤ) → All Small e → rowWithin e ≡ true
-unfolding rowWithin
-row-within [] h = refl
-row-within (z ∷ e) (h, hs) = ap₂ _&&_ (le-leb (natAbs z) numberLimit h) (row-within e hs)
+→within : (k : ℕ) (zs : List ℤ) → All (Small k) zs → allWithin k zs ≡ true
+unfolding allWithin
+→within k zs h = →all-true (within k) zs (λ z. le-leb (natAbs z) k) h
 
 fact-within : (f : Fact) → SmallFact f → factWithin f ≡ true
 fact-within (same x y) h = refl
 fact-within (apart x y) h = refl
 fact-within (isLiteral x l) h = refl
-fact-within (arithmetic r e) h = row-within e h
+fact-within (arithmetic r e) h = →within numberLimit e h
 
 facts-within : (c : List Fact) → All SmallFact c → factsWithin c ≡ true
 unfolding factsWithin
-facts-within [] h = refl
-facts-within (f ∷ c) (h, hs) = ap₂ _&&_ (fact-within f h) (facts-within c hs)
+facts-within c h = →all-true factWithin c fact-within h
 
 children-within : (b : Branch) (cs : List (List Fact)) → All (ChildLimits b) cs → childrenWithin cs ≡ true
 unfolding childrenWithin
-children-within b [] h = refl
-children-within b (c ∷ cs) (h, hs) = ap₂ _&&_ (facts-within c (h .numbers)) (children-within b cs hs)
+children-within b cs h = →all-true factsWithin cs (λ c l. facts-within c (l .numbers)) h
 
 room-for-all : (b : Branch) (cs : List (List Fact)) → All (ChildLimits b) cs → roomForAll (length b) cs ≡ true
 unfolding roomForAll
-room-for-all b [] h = refl
-room-for-all b (c ∷ cs) (h, hs) = ap₂ _&&_ (le-leb (length b + length c) factLimit (h .facts)) (room-for-all b cs hs)
+room-for-all b cs h = →all-true (room (length b)) cs (λ c l. le-leb (length b + length c) factLimit (l .facts)) h
 
 room-to-pend : (k : ℕ) (cs : List (List Fact)) → (2 ≤ length cs → k < pendingLimit) → roomToPend k cs ≡ true
 room-to-pend k cs h = go (leb (length cs) 1) refl
@@ -62,21 +60,19 @@ limits→taken b c l = passed 9 (factsWithin c) (need 10 (room (length b) c) 0) 
 
 -- ---- and only there
 
-row-within→ : (e : List ℤ) → rowWithin e ≡ true → All Small e
-unfolding rowWithin
-row-within→ [] t = tt
-row-within→ (z ∷ e) t = let (h, g) = and-true (leb (natAbs z) numberLimit) (rowWithin e) t in (leb-true (natAbs z) numberLimit h, row-within→ e g)
+pub within→ : (k : ℕ) (zs : List ℤ) → allWithin k zs ≡ true → All (Small k) zs
+unfolding allWithin
+within→ k zs t = all-true→ (within k) zs (λ z. leb-true (natAbs z) k) t
 
 fact-within→ : (f : Fact) → factWithin f ≡ true → SmallFact f
 fact-within→ (same x y) t = tt
 fact-within→ (apart x y) t = tt
 fact-within→ (isLiteral x l) t = tt
-fact-within→ (arithmetic r e) t = row-within→ e t
+fact-within→ (arithmetic r e) t = within→ numberLimit e t
 
 facts-within→ : (c : List Fact) → factsWithin c ≡ true → All SmallFact c
 unfolding factsWithin
-facts-within→ [] t = tt
-facts-within→ (f ∷ c) t = let (h, g) = and-true (factWithin f) (factsWithin c) t in (fact-within→ f h, facts-within→ c g)
+facts-within→ c t = all-true→ factWithin c fact-within→ t
 
 child-limits→ : (b : Branch) (c : List Fact) → factsWithin c ≡ true → room (length b) c ≡ true → ChildLimits b c
 child-limits→ b c n r = record { numbers = facts-within→ c n; facts = leb-true (length b + length c) factLimit r }

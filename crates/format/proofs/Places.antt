@@ -3,14 +3,15 @@ use Prim.Native.Nat.{ℕ, zero, suc, _+_, _-_, _≤_, _<_}
 use native.Mathlib.Omega.{arith}
 use native.Mathlib.Numerals.{add-one}
 use mathlib.Core.Path.{_≡_, refl, sym, _∙_, ap, ap₂}
-use mathlib.Core.Bool.{false}
+use mathlib.Core.Bool.{false, cond}
 use mathlib.Core.List.{List, [], _∷_, _++_}
 use lib.ListN.{length, getD}
 use lib.Dec.{eqb}
-use Rattle.format.specs.Fields.{pick, u16, u32}
+use Rattle.lists.proofs.Lists.{onward-suc, length-along, getD-along, along-snoc}
+use Rattle.format.specs.Fields.{u16, u32}
 use Rattle.format.specs.Records.{size, kind, next}
 use Rattle.format.specs.Question.{Progress, withLiteral, withFact, headOf, textOf, constraintOf, extended, advanced}
-use Rattle.format.specs.Places.{skip, texts, constraintsAt, literalsFrom, readTo}
+use Rattle.format.specs.Places.{skip, texts, constraintsAt, literalsFrom, readTo, textAt, constraintAt}
 
 -- ---- positions
 
@@ -31,8 +32,7 @@ skip-one b (suc k) at h = let e : suc k - 1 ≡ k = omega arith in rw e
 
 pub skip-snoc : (b : List ℕ) (k at : ℕ) → skip b (suc k) at ≡ next b (skip b k at)
 unfolding skip
-skip-snoc b zero at = refl
-skip-snoc b (suc k) at = skip-snoc b k (next b at)
+skip-snoc b k at = onward-suc (next b) at k
 
 -- a record ends before those behind it
 pub skip-room : (b : List ℕ) (j k at : ℕ) → j < k → next b (skip b j at) ≤ skip b k at
@@ -55,29 +55,23 @@ skip-within b k at h g = omega (arith, skip-one b k at h, skip-far b (k - 1) (ne
 
 pub length-texts : (b : List ℕ) (k at : ℕ) → length (texts b k at) ≡ k
 unfolding texts
-length-texts b zero at = refl
-length-texts b (suc k) at = ap suc (length-texts b k (next b at))
+length-texts b k at = length-along (next b) (textAt b) at k
 
 pub length-constraints : (b : List ℕ) (k at : ℕ) → length (constraintsAt b k at) ≡ k
 unfolding constraintsAt
-length-constraints b zero at = refl
-length-constraints b (suc k) at = ap suc (length-constraints b k (next b at))
+length-constraints b k at = length-along (next b) (constraintAt b) at k
 
-pub text-at : (b : List ℕ) (j k at : ℕ) → j < k → getD (texts b k at) j [] ≡ textOf b (skip b j at + 6) (size b (skip b j at))
+pub text-at : (b : List ℕ) (j k at : ℕ) → j < k → getD (texts b k at) j [] ≡ textAt b (skip b j at)
 unfolding texts skip
-text-at b j zero at h = absurd (omega arith)
-text-at b zero (suc k) at h = refl
-text-at b (suc j) (suc k) at h = text-at b j k (next b at) (omega arith)
+text-at b j k at h = getD-along (next b) (textAt b) at k j [] h
 
-texts-snoc : (b : List ℕ) (k at : ℕ) → texts b (suc k) at ≡ texts b k at ++ (textOf b (skip b k at + 6) (size b (skip b k at)) ∷ [])
+texts-snoc : (b : List ℕ) (k at : ℕ) → texts b (suc k) at ≡ texts b k at ++ (textAt b (skip b k at) ∷ [])
 unfolding texts skip
-texts-snoc b zero at = refl
-texts-snoc b (suc k) at = ap (λ ts. textOf b (at + 6) (size b at) ∷ ts) (texts-snoc b k (next b at))
+texts-snoc b k at = along-snoc (next b) (textAt b) at k
 
-constraints-snoc : (b : List ℕ) (k at : ℕ) → constraintsAt b (suc k) at ≡ constraintsAt b k at ++ (constraintOf b (kind b (skip b k at)) (skip b k at + 6) (size b (skip b k at)) ∷ [])
+constraints-snoc : (b : List ℕ) (k at : ℕ) → constraintsAt b (suc k) at ≡ constraintsAt b k at ++ (constraintAt b (skip b k at) ∷ [])
 unfolding constraintsAt skip
-constraints-snoc b zero at = refl
-constraints-snoc b (suc k) at = ap (λ fs. constraintOf b (kind b at) (at + 6) (size b at) ∷ fs) (constraints-snoc b k (next b at))
+constraints-snoc b k at = along-snoc (next b) (constraintAt b) at k
 
 -- ---- the head, a literal and a constraint move the numbers only
 
@@ -100,7 +94,7 @@ read-constraint b last n p q k m at x y g =
     (ap (λ j. constraintsAt b j (skip b k literalsFrom)) (add-one m) ∙ constraints-snoc b m (skip b k literalsFrom))
     ∙ sym (ap₂ (λ v w. record {
       last = kind b at;
-      question = pick v (headOf b (at + 6)) (pick w (withLiteral (readTo b last n p q k m .question) (textOf b (at + 6) (size b at))) (withFact (readTo b last n p q k m .question) (constraintOf b (kind b at) (at + 6) (size b at))));
+      question = cond v (headOf b (at + 6)) (cond w (withLiteral (readTo b last n p q k m .question) (textOf b (at + 6) (size b at))) (withFact (readTo b last n p q k m .question) (constraintOf b (kind b at) (at + 6) (size b at))));
     }) x y
     ∙ ap (λ z. record {
       last = kind b at;

@@ -18,11 +18,11 @@ use Rattle.calculus.specs.Alphabet.{Over, allCharacters}
 use Rattle.calculus.specs.Facts.{Question}
 use Rattle.calculus.specs.Meaning.{Assignment, For}
 use Rattle.calculus.proofs.Words.{→over}
-use Rattle.format.specs.Fields.{bytesOf, unsigned, signed, u16, u32, u32s, i32s, within}
+use Rattle.format.specs.Fields.{bytesOf, unsigned, signed, u16, u32, u32s, i32s, within, allWithin}
 use Rattle.format.specs.Records.{size, kind, next, whole}
 use Rattle.format.specs.Question.{questionForm}
-use Rattle.format.specs.Places.{skip}
-use Rattle.format.specs.Answer.{recordBytes, characterBytes, integerBytes, stringRecords, encode, answerForm, stringAt, integersAt, stringsAt, assignmentOf, allWithin, outside}
+use Rattle.format.specs.Places.{skip, textAt, texts}
+use Rattle.format.specs.Answer.{recordBytes, characterBytes, integerBytes, stringRecords, encode, answerForm, integersAt, assignmentOf, outside}
 use Rattle.format.specs.Judging.{Judging, Refused, Judged, judgeAnswer, judgeBehind, judging}
 use Rattle.format.proofs.Faults.{and-true}
 use Rattle.format.proofs.Entries.{QuestionInRange}
@@ -69,11 +69,11 @@ unsigned-small : (z : ℤ) → within valueLimit z ≡ true → unsigned z < 429
 unsigned-small (pos v) h = omega (arith, leb-true v valueLimit h)
 unsigned-small (negsuc v) h = omega arith
 
-integers-back : (b : List ℕ) (at : ℕ) (zs : List ℤ) (rest : List ℕ) → allWithin zs ≡ true → drop at b ≡ integerBytes zs ++ rest → i32s b at (length zs) ≡ zs
+integers-back : (b : List ℕ) (at : ℕ) (zs : List ℤ) (rest : List ℕ) → allWithin valueLimit zs ≡ true → drop at b ≡ integerBytes zs ++ rest → i32s b at (length zs) ≡ zs
 unfolding i32s integerBytes allWithin
 integers-back b at [] rest h e = refl
 integers-back b at (z ∷ zs) rest h e =
-    let (w, ws) = and-true (within valueLimit z) (allWithin zs) h in
+    let (w, ws) = and-true (within valueLimit z) (allWithin valueLimit zs) h in
     let f : drop at b ≡ bytesOf 4 (unsigned z) ++ (integerBytes zs ++ rest) = e ∙ append-assoc (bytesOf 4 (unsigned z)) (integerBytes zs) rest in
     ap₂ _∷_ (ap signed (u32-back b at (unsigned z) (integerBytes zs ++ rest) (unsigned-small z w) f) ∙ signed-back z w)
     (integers-back b (at + 4) zs rest ws (behind b at 4 (bytesOf 4 (unsigned z)) (integerBytes zs ++ rest) (length-bytes 4 (unsigned z)) f))
@@ -112,20 +112,20 @@ record-back b at k body rest few short e =
 record Back (b : List ℕ) (u : Question) (ss : List (List ℕ)) (zs : List ℤ) (r at : ℕ) : Type 0 where
   form : answerForm b (length ss) (length zs) at ≡ true
   inside : outside b u (length ss) r at ≡ none
-  strings : stringsAt b (length ss) at ≡ ss
+  strings : texts b (length ss) at ≡ ss
   integers : integersAt b (length zs) (skip b (length ss) at) ≡ zs
 
-inside-more : (b : List ℕ) (u : Question) (p r at : ℕ) → allCharacters (u .n) (stringAt b at) ≡ true → outside b u p (suc r) (next b at) ≡ none → outside b u (suc p) r at ≡ none
+inside-more : (b : List ℕ) (u : Question) (p r at : ℕ) → allCharacters (u .n) (textAt b at) ≡ true → outside b u p (suc r) (next b at) ≡ none → outside b u (suc p) r at ≡ none
 unfolding outside
 inside-more b u p r at e h = ap (λ x. elim x as (λ _. Option ℕ) [ true ↦ outside b u p (suc r) (next b at) | false ↦ some r ]) e ∙ h
 
-module _ (b : List ℕ) (u : Question) (zs : List ℤ) (characters : u .n ≤ alphabetLimit) (count : length zs ≡ u .q) (few : length zs ≤ variableLimit) (values : allWithin zs ≡ true) where
+module _ (b : List ℕ) (u : Question) (zs : List ℤ) (characters : u .n ≤ alphabetLimit) (count : length zs ≡ u .q) (few : length zs ≤ variableLimit) (values : allWithin valueLimit zs ≡ true) where
   -- the records of the integers and of the end
   abbrev tail : List ℕ
   tail = recordBytes 10 (integerBytes zs) ++ recordBytes 8 []
 
   tail-back : (r at : ℕ) → drop at b ≡ tail → Back b u [] zs r at
-  unfolding answerForm outside stringsAt skip
+  unfolding answerForm outside texts skip
   tail-back r at e =
       let k = record-back b at 10 (integerBytes zs) (recordBytes 8 []) (omega arith) (omega (arith, length-integers zs)) e in
       let l = record-back b (next b at) 8 [] [] (omega arith) (omega arith) (k .rest-stands ∙ sym (append-nil (recordBytes 8 []))) in
@@ -135,21 +135,21 @@ module _ (b : List ℕ) (u : Question) (zs : List ℤ) (characters : u .n ≤ al
             ap₂ _&&_ (k .is-whole) (ap₂ _&&_ (eq-eqb (kind b at) 10 (k .is-kind)) (ap₂ _&&_ (eq-eqb (size b at) (4 * length zs) (k .is-size ∙ length-integers zs))
             (ap₂ _&&_ (l .is-whole) (ap₂ _&&_ (eq-eqb (kind b (next b at)) 8 (l .is-kind)) (ap₂ _&&_ (eq-eqb (size b (next b at)) 0 (l .is-size))
             (eq-eqb (next b (next b at)) (length b) (omega (arith, l .ends))))))));
-        inside = ap (λ x. elim x as (λ _. Option ℕ) [ true ↦ none | false ↦ some r ]) (ap (λ q. allWithin (integersAt b q at)) (sym count) ∙ ap allWithin read ∙ values);
+        inside = ap (λ x. elim x as (λ _. Option ℕ) [ true ↦ none | false ↦ some r ]) (ap (λ q. allWithin valueLimit (integersAt b q at)) (sym count) ∙ ap (allWithin valueLimit) read ∙ values);
         strings = refl;
         integers = read;
       }
 
   strings-back : (ss : List (List ℕ)) (r at : ℕ) → All (λ s. length s ≤ lengthLimit) ss → All (Over (u .n)) ss → drop at b ≡ stringRecords ss ++ tail → Back b u ss zs r at
-  unfolding answerForm outside stringsAt skip stringRecords
+  unfolding answerForm outside texts skip stringRecords
   strings-back [] r at h o e = tail-back r at e
   strings-back (s ∷ ss) r at (h, hs) (o, os) e =
       let body : List ℕ = characterBytes s in
       let k = record-back b at 9 body (stringRecords ss ++ tail) (omega arith) (omega (arith, length-characters s)) (e ∙ append-assoc (recordBytes 9 body) (stringRecords ss) tail) in
       let fours : size b at ≡ 4 * length s = k .is-size ∙ length-characters s in
       let many : size b at / 4 ≡ length s = omega arith in
-      let read : stringAt b at ≡ s = ap (u32s b (at + 6)) many ∙ characters-back b (at + 6) (u .n) s (stringRecords ss ++ tail) characters o (k .body-stands) in
-      let over : allCharacters (u .n) (stringAt b at) ≡ true = ap (allCharacters (u .n)) read ∙ →true (allCharacters (u .n) s) (→over (u .n) s o) in
+      let read : textAt b at ≡ s = ap (u32s b (at + 6)) many ∙ characters-back b (at + 6) (u .n) s (stringRecords ss ++ tail) characters o (k .body-stands) in
+      let over : allCharacters (u .n) (textAt b at) ≡ true = ap (allCharacters (u .n)) read ∙ →true (allCharacters (u .n) s) (→over (u .n) s o) in
       let later = strings-back ss (suc r) (next b at) hs os (k .rest-stands) in
       record {
         form =
@@ -167,18 +167,18 @@ judged u v a form inside read =
     ap₂ (λ x o. elim x as (λ _. Judging) [ false ↦ Refused 15 0 | true ↦ elim o as (λ _. Judging) [ some r ↦ Refused 16 r | none ↦ Judged u (assignmentOf v u) ] ]) form inside ∙ ap (Judged u) read
 
 -- from the bytes of an assignment of the question judging reads that assignment
-answer-back : (u : Question) (a : Assignment) → QuestionInRange u → For u a → All (λ s. length s ≤ lengthLimit) (a .strs) → allWithin (a .ints) ≡ true → judgeAnswer u (encode a) ≡ Judged u a
+answer-back : (u : Question) (a : Assignment) → QuestionInRange u → For u a → All (λ s. length s ≤ lengthLimit) (a .strs) → allWithin valueLimit (a .ints) ≡ true → judgeAnswer u (encode a) ≡ Judged u a
 unfolding encode
 answer-back u a r f short values =
     let k = strings-back (encode a) u (a .ints) (r .characters) (f .integers) (omega (arith, f .integers, r .head .integers)) values (a .strs) 0 0 short (getD-all (Over (u .n)) (a .strs) [] (λ x h. f .over x)) refl in
     judged u (encode a) a
     (ap₂ (λ p q. answerForm (encode a) p q 0) (sym (f .strings)) (sym (f .integers)) ∙ k .form)
     (ap (λ p. outside (encode a) u p 0 0) (sym (f .strings)) ∙ k .inside)
-    (ap₂ (λ p q. record { strs = stringsAt (encode a) p 0; ints = integersAt (encode a) q (skip (encode a) p 0) }) (sym (f .strings)) (sym (f .integers))
+    (ap₂ (λ p q. record { strs = texts (encode a) p 0; ints = integersAt (encode a) q (skip (encode a) p 0) }) (sym (f .strings)) (sym (f .integers))
     ∙ ap₂ (λ ss zs. record { strs = ss; ints = zs }) (k .strings) (k .integers))
 
 pub judging-back : (t : List ℕ) (u : Question) (a : Assignment) → Claimed t (questionForm t) u → length (u .constraints) ≤ factLimit
-    → For u a → All (λ s. length s ≤ lengthLimit) (a .strs) → allWithin (a .ints) ≡ true → judging t (encode a) ≡ Judged u a
+    → For u a → All (λ s. length s ≤ lengthLimit) (a .strs) → allWithin valueLimit (a .ints) ≡ true → judging t (encode a) ≡ Judged u a
 unfolding judging
 judging-back t u a c few f short values =
     ap (λ g. judgeBehind g (encode a)) (form→claimed few c .ended)

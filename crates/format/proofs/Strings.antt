@@ -1,7 +1,7 @@
 -- TH-5 and TH-6: where checking gives strings, they meet every constraint and differ wherever the leaf's classes differ; and in proper form, within the limits and every step proper, they are given exactly when demand 3 accepts the leaf.
 use Prim.Native.Nat.{ℕ, _+_, _≤_}
 use native.Mathlib.Omega.{arith}
-use mathlib.Core.Path.{_≡_, refl, sym, _∙_, ap, ap₂, subst}
+use mathlib.Core.Path.{_≡_, sym, _∙_, ap, ap₂, subst}
 use mathlib.Core.Bool.{true, false}
 use mathlib.Core.Option.{some}
 use mathlib.Core.List.{List, [], _∷_, _++_}
@@ -9,16 +9,15 @@ use lib.ListN.{length, getD, take}
 use lib.IntN.{ℤ}
 use Rattle.lists.proofs.Every.{every-take}
 use Rattle.calculus.specs.Limits.{answerBytes, valueLimit, factLimit}
-use Rattle.calculus.specs.Facts.{Question, Fact, Branch}
+use Rattle.calculus.specs.Facts.{Question, Fact, Branch, columnCount}
 use Rattle.calculus.specs.Steps.{Step}
 use Rattle.calculus.specs.Walk.{working}
-use Rattle.calculus.specs.Meaning.{Assignment, Met}
-use Rattle.calculus.proofs.Sound.{met-left}
+use Rattle.calculus.specs.Meaning.{Assignment, Met, Meets}
+use Rattle.lists.proofs.Lists.{all-left}
 use Rattle.calculus.proofs.Walks.{Followed, followed→path, path→followed, leaf-in-range}
-use Rattle.format.specs.Fields.{within}
+use Rattle.format.specs.Fields.{within, allWithin}
 use Rattle.format.specs.Records.{next, records}
-use Rattle.format.specs.Question.{columnCount}
-use Rattle.format.specs.Answer.{encode, allWithin}
+use Rattle.format.specs.Answer.{encode}
 use Rattle.format.specs.Reading.{State, taking, modelled, modelAt}
 use Rattle.format.specs.Checking.{Strings, verdict, checker, leafFault, accepted, answerOf}
 use Rattle.format.specs.ProperForm.{former, ProperStrings, takenSteps}
@@ -43,10 +42,10 @@ model-size : {b : List ℕ} {u : Question} {m : List ℤ} → Holding b u false 
 model-size {b} {u} h = ap length (model-is h) ∙ length-i32s b (getD (behindClaim (h .claimed)) (length (takenSteps b)) 0 + 6) (columnCount u)
 
 -- the integers lie within ±100,000,000
-integers-within : {b : List ℕ} {u : Question} {m : List ℤ} → Holding b u false (some m) → allWithin (take (u .q) m) ≡ true
+integers-within : {b : List ℕ} {u : Question} {m : List ℤ} → Holding b u false (some m) → allWithin valueLimit (take (u .q) m) ≡ true
 unfolding allWithin
 integers-within {b} {u} {m} h =
-    every-take (within valueLimit) allWithin refl (λ z zs. refl) m (u .q) (formed-within b u (childFits u false) (behindClaim (h .claimed)) (takenSteps b) m (h .formed))
+    every-take (within valueLimit) m (u .q) (formed-within b u (childFits u false) (behindClaim (h .claimed)) (takenSteps b) m (h .formed))
 
 one-model : {b : List ℕ} {u : Question} {m v : List ℤ} → Holding b u false (some m) → Holding b u false (some v) → m ≡ v
 one-model {b} {u} h g =
@@ -100,7 +99,7 @@ accepted→given work answer b out e =
 met-before : (u : Question) (a : Assignment) (b leaf : Branch) (ts : List (Step × ℕ)) → Followed u b ts leaf → Met u a leaf → Met u a b
 unfolding Followed
 met-before u a b leaf [] h m = subst (Met u a) (sym h) m
-met-before u a b leaf (t ∷ ts) (c, _, h) m = met-left u a b c (met-before u a (b ++ c) leaf ts h m)
+met-before u a b leaf (t ∷ ts) (c, _, h) m = all-left (Meets u a) b c (met-before u a (b ++ c) leaf ts h m)
 
 pub strings-hold : TH-5
 strings-hold work answer t out e =

@@ -1,5 +1,5 @@
 -- The answer: "one record of kind 9 for each string variable (its characters, u32 each, 0 to 64), one of kind 10 (q i32 values), one of kind 8".
-use Prim.Native.Nat.{ℕ, zero, suc, _+_, _*_, _/_, _%_}
+use Prim.Native.Nat.{ℕ, zero, suc, _+_, _*_, _%_}
 use mathlib.Core.Bool.{Bool, true, false, _&&_}
 use mathlib.Core.Option.{Option, none, some}
 use mathlib.Core.List.{List, [], _∷_, _++_}
@@ -10,9 +10,9 @@ use Rattle.calculus.specs.Facts.{Question}
 use Rattle.calculus.specs.Alphabet.{allCharacters}
 use Rattle.calculus.specs.Meaning.{Assignment}
 use Rattle.calculus.specs.Limits.{lengthLimit, valueLimit}
-use Rattle.format.specs.Fields.{bytesOf, unsigned, u32s, i32s, within}
+use Rattle.format.specs.Fields.{bytesOf, unsigned, i32s, allWithin}
 use Rattle.format.specs.Records.{size, kind, next, whole}
-use Rattle.format.specs.Places.{skip}
+use Rattle.format.specs.Places.{skip, textAt, texts}
 
 -- ---- strings and integers as bytes
 
@@ -44,25 +44,14 @@ answerForm b zero q at =
 answerForm b (suc p) q at =
     whole b at && (eqb (kind b at) 9 && (eqb (size b at % 4) 0 && (leb (size b at) (4 * lengthLimit) && answerForm b p q (next b at))))
 
-abbrev pub stringAt : List ℕ → ℕ → List ℕ
-stringAt b at = u32s b (at + 6) (size b at / 4)
-
 abbrev pub integersAt : List ℕ → ℕ → ℕ → List ℤ
 integersAt b q at = i32s b (at + 6) q
 
-unfoldable pub stringsAt : List ℕ → ℕ → ℕ → List (List ℕ)
-stringsAt b zero at = []
-stringsAt b (suc p) at = stringAt b at ∷ stringsAt b p (next b at)
-
 abbrev pub assignmentOf : List ℕ → Question → Assignment
-assignmentOf b u = record { strs = stringsAt b (u .p) 0; ints = integersAt b (u .q) (skip b (u .p) 0) }
-
-unfoldable pub allWithin : List ℤ → Bool
-allWithin [] = true
-allWithin (z ∷ zs) = within valueLimit z && allWithin zs
+assignmentOf b u = record { strs = texts b (u .p) 0; ints = integersAt b (u .q) (skip b (u .p) 0) }
 
 -- "16 (the answer's first such record) when a character is not below n or an integer is outside ±100,000,000":
 -- that record, from record r at a position on, where p of strings and one of integers are left
 unfoldable pub outside : List ℕ → Question → ℕ → ℕ → ℕ → Option ℕ
-outside b u zero r at = elim (allWithin (integersAt b (u .q) at)) [ true ↦ none | false ↦ some r ]
-outside b u (suc p) r at = elim (allCharacters (u .n) (stringAt b at)) [ true ↦ outside b u p (suc r) (next b at) | false ↦ some r ]
+outside b u zero r at = elim (allWithin valueLimit (integersAt b (u .q) at)) [ true ↦ none | false ↦ some r ]
+outside b u (suc p) r at = elim (allCharacters (u .n) (textAt b at)) [ true ↦ outside b u p (suc r) (next b at) | false ↦ some r ]

@@ -72,10 +72,6 @@ abbrev pub Holds : Case → Type 0
 Holds (checking rs o) = verdict workNumbers answerBytes (ticket rs) ≡ o
 Holds (adding u b st f) = children u b st ≡ some ((f ∷ []) ∷ [])
 
-abbrev pub AllHold : List Case → Type 0
-AllHold [] = Unit {0}
-AllHold (c ∷ cs) = Holds c × AllHold cs
-
 -- one integer variable a, in column 0
 abbrev pub oneInteger : Question
 oneInteger = record { n = 1; p = 0; q = 1; literals = []; constraints = [] }

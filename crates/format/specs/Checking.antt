@@ -1,22 +1,24 @@
 -- Checking: "Checking names the first faulty record from 0 (0 for 1 and 2), and there the first of" the numbers 1 to 14.
 use Prim.Native.Nat.{ℕ, _+_}
 use mathlib.Core.Bool.{Bool, true, false, _&&_, _||_}
-use mathlib.Core.Option.{Option, none, some}
-use mathlib.Core.List.{List, [], _∷_, _++_}
+use mathlib.Core.Option.{Option, none, some, Option·getD}
+use mathlib.Core.List.{List, [], _++_}
 use lib.ListN.{length, take}
 use lib.Dec.{ltb, leb}
 use lib.IntN.{ℤ, natAbs}
+use Rattle.lists.specs.Lists.{all, allBelow}
+use Rattle.calculus.specs.Rows.{valueIn}
 use Rattle.calculus.specs.Limits.{workNumbers, answerBytes, lengthLimit, numberLimit, factLimit, pendingLimit}
 use Rattle.calculus.specs.Facts.{Question, Fact, same, apart, isLiteral, arithmetic, Branch, holds, len}
 use Rattle.calculus.specs.Children.{childAt}
 use Rattle.calculus.specs.Rules as rules
 use Rattle.calculus.specs.Steps.{Step}
 use Rattle.calculus.specs.Walk.{working, closed}
-use Rattle.calculus.specs.Model.{modelOf, valueIn}
-use Rattle.calculus.specs.SaturationTest.{saturated, every}
+use Rattle.calculus.specs.Model.{modelOf}
+use Rattle.calculus.specs.SaturationTest.{saturated}
 use Rattle.calculus.specs.Strings.{strings}
 use Rattle.calculus.specs.Meaning.{Assignment}
-use Rattle.format.specs.Fields.{within}
+use Rattle.format.specs.Fields.{allWithin}
 use Rattle.format.specs.Records.{need}
 use Rattle.format.specs.Question.{question}
 use Rattle.format.specs.Reading.{State, proving, taking, modelled, Method, Ticket, Faulty, Done, readBehind}
@@ -29,35 +31,27 @@ fits none = false
 fits (some a) = true
 
 abbrev pub orNone : {A : Type 0} → Option (List A) → List A
-orNone none = []
-orNone (some as') = as'
+orNone o = Option·getD o []
 
 -- "9 when a new number passes the limit"
-unfoldable pub rowWithin : List ℤ → Bool
-rowWithin [] = true
-rowWithin (z ∷ zs) = within numberLimit z && rowWithin zs
-
 abbrev pub factWithin : Fact → Bool
 factWithin (same x y) = true
 factWithin (apart x y) = true
 factWithin (isLiteral x l) = true
-factWithin (arithmetic r e) = rowWithin e
+factWithin (arithmetic r e) = allWithin numberLimit e
 
 unfoldable pub factsWithin : List Fact → Bool
-factsWithin [] = true
-factsWithin (f ∷ fs) = factWithin f && factsWithin fs
+factsWithin fs = all factWithin fs
 
 unfoldable pub childrenWithin : List (List Fact) → Bool
-childrenWithin [] = true
-childrenWithin (c ∷ cs) = factsWithin c && childrenWithin cs
+childrenWithin cs = all factsWithin cs
 
 -- "10 when facts or pending splits would pass theirs"
 abbrev pub room : ℕ → List Fact → Bool
 room k c = leb (k + length c) factLimit
 
 unfoldable pub roomForAll : ℕ → List (List Fact) → Bool
-roomForAll k [] = true
-roomForAll k (c ∷ cs) = room k c && roomForAll k cs
+roomForAll k cs = all (room k) cs
 
 -- a split with two or more children is pending
 abbrev pub roomToPend : ℕ → List (List Fact) → Bool
@@ -87,12 +81,11 @@ keepsFact m (isLiteral x l) = true
 keepsFact m (arithmetic r e) = holds r (valueIn m e)
 
 unfoldable pub keeps : List ℤ → Branch → Bool
-keeps m [] = true
-keeps m (f ∷ b) = keepsFact m f && keeps m b
+keeps m b = all (keepsFact m) b
 
 -- "14 when a length passes 64"; a negative length is 13 before
 abbrev pub shortLengths : Question → List ℤ → Bool
-shortLengths u m = every (u .p) (λ x. leb (natAbs (modelOf u m len x)) lengthLimit)
+shortLengths u m = allBelow (u .p) (λ x. leb (natAbs (modelOf u m len x)) lengthLimit)
 
 -- "at the model, 12 when it breaks an arithmetic fact, 13 when the leaf is not settled, 14 when a length passes 64"
 abbrev pub leafFault : Question → Branch → List ℤ → ℕ

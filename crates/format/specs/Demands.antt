@@ -2,7 +2,7 @@
 -- the definitions, for every byte list.
 use Prim.Native.Nat.{ℕ, _<_, _≤_}
 use mathlib.Core.Path.{_≡_}
-use mathlib.Core.Bool.{true}
+use mathlib.Core.Bool.{true, cond}
 use mathlib.Core.Logic.{_≢_}
 use mathlib.Core.Option.{some}
 use mathlib.Core.List.{List, [], _++_}
@@ -15,7 +15,6 @@ use Rattle.calculus.specs.Chains.{OneClass}
 use Rattle.calculus.specs.Derivations.{Closes, WithinLimits, Path, PathWithinLimits}
 use Rattle.calculus.specs.Saturation.{AcceptedLeaf}
 use Rattle.calculus.specs.Meaning.{Assignment, str, For, Meets, Met}
-use Rattle.format.specs.Fields.{pick}
 use Rattle.format.specs.Question.{questionOf}
 use Rattle.format.specs.Answer.{encode, assignmentOf}
 use Rattle.format.specs.Checking.{Outcome, Refused, NoSolution, Strings, large, verdict}
@@ -35,7 +34,7 @@ written (Strings s) = s
 
 -- "The whole work area, numbers past 6,400 too, is zero after every call, except that 1 does not touch it"
 abbrev pub workAfter : Outcome → List ℤ → List ℤ
-workAfter (Refused c r) w = pick (eqb c 1) w (replicate (length w) (pos 0))
+workAfter (Refused c r) w = cond (eqb c 1) w (replicate (length w) (pos 0))
 workAfter NoSolution w = replicate (length w) (pos 0)
 workAfter (Strings s) w = replicate (length w) (pos 0)
 

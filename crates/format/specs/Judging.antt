@@ -1,9 +1,10 @@
 -- Judging: "takes a question .. and an answer: 2 to 7 and 10 for the question, then 15 .., 16 ... Otherwise it says all met, or the number of a constraint that is not met".
 use Prim.Native.Nat.{ℕ}
 use mathlib.Core.Path.{_≡_}
-use mathlib.Core.Bool.{Bool, true, false, not, _&&_}
+use mathlib.Core.Bool.{Bool, true, false, not}
 use mathlib.Core.Option.{none, some}
-use mathlib.Core.List.{List, [], _∷_}
+use mathlib.Core.List.{List}
+use Rattle.lists.specs.Lists.{all}
 use lib.ListN.{getElem?}
 use lib.Dec.{leb}
 use Rattle.calculus.specs.Facts.{Question, Fact, same, apart, isLiteral, arithmetic, Branch, holds, literal}
@@ -42,8 +43,7 @@ meets u a (isLiteral x l) = eqString (str a x) (literal u l)
 meets u a (arithmetic r e) = holds r (value a e)
 
 unfoldable pub meetsAll : Question → Assignment → Branch → Bool
-meetsAll u a [] = true
-meetsAll u a (f ∷ b) = meets u a f && meetsAll u a b
+meetsAll u a b = all (meets u a) b
 
 -- ---- what judging says
 

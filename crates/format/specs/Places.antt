@@ -1,24 +1,28 @@
--- A question by position: the literals' texts and the constraints in the records where they stand.
-use Prim.Native.Nat.{ℕ, zero, suc, _+_}
-use mathlib.Core.List.{List, [], _∷_}
+-- A question by position: the literals' texts and the constraints in the records where they stand. An answer's strings stand as texts too.
+use Prim.Native.Nat.{ℕ, _+_}
+use mathlib.Core.List.{List}
+use Rattle.lists.specs.Lists.{onward, along}
 use Rattle.calculus.specs.Facts.{Fact}
 use Rattle.format.specs.Records.{size, kind, next}
 use Rattle.format.specs.Question.{Progress, textOf, constraintOf}
 
 -- the position behind k records
 unfoldable pub skip : List ℕ → ℕ → ℕ → ℕ
-skip b zero at = at
-skip b (suc k) at = skip b k (next b at)
+skip b k at = onward (next b) at k
 
--- the texts of k records, the first at a position
+-- the text and the constraint of the record at a position
+abbrev pub textAt : List ℕ → ℕ → List ℕ
+textAt b at = textOf b (at + 6) (size b at)
+
+abbrev pub constraintAt : List ℕ → ℕ → Fact
+constraintAt b at = constraintOf b (kind b at) (at + 6) (size b at)
+
+-- those of k records one after another, the first at a position
 unfoldable pub texts : List ℕ → ℕ → ℕ → List (List ℕ)
-texts b zero at = []
-texts b (suc k) at = textOf b (at + 6) (size b at) ∷ texts b k (next b at)
+texts b k at = along (next b) (textAt b) at k
 
--- the constraints of k records, the first at a position
 unfoldable pub constraintsAt : List ℕ → ℕ → ℕ → List Fact
-constraintsAt b zero at = []
-constraintsAt b (suc k) at = constraintOf b (kind b at) (at + 6) (size b at) ∷ constraintsAt b k (next b at)
+constraintsAt b k at = along (next b) (constraintAt b) at k
 
 -- the first literal stands behind the head, at position 14
 abbrev pub literalsFrom : ℕ

@@ -1,17 +1,17 @@
 -- The question: "Kinds 1 to 4 are the question". It is read until the six leading bytes of the first claim or end record.
 use Prim.Native.Nat.{ℕ, zero, suc, _+_, _*_, _-_, _/_, _%_}
-use mathlib.Core.Bool.{Bool, true, false, not, _&&_, _||_}
+use mathlib.Core.Bool.{Bool, true, false, cond, not, _&&_, _||_}
 use mathlib.Core.Option.{Option, none, some}
 use mathlib.Core.List.{List, [], _∷_, _++_}
 use lib.ListN.{length, set}
 use lib.Dec.{ltb, leb, eqb}
 use lib.IntN.{ℤ, natAbs}
 use Rattle.calculus.specs.Rows.{zeros}
-use Rattle.calculus.specs.Facts.{Question, Fact, same, apart, isLiteral, arithmetic, Relation, ge, eq, ne}
+use Rattle.calculus.specs.Facts.{Question, Fact, same, apart, isLiteral, arithmetic, Relation, ge, eq, ne, blank, columnCount}
 use Rattle.calculus.specs.Alphabet.{allCharacters}
 use Rattle.calculus.specs.Strings.{given}
 use Rattle.calculus.specs.Limits.{ticketBytes, alphabetLimit, variableLimit, literalLimit, lengthLimit, columnLimit, numberLimit, factLimit}
-use Rattle.format.specs.Fields.{pick, u16, u32, i32, u32s, pairsAt, within}
+use Rattle.format.specs.Fields.{u16, u32, i32, u32s, pairsAt, within}
 use Rattle.format.specs.Records.{size, kind, whole, records, need}
 
 -- what was read so far: the kind of the last record, 0 before the head, and the question
@@ -20,7 +20,7 @@ pub record Progress : Type 0 where
   pub question : Question
 
 abbrev pub fresh : Progress
-fresh = record { last = 0; question = record { n = 0; p = 0; q = 0; literals = []; constraints = [] } }
+fresh = record { last = 0; question = blank 0 0 0 }
 
 abbrev pub withLiteral : Question → List ℕ → Question
 withLiteral u s = record { n = u .n; p = u .p; q = u .q; literals = u .literals ++ (s ∷ []); constraints = u .constraints }
@@ -38,7 +38,7 @@ abbrev pub headFault : List ℕ → ℕ → ℕ → ℕ
 headFault b at m = need 5 (eqb m 8) (need 6 (headRange b at) 0)
 
 abbrev pub headOf : List ℕ → ℕ → Question
-headOf b at = record { n = u32 b at; p = u16 b (at + 4); q = u16 b (at + 6); literals = []; constraints = [] }
+headOf b at = blank (u32 b at) (u16 b (at + 4)) (u16 b (at + 6))
 
 -- "2 literal, 0 to 15 of them: 1 to 64 characters, u32 each, below n"; "7 when a literal repeats"
 abbrev pub textOf : List ℕ → ℕ → ℕ → List ℕ
@@ -53,7 +53,7 @@ literalFault b n ls at m =
 -- "3 string constraint: u16 relation, u16 a, u16 b. Relation 0 is variable a ≈ variable b, 1 is a ≉ b, 2 is variable a ≈ literal b":
 -- over p string variables and k literals besides the empty one
 abbrev pub stringRange : ℕ → ℕ → ℕ → ℕ → ℕ → Bool
-stringRange p k r x y = leb r 2 && (ltb x p && pick (eqb r 2) (leb y k) (ltb y p))
+stringRange p k r x y = leb r 2 && (ltb x p && cond (eqb r 2) (leb y k) (ltb y p))
 
 abbrev pub stringFact : ℕ → ℕ → ℕ → Fact
 stringFact zero x y = same x y
@@ -62,10 +62,6 @@ stringFact (suc (suc r)) x y = isLiteral x y
 
 abbrev pub stringFault : List ℕ → ℕ → ℕ → ℕ → ℕ → ℕ
 stringFault b p k at m = need 5 (eqb m 6) (need 6 (stringRange p k (u16 b at) (u16 b (at + 2)) (u16 b (at + 4))) 0)
-
--- "Columns: the q integer variables, then len of each string variable, then code of each"
-abbrev pub columnCount : Question → ℕ
-columnCount u = u .q + (u .p + u .p)
 
 -- "pairs of u16 column and nonzero i32 coefficient, columns rising strictly": the first column at least low, all below c
 abbrev pub coefficientInRange : ℤ → Bool
@@ -101,7 +97,7 @@ arithmeticFault b c at m =
     (need 6 (leb (u16 b at) 2 && formRange b c (at + 2) (m / 6 - 1)) 0)
 
 abbrev pub constraintOf : List ℕ → ℕ → ℕ → ℕ → Fact
-constraintOf b k at m = pick (eqb k 3) (stringFact (u16 b at) (u16 b (at + 2)) (u16 b (at + 4))) (arithmetic (relationOf (u16 b at)) (formOf b (at + 2) (m / 6 - 1)))
+constraintOf b k at m = cond (eqb k 3) (stringFact (u16 b at) (u16 b (at + 2)) (u16 b (at + 4))) (arithmetic (relationOf (u16 b at)) (formOf b (at + 2) (m / 6 - 1)))
 
 -- ---- one record
 
@@ -109,7 +105,7 @@ constraintOf b k at m = pick (eqb k 3) (stringFact (u16 b at) (u16 b (at + 2)) (
 -- and so many literals
 abbrev pub kindInPlace : ℕ → ℕ → ℕ → Bool
 kindInPlace last literals k =
-    pick (eqb k 1) (eqb last 0) (leb 1 last && (leb 2 k && (leb last k && (leb k 4 && (not (eqb k 2) || ltb literals literalLimit)))))
+    cond (eqb k 1) (eqb last 0) (leb 1 last && (leb 2 k && (leb last k && (leb k 4 && (not (eqb k 2) || ltb literals literalLimit)))))
 
 abbrev pub inPlace : Progress → ℕ → Bool
 inPlace s k = kindInPlace (s .last) (length (s .question .literals)) k
@@ -117,9 +113,9 @@ inPlace s k = kindInPlace (s .last) (length (s .question .literals)) k
 -- the first of 5 to 7 that applies to a body of kind k, of m bytes at a position
 abbrev pub bodyFault : List ℕ → Question → ℕ → ℕ → ℕ → ℕ
 bodyFault b u k at m =
-    pick (eqb k 1) (headFault b at m)
-    (pick (eqb k 2) (literalFault b (u .n) (u .literals) at m)
-    (pick (eqb k 3) (stringFault b (u .p) (length (u .literals)) at m) (arithmeticFault b (columnCount u) at m)))
+    cond (eqb k 1) (headFault b at m)
+    (cond (eqb k 2) (literalFault b (u .n) (u .literals) at m)
+    (cond (eqb k 3) (stringFault b (u .p) (length (u .literals)) at m) (arithmeticFault b (columnCount u) at m)))
 
 -- the first of 3 to 7 that applies to the record at a position, 0 for none
 unfoldable pub formFault : List ℕ → Progress → ℕ → ℕ
@@ -141,7 +137,7 @@ fault b s at = orCrowded (formFault b s at) (roomFor (s .question) (kind b at))
 -- the question after a record of kind k that has no fault
 abbrev pub extended : List ℕ → Question → ℕ → ℕ → ℕ → Question
 extended b u k at m =
-    pick (eqb k 1) (headOf b at) (pick (eqb k 2) (withLiteral u (textOf b at m)) (withFact u (constraintOf b k at m)))
+    cond (eqb k 1) (headOf b at) (cond (eqb k 2) (withLiteral u (textOf b at m)) (withFact u (constraintOf b k at m)))
 
 unfoldable pub advanced : List ℕ → Progress → ℕ → Progress
 advanced b s at = record { last = kind b at; question = extended b (s .question) (kind b at) (at + 6) (size b at) }
@@ -181,7 +177,7 @@ questionForm b = readBy formFault b
 
 abbrev pub asked : Reading → Option Question
 asked (Stopped c r) = none
-asked (Ended s at r) = pick (leb 1 (s .last)) (some (s .question)) none
+asked (Ended s at r) = cond (leb 1 (s .last)) (some (s .question)) none
 
 -- the question that bytes put: none without a head
 abbrev pub questionOf : List ℕ → Option Question

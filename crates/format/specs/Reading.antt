@@ -1,19 +1,19 @@
 -- Reading behind the question: the claim, the steps, the model and the end, record by record, whatever a step is taken for.
 -- Checking takes steps as facts, proper form as their shapes.
 use Prim.Native.Nat.{ℕ, zero, suc, _+_, _*_}
-use mathlib.Core.Bool.{Bool, true, false, _&&_}
+use mathlib.Core.Bool.{Bool, true, false, cond, _&&_}
 use mathlib.Core.List.{List, [], _∷_}
 use lib.ListN.{length}
 use lib.Dec.{leb, eqb}
 use lib.IntN.{ℤ}
-use Rattle.calculus.specs.Facts.{Question}
+use Rattle.calculus.specs.Limits.{valueLimit}
+use Rattle.calculus.specs.Facts.{Question, columnCount}
 use Rattle.calculus.specs.Steps.{Step}
 use Rattle.calculus.specs.Walk.{Waiting, Walk, working, closed, enter}
-use Rattle.format.specs.Fields.{pick, u16, i32s}
+use Rattle.format.specs.Fields.{u16, i32s, allWithin}
 use Rattle.format.specs.Records.{size, kind, next, whole, records, need}
-use Rattle.format.specs.Question.{Progress, columnCount, Reading, Stopped, Ended}
+use Rattle.format.specs.Question.{Progress, Reading, Stopped, Ended}
 use Rattle.format.specs.StepForms.{rule, child, lengthFits, operandsInRange, stepAt, childInRange}
-use Rattle.format.specs.Answer.{allWithin}
 
 -- what stands behind the claim: the walk under claim 1; the branch under claim 2; the leaf and its model.
 -- B is a branch, C a child.
@@ -53,14 +53,14 @@ abbrev pub modelAt : List ℕ → Question → ℕ → List ℤ
 modelAt b u at = i32s b at (columnCount u)
 
 abbrev pub modelFault : List ℕ → Question → ℕ → ℕ → ℕ → ℕ
-modelFault b u later at m = need 5 (eqb m (4 * columnCount u)) (need 6 (allWithin (modelAt b u at)) later)
+modelFault b u later at m = need 5 (eqb m (4 * columnCount u)) (need 6 (allWithin valueLimit (modelAt b u at)) later)
 
 -- "Under claim 1 the child field is 0", "Under claim 2 it is the child taken"; "a step follows the last closed branch"
 abbrev pub bodyFault : {B C : Type 0} → Method B C → List ℕ → Question → State B C → ℕ → ℕ → ℕ → ℕ
 bodyFault w b u (proving (working br ss)) k at m = need 4 (eqb k 6) (stepFault b u (eqb (child b at) 0) (w .splitFault br ss (stepAt b at m)) at m)
 bodyFault w b u (proving closed) k at m = 4
 bodyFault w b u (taking br) k at m =
-    pick (eqb k 6) (stepFault b u (childInRange (u .n) (stepAt b at m) (child b at)) (w .takenFault br (stepAt b at m) (child b at)) at m)
+    cond (eqb k 6) (stepFault b u (childInRange (u .n) (stepAt b at m) (child b at)) (w .takenFault br (stepAt b at m) (child b at)) at m)
     (need 4 (eqb k 7) (modelFault b u (w .leafFault br (modelAt b u at)) at m))
 bodyFault w b u (modelled br v) k at m = 4
 
@@ -70,14 +70,14 @@ lastFault w b s at = need 4 (eqb (next b at) (length b)) (need 5 (eqb (size b at
 
 -- the first number that applies to the record at a position, 0 for none
 unfoldable pub fault : {B C : Type 0} → Method B C → List ℕ → Question → State B C → ℕ → ℕ
-fault w b u s at = need 3 (whole b at) (pick (eqb (kind b at) 8) (lastFault w b s at) (bodyFault w b u s (kind b at) (at + 6) (size b at)))
+fault w b u s at = need 3 (whole b at) (cond (eqb (kind b at) 8) (lastFault w b s at) (bodyFault w b u s (kind b at) (at + 6) (size b at)))
 
 -- the state after a record without fault
 unfoldable pub advanced : {B C : Type 0} → Method B C → List ℕ → Question → State B C → ℕ → State B C
 advanced w b u (proving (working br ss)) at = proving (enter (w .add) br (w .children br (stepAt b (at + 6) (size b at))) ss)
 advanced w b u (proving closed) at = proving closed
 advanced w b u (taking br) at =
-    pick (eqb (kind b at) 6) (taking (w .taken br (stepAt b (at + 6) (size b at)) (child b (at + 6)))) (modelled br (modelAt b u (at + 6)))
+    cond (eqb (kind b at) 6) (taking (w .taken br (stepAt b (at + 6) (size b at)) (child b (at + 6)))) (modelled br (modelAt b u (at + 6)))
 advanced w b u (modelled br v) at = modelled br v
 
 -- ---- the records behind the claim
@@ -106,7 +106,7 @@ claimFault b s at =
     need 3 (whole b at) (need 4 (leb 1 (s .last) && eqb (kind b at) 5) (need 5 (eqb (size b at) 2) (need 6 (leb 1 (claimAt b at) && leb (claimAt b at) 2) 0)))
 
 abbrev pub begin : {B C : Type 0} → Method B C → ℕ → State B C
-begin w claim = pick (eqb claim 1) (proving (working (w .root) [])) (taking (w .root))
+begin w claim = cond (eqb claim 1) (proving (working (w .root) [])) (taking (w .root))
 
 -- behind the question, at the claim's position and record
 abbrev pub readClaim : {B C : Type 0} → (Question → Method B C) → List ℕ → Progress → ℕ → ℕ → Ticket B C

@@ -2,6 +2,7 @@
 use Prim.Native.Nat.{ℕ, zero, suc, _+_, _-_, _/_, _%_}
 use mathlib.Core.Bool.{Bool, true, false, _&&_}
 use mathlib.Core.List.{List, [], _∷_}
+use Rattle.lists.specs.Lists.{all}
 use lib.ListN.{length, getD}
 use lib.Dec.{ltb, leb, eqb}
 use lib.IntN.{ℤ}
@@ -82,8 +83,7 @@ sumPairs b at m = pairsAt b (at + 8) ((m - 8) / 6)
 
 -- "Coefficients, constants and multipliers lie within ±1,000,000,000"
 unfoldable pub multipliersWithin : List (ℕ × ℤ) → Bool
-multipliersWithin [] = true
-multipliersWithin (t ∷ ts) = within numberLimit (t .1) && multipliersWithin ts
+multipliersWithin ts = all (λ t. within numberLimit (t .1)) ts
 
 -- Branch: "form e, written as in kind 4 without relation"
 abbrev pub splitPairs : ℕ → ℕ
@@ -97,9 +97,9 @@ abbrev pub functionOf : ℕ → Function
 functionOf zero = len
 functionOf (suc f) = code
 
-abbrev pub allBelow : ℕ → List ℕ → Bool
-allBelow p [] = true
-allBelow p (x ∷ xs) = ltb x p && allBelow p xs
+-- each is the number of a string variable
+abbrev pub variables : ℕ → List ℕ → Bool
+variables p xs = all (λ x. ltb x p) xs
 
 -- the fields of a step are in their ranges, over p string variables and c columns; for an unknown rule they are not.
 -- "i32 divisor of at least 1": a u32 of 1 to 2,147,483,647. A fact's number has no range.
@@ -109,13 +109,13 @@ operandsInRange b p c branch at m = formRange b c (at + 4) (splitPairs m)
 operandsInRange b p c apart at m = true
 operandsInRange b p c aConf at m = true
 operandsInRange b p c sConf at m = true
-operandsInRange b p c sProp at m = leb (u16 b (at + 4)) 1 && allBelow p (u16 b (at + 6) ∷ u16 b (at + 8) ∷ [])
-operandsInRange b p c lIntro at m = allBelow p (u16 b (at + 4) ∷ [])
-operandsInRange b p c lValid at m = allBelow p (u16 b (at + 4) ∷ [])
-operandsInRange b p c cCollapse at m = allBelow p (u16 b (at + 4) ∷ [])
-operandsInRange b p c cValid at m = allBelow p (u16 b (at + 4) ∷ [])
-operandsInRange b p c cInj at m = allBelow p (u16 b (at + 4) ∷ u16 b (at + 6) ∷ [])
-operandsInRange b p c card at m = allBelow p (cardVariables b at m)
+operandsInRange b p c sProp at m = leb (u16 b (at + 4)) 1 && variables p (u16 b (at + 6) ∷ u16 b (at + 8) ∷ [])
+operandsInRange b p c lIntro at m = variables p (u16 b (at + 4) ∷ [])
+operandsInRange b p c lValid at m = variables p (u16 b (at + 4) ∷ [])
+operandsInRange b p c cCollapse at m = variables p (u16 b (at + 4) ∷ [])
+operandsInRange b p c cValid at m = variables p (u16 b (at + 4) ∷ [])
+operandsInRange b p c cInj at m = variables p (u16 b (at + 4) ∷ u16 b (at + 6) ∷ [])
+operandsInRange b p c card at m = variables p (cardVariables b at m)
 operandsInRange b p c join at m = true
 operandsInRange b p c unknown at m = false
 

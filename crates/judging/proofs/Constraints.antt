@@ -2,7 +2,7 @@
 use Prim.Native.Nat.{ℕ, suc, _+_, _-_, _/_, _%_, _≤_, _<_}
 use native.Mathlib.Omega.{arith}
 use mathlib.Core.Path.{_≡_, sym, _∙_, ap, subst}
-use mathlib.Core.Bool.{Bool, true, not, _&&_}
+use mathlib.Core.Bool.{Bool, true, not, _&&_, cond}
 use mathlib.Core.List.{List}
 use lib.ListN.{length, getD}
 use lib.Dec.{ltb, leb, eqb}
@@ -11,19 +11,18 @@ use Rattle.calculus.specs.Limits.{columnLimit}
 use Rattle.calculus.specs.Facts.{Question, literal}
 use Rattle.calculus.specs.Meaning.{Assignment, str}
 use Rattle.calculus.specs.Strings.{eqString}
-use Rattle.format.specs.Fields.{pick, u16}
+use Rattle.format.specs.Fields.{u16}
 use Rattle.format.specs.Records.{need, next}
 use Rattle.format.specs.Question.{stringRange, stringFact, stringFault, arithmeticFault, formRange}
 use Rattle.format.specs.Judging.{meets}
-use Rattle.format.specs.Places.{skip, literalsFrom}
-use Rattle.format.specs.Answer.{stringAt}
+use Rattle.format.specs.Places.{skip, literalsFrom, textAt}
 use Rattle.format.proofs.Faults.{none-applies, and-true}
 use Rattle.question.specs.declared.Progress.{Progress}
 use Rattle.question.specs.Posed.{asked}
 use Rattle.question.proofs.Standing.{literals-within}
 use Rattle.answer.proofs.Read.{text-there}
-use Rattle.answer.proofs.Columns.{string-at}
-use Rattle.judging.specs.Ready.{given, Texts}
+use Rattle.format.proofs.Places.{text-at}
+use Rattle.judging.specs.Ready.{valuesOf, Texts}
 
 -- ---- string constraints
 
@@ -39,12 +38,12 @@ string-ranges b p k at e =
     let r : ℕ = u16 b at in
     let x : ℕ = u16 b (at + 2) in
     let y : ℕ = u16 b (at + 4) in
-    let (s, t) = and-true (leb r 2) (ltb x p && pick (eqb r 2) (leb y k) (ltb y p)) (none-applies 5 (stringRange p k r x y) 0 e .0) in
-    let (f, g) = and-true (ltb x p) (pick (eqb r 2) (leb y k) (ltb y p)) t in
+    let (s, t) = and-true (leb r 2) (ltb x p && cond (eqb r 2) (leb y k) (ltb y p)) (none-applies 5 (stringRange p k r x y) 0 e .0) in
+    let (f, g) = and-true (ltb x p) (cond (eqb r 2) (leb y k) (ltb y p)) t in
     record {
       first = ltb-true x p f;
-      second = λ h. ltb-true y p (ap (λ (z : Bool). pick z (leb y k) (ltb y p)) (sym (ne-eqb r 2 h)) ∙ g);
-      literal = λ h. leb-true y k (ap (λ (z : Bool). pick z (leb y k) (ltb y p)) (sym (eq-eqb r 2 h)) ∙ g);
+      second = λ h. ltb-true y p (ap (λ (z : Bool). cond z (leb y k) (ltb y p)) (sym (ne-eqb r 2 h)) ∙ g);
+      literal = λ h. leb-true y k (ap (λ (z : Bool). cond z (leb y k) (ltb y p)) (sym (eq-eqb r 2 h)) ∙ g);
       relation = leb-true r 2 s;
     }
 
@@ -86,9 +85,9 @@ module _ (b v : List ℕ) (s : Progress) (places : List ℕ) (t : Texts b v s pl
   pub text-room : (x : ℕ) → x < s .p → next v (getD places x 0) ≤ length v
   text-room x h = subst (λ (k : ℕ). next v k ≤ length v) (sym (t .placed x (omega arith))) (text-there v (s .p) (s .q) (t .formed) x h)
 
-  pub text-is : (x : ℕ) → x < s .p → stringAt v (getD places x 0) ≡ str (given b v s) x
+  pub text-is : (x : ℕ) → x < s .p → textAt v (getD places x 0) ≡ str (valuesOf b v s) x
   unfolding asked
-  text-is x h = ap (stringAt v) (t .placed x (omega arith)) ∙ sym (string-at v (s .p) 0 x h)
+  text-is x h = ap (textAt v) (t .placed x (omega arith)) ∙ sym (text-at v x (s .p) 0 h)
 
   pub literal-room : (l : ℕ) → l ≤ s .literals → skip b l literalsFrom ≤ length b
-  literal-room l h = literals-within b s (t .behind .ends) l (t .behind .stands) (t .behind .headed) h
+  literal-room l h = literals-within b s (t .posed .to) l (t .posed .stands) (t .posed .head) h

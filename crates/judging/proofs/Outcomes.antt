@@ -12,9 +12,6 @@ use Rattle.format.specs.Question.{Progress, Reading, Stopped, Ended, question}
 use Rattle.format.specs.Answer.{answerForm, assignmentOf, outside}
 use Rattle.format.specs.Judging.{Judging, Refused, Judged, judgeAnswer, judgeBehind, judging, Judgement, Refusal, Says}
 use Rattle.question.specs.declared.Progress as code
-use Rattle.question.specs.Progress.{progressOf}
-use Rattle.question.proofs.Standing.{question-stands}
-use Rattle.judging.specs.Ready.{Behind}
 use Rattle.judging.specs.Judgements.{firstUnmet}
 use Rattle.judging.proofs.Unmet.{first-says}
 
@@ -56,7 +53,3 @@ module _ (b v : List ℕ) where
 
   pub headed : {s : Progress} {at r : ℕ} (j : Judgement) → question b ≡ Ended s at r → 1 ≤ s .last → Says (judgeAnswer (s .question) v) j → Says (judging b v) j
   headed {s} {at} {r} j e f h = ended j e (le-leb 1 (s .last) f) h
-
--- the question that was read behind its head stands in the bytes
-pub behind : (b : List ℕ) (s : code.Progress) {at r : ℕ} → question b ≡ Ended (progressOf b s) at r → 1 ≤ s .last → Behind b s
-behind b s {at} {r} e h = record { headed = h; ends = at; stands = question-stands b s at r e .0 }

@@ -2,16 +2,16 @@
 use Prim.Native.Nat.{ℕ, _+_, _-_, _/_, _≤_}
 use native.Mathlib.Omega.{arith}
 use mathlib.Core.Path.{_≡_, refl, sym, _∙_, ap, subst}
-use mathlib.Core.Bool.{Bool, true}
+use mathlib.Core.Bool.{Bool, true, cond}
 use mathlib.Core.List.{List, _∷_}
 use lib.ListN.{length}
 use lib.Dec.{eqb}
 use lib.IntN.{ℤ, pos}
 use borrow.Author.Tests.{eqb-true, eq-eqb, ne-eqb}
-use Rattle.calculus.specs.Rows.{dot}
+use Rattle.calculus.specs.Rows.{dot, valueIn}
 use Rattle.calculus.specs.Facts.{Question, holds, arithmetic}
 use Rattle.calculus.specs.Meaning.{Assignment, columns}
-use Rattle.format.specs.Fields.{pick, u16}
+use Rattle.format.specs.Fields.{u16}
 use Rattle.format.specs.Records.{size, kind, need}
 use Rattle.format.specs.Question.{stringRange, stringFact, stringFault, formRange, formOf, relationOf, constraintOf}
 use Rattle.format.specs.Judging.{meets}
@@ -21,11 +21,11 @@ use Rattle.question.specs.Standing.{ConstraintAt}
 use Rattle.question.specs.Posed.{asked}
 use Rattle.answer.specs.Form.{columnsAt}
 use Rattle.answer.proofs.Columns.{length-columns}
-use Rattle.judging.specs.Ready.{given, Form, Ready}
+use Rattle.judging.specs.Ready.{valuesOf, Form, Ready}
 use Rattle.judging.proofs.Constraints.{ArithmeticRanges, arithmetic-ranges}
 
 -- the columns of the answer are the values that were found
-columns-are : (b v : List ℕ) (s : Progress) → columns (given b v s) ≡ pos 1 ∷ columnsAt v (s .p) (s .q)
+columns-are : (b v : List ℕ) (s : Progress) → columns (valuesOf b v s) ≡ columnsAt v (s .p) (s .q)
 unfolding columnsAt asked
 columns-are b v s = refl
 
@@ -34,7 +34,7 @@ module _ (b v : List ℕ) (s : Progress) (places : List ℕ) (values : List ℤ)
   u = asked b s
 
   abbrev a : Assignment
-  a = given b v s
+  a = valuesOf b v s
 
   abbrev m : ℕ
   m = size b at
@@ -52,7 +52,7 @@ module _ (b v : List ℕ) (s : Progress) (places : List ℕ) (values : List ℤ)
 
   pub string-is : kind b at ≡ 3 → meets u a (stringFact (u16 b (at + 6)) (u16 b (at + 6 + 2)) (u16 b (at + 6 + 4))) ≡ meets u a (constraintOf b (kind b at) (at + 6) m)
   string-is e =
-      ap (λ (t : Bool). meets u a (pick t (stringFact (u16 b (at + 6)) (u16 b (at + 6 + 2)) (u16 b (at + 6 + 4))) (arithmetic (relationOf (u16 b (at + 6))) (formOf b (at + 6 + 2) (m / 6 - 1)))))
+      ap (λ (t : Bool). meets u a (cond t (stringFact (u16 b (at + 6)) (u16 b (at + 6 + 2)) (u16 b (at + 6 + 4))) (arithmetic (relationOf (u16 b (at + 6))) (formOf b (at + 6 + 2) (m / 6 - 1)))))
       (sym (eq-eqb (kind b at) 3 e))
 
   -- ---- an arithmetic constraint
@@ -66,7 +66,7 @@ module _ (b v : List ℕ) (s : Progress) (places : List ℕ) (values : List ℤ)
   pub arithmetic-there : (kind b at ≡ 3 → ⊥) → (6 ≤ m) × Form b (at + 6 + 2) (m / 6 - 1) values
   arithmetic-there h =
       let g = ranges h in
-      let stands = r .texts .behind .stands in (
+      let stands = r .texts .posed .stands in (
         g .at-least,
         record {
           few = omega (arith, g .few);
@@ -80,6 +80,6 @@ module _ (b v : List ℕ) (s : Progress) (places : List ℕ) (values : List ℤ)
   pub arithmetic-is : (kind b at ≡ 3 → ⊥)
       → holds (relationOf (u16 b (at + 6))) (dot (formOf b (at + 6 + 2) (m / 6 - 1)) (pos 1 ∷ values)) ≡ meets u a (constraintOf b (kind b at) (at + 6) m)
   arithmetic-is h =
-      ap (λ (vs : List ℤ). holds (relationOf (u16 b (at + 6))) (dot (formOf b (at + 6 + 2) (m / 6 - 1)) vs)) (ap (λ (vs : List ℤ). pos 1 ∷ vs) (r .columns) ∙ sym (columns-are b v s))
-      ∙ ap (λ (t : Bool). meets u a (pick t (stringFact (u16 b (at + 6)) (u16 b (at + 6 + 2)) (u16 b (at + 6 + 4))) (arithmetic (relationOf (u16 b (at + 6))) (formOf b (at + 6 + 2) (m / 6 - 1)))))
+      ap (λ (vs : List ℤ). holds (relationOf (u16 b (at + 6))) (valueIn vs (formOf b (at + 6 + 2) (m / 6 - 1)))) (r .columns ∙ sym (columns-are b v s))
+      ∙ ap (λ (t : Bool). meets u a (cond t (stringFact (u16 b (at + 6)) (u16 b (at + 6 + 2)) (u16 b (at + 6 + 4))) (arithmetic (relationOf (u16 b (at + 6))) (formOf b (at + 6 + 2) (m / 6 - 1)))))
       (sym (ne-eqb (kind b at) 3 h))

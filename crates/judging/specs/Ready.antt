@@ -3,43 +3,34 @@ use Prim.Native.Nat.{ℕ, _+_, _*_, _≤_, _<_}
 use mathlib.Core.Path.{_≡_}
 use mathlib.Core.Bool.{true}
 use mathlib.Core.List.{List}
-use lib.ListN.{length, getD}
-use lib.IntN.{ℤ, pos, natAbs}
+use lib.ListN.{length}
+use lib.IntN.{ℤ}
 use Rattle.calculus.specs.Limits.{columnLimit, valueLimit}
 use Rattle.calculus.specs.Meaning.{Assignment}
 use Rattle.format.specs.Question.{formRange}
 use Rattle.format.specs.Answer.{answerForm, assignmentOf}
 use Rattle.question.specs.declared.Progress.{Progress}
-use Rattle.question.specs.Standing.{Stands}
-use Rattle.question.specs.Posed.{asked}
+use Rattle.question.specs.Posed.{asked, Posed}
+use Rattle.rows.specs.Work.{Within}
 use Rattle.answer.specs.Form.{Placed, columnsAt}
 
 -- the answer's strings and integers
-abbrev pub given : List ℕ → List ℕ → Progress → Assignment
-given b v s = assignmentOf v (asked b s)
+abbrev pub valuesOf : List ℕ → List ℕ → Progress → Assignment
+valuesOf b v s = assignmentOf v (asked b s)
 
--- a question that was read behind its head
-pub record Behind (b : List ℕ) (s : Progress) : Type 0 where
-  pub headed : 1 ≤ s .last
-  pub ends : ℕ
-  pub stands : Stands b s ends
-
--- and an answer of its form, with its strings' places
+-- a question that was read, and an answer of its form, with its strings' places
 pub record Texts (b v : List ℕ) (s : Progress) (places : List ℕ) : Type 0 where
-  pub behind : Behind b s
+  pub posed : Posed b s
   pub formed : answerForm v (s .p) (s .q) 0 ≡ true
   pub placed : Placed v 0 (s .p) places
   pub enough : s .p < length places
-
--- the values of all columns are small enough that no sum of products wraps
-abbrev pub Small : List ℤ → Type 0
-Small values = (j : ℕ) → natAbs (getD values j (pos 0)) ≤ valueLimit
 
 -- and its columns' values
 pub record Ready (b v : List ℕ) (s : Progress) (places : List ℕ) (values : List ℤ) : Type 0 where
   pub texts : Texts b v s places
   pub columns : values ≡ columnsAt v (s .p) (s .q)
-  pub small : Small values
+  -- so that no sum of products wraps
+  pub small : Within valueLimit values
 
 -- a form of count pairs at a position, over the columns that have these values
 pub record Form (b : List ℕ) (at count : ℕ) (values : List ℤ) : Type 0 where
@@ -47,4 +38,4 @@ pub record Form (b : List ℕ) (at count : ℕ) (values : List ℤ) : Type 0 whe
   pub there : at + 4 + 6 * count ≤ length b
   pub few-columns : length values ≤ columnLimit
   pub in-range : formRange b (length values) at count ≡ true
-  pub small : Small values
+  pub small : Within valueLimit values

@@ -12,12 +12,12 @@ ghost use Rattle.calculus.specs.Strings.{eqString};
 ghost use Rattle.format.specs.Fields.{u16};
 ghost use Rattle.format.specs.Records.{size as sizeAt, kind as kindAt, next};
 ghost use Rattle.format.specs.Question.{stringFault, stringFact, formOf, relationOf, constraintOf};
-ghost use Rattle.format.specs.Places.{skip, texts, literalsFrom};
-ghost use Rattle.format.specs.Answer.{answerForm, stringAt, outside};
+ghost use Rattle.format.specs.Places.{skip, texts, literalsFrom, textAt};
+ghost use Rattle.format.specs.Answer.{answerForm, outside};
 ghost use Rattle.format.specs.Judging.{meets, judgeAnswer, judging, Says};
 ghost use Rattle.question.specs.Standing.{ConstraintAt};
-ghost use Rattle.question.specs.Posed.{asked};
-ghost use Rattle.judging.specs.Ready.{given, Form, Texts, Ready, Behind};
+ghost use Rattle.question.specs.Posed.{asked, Posed};
+ghost use Rattle.judging.specs.Ready.{valuesOf, Form, Texts, Ready};
 ghost use Rattle.judging.specs.Judgements.{judgementOf, firstUnmet};
 use answer::Outside;
 use answer::answer_formed;
@@ -40,7 +40,7 @@ use rows::relation_holds;
 // Whether the strings at two places of the answer are the same.
 fn same_strings(v: &[u8], x: usize, y: usize) -> bool
     requires { ⌜ (next (now v) x ≤ length (now v)) × (next (now v) y ≤ length (now v)) ⌝ }
-    ensures { λ r. ⌜ r ≡ eqString (stringAt (now (v .entry)) x) (stringAt (now (v .entry)) y) ⌝ }
+    ensures { λ r. ⌜ r ≡ eqString (textAt (now (v .entry)) x) (textAt (now (v .entry)) y) ⌝ }
 {
     let m = u32_at(v, x) / 4;
     let k = u32_at(v, y) / 4;
@@ -50,7 +50,7 @@ fn same_strings(v: &[u8], x: usize, y: usize) -> bool
 // Whether the string at a place of the answer is literal l of the question.
 fn is_literal(b: &[u8], v: &[u8], x: usize, l: usize) -> bool
     requires { ⌜ (next (now v) x ≤ length (now v)) × (skip (now b) l literalsFrom ≤ length (now b)) ⌝ }
-    ensures { λ r. ⌜ ((k : ℕ) → l ≤ k → r ≡ eqString (stringAt (now (v .entry)) x) (getD ([] ∷ texts (now (b .entry)) k literalsFrom) l [])) ⌝ }
+    ensures { λ r. ⌜ ((k : ℕ) → l ≤ k → r ≡ eqString (textAt (now (v .entry)) x) (getD ([] ∷ texts (now (b .entry)) k literalsFrom) l [])) ⌝ }
 {
     let m = u32_at(v, x) / 4;
     let text = literal_text(b, l);
@@ -60,7 +60,7 @@ fn is_literal(b: &[u8], v: &[u8], x: usize, l: usize) -> bool
 // Whether the answer meets the string constraint with its body at a position.
 fn string_met(b: &[u8], v: &[u8], s: Progress, places: &[usize], at: usize) -> bool
     requires { ⌜ Texts (now b) (now v) s (now places) × (at + 6 ≤ length (now b)) × (stringFault (now b) (s .p) (s .literals) at 6 ≡ 0) ⌝ }
-    ensures { λ r. ⌜ r ≡ meets (asked (now (b .entry)) s) (given (now (b .entry)) (now (v .entry)) s)
+    ensures { λ r. ⌜ r ≡ meets (asked (now (b .entry)) s) (valuesOf (now (b .entry)) (now (v .entry)) s)
         (stringFact (u16 (now (b .entry)) at) (u16 (now (b .entry)) (at + 2)) (u16 (now (b .entry)) (at + 4))) ⌝ }
 {
     let relation = u16_at(b, at);
@@ -116,7 +116,7 @@ fn constraint_met(
     at: usize,
 ) -> bool
     requires { ⌜ Ready (now b) (now v) s (now places) (now values) × ConstraintAt (now b) (s .p) (s .q) (s .literals) at ⌝ }
-    ensures { λ r. ⌜ r ≡ meets (asked (now (b .entry)) s) (given (now (b .entry)) (now (v .entry)) s)
+    ensures { λ r. ⌜ r ≡ meets (asked (now (b .entry)) s) (valuesOf (now (b .entry)) (now (v .entry)) s)
         (constraintOf (now (b .entry)) (kindAt (now (b .entry)) at) (at + 6) (sizeAt (now (b .entry)) at)) ⌝ }
 {
     let size = u32_at(b, at);
@@ -138,7 +138,7 @@ pub enum Judgement {
 // The first constraint that the answer does not meet, by its number.
 fn first_unmet(b: &[u8], v: &[u8], s: Progress, places: &[usize], values: &[i64]) -> Judgement
     requires { ⌜ Ready (now b) (now v) s (now places) (now values) ⌝ }
-    ensures { λ r. ⌜ judgementOf r ≡ firstUnmet (asked (now (b .entry)) s) (given (now (b .entry)) (now (v .entry)) s) (asked (now (b .entry)) s .constraints) 0 ⌝ }
+    ensures { λ r. ⌜ judgementOf r ≡ firstUnmet (asked (now (b .entry)) s) (valuesOf (now (b .entry)) (now (v .entry)) s) (asked (now (b .entry)) s .constraints) 0 ⌝ }
 {
     let count = s.constraints;
     let mut at = behind_literals(b, s.literals);
@@ -157,8 +157,8 @@ fn first_unmet(b: &[u8], v: &[u8], s: Progress, places: &[usize], values: &[i64]
 
 // An answer of its form and in its ranges: its strings' places and its columns' values are found once.
 fn judge_values(b: &[u8], v: &[u8], s: Progress) -> Judgement
-    requires { ⌜ Behind (now b) s × (answerForm (now v) (s .p) (s .q) 0 ≡ true) × (outside (now v) (asked (now b) s) (s .p) 0 0 ≡ none) ⌝ }
-    ensures { λ r. ⌜ judgementOf r ≡ firstUnmet (asked (now (b .entry)) s) (given (now (b .entry)) (now (v .entry)) s) (asked (now (b .entry)) s .constraints) 0 ⌝ }
+    requires { ⌜ Posed (now b) s × (answerForm (now v) (s .p) (s .q) 0 ≡ true) × (outside (now v) (asked (now b) s) (s .p) 0 0 ≡ none) ⌝ }
+    ensures { λ r. ⌜ judgementOf r ≡ firstUnmet (asked (now (b .entry)) s) (valuesOf (now (b .entry)) (now (v .entry)) s) (asked (now (b .entry)) s .constraints) 0 ⌝ }
 {
     let p = s.p;
     let q = s.q;
@@ -170,7 +170,7 @@ fn judge_values(b: &[u8], v: &[u8], s: Progress) -> Judgement
 
 // "then 15 (record 0) when the answer is not exactly of its form, 16 (the answer's first such record) .."
 fn judge_behind(b: &[u8], v: &[u8], s: Progress) -> Judgement
-    requires { ⌜ Behind (now b) s ⌝ }
+    requires { ⌜ Posed (now b) s ⌝ }
     ensures { λ r. ⌜ Says (judgeAnswer (asked (now (b .entry)) s) (now (v .entry))) (judgementOf r) ⌝ }
 {
     if !answer_formed(v, s.p, s.q) {

@@ -12,15 +12,16 @@ use lib.ListN.{length}
 use lib.Dec.{eqb, leb}
 use lib.IntN.{ℤ, pos, negsuc, natAbs}
 use lib.Signed.{ltZ}
+use Rattle.lists.specs.Lists.{allBelow}
 use Rattle.lists.proofs.Tests.{true→}
-use Rattle.calculus.specs.Alphabet.{lastCharacter, characterCount}
+use Rattle.calculus.specs.Alphabet.{lastCharacter}
 use Rattle.calculus.specs.Rows.{eqℤ}
 use Rattle.calculus.specs.Facts.{Question, Branch, codeOf, literal, len, code}
 use Rattle.calculus.specs.Chains.{varNode, litNode}
 use Rattle.calculus.specs.Classes.{labels, sameClass, lowest, conflict}
 use Rattle.calculus.specs.Rules.{logUp}
 use Rattle.calculus.specs.Model.{modelOf}
-use Rattle.calculus.specs.SaturationTest.{every, lowestVar, lowestOf, saturatedCard}
+use Rattle.calculus.specs.SaturationTest.{lowestVar, lowestOf, saturatedCard}
 use Rattle.calculus.proofs.Powers.{least-power}
 use Rattle.calculus.proofs.Lowest.{lowests-few}
 use Rattle.format.specs.Places.{literalsFrom}
@@ -158,16 +159,16 @@ card-roomy u ls m x e =
 -- ---- every variable
 
 module _ (t : ℕ → Bool) where
-  pub every-more : (i : ℕ) → every i t ≡ true → t i ≡ true → every (i + 1) t ≡ true
+  pub every-more : (i : ℕ) → allBelow i t ≡ true → t i ≡ true → allBelow (i + 1) t ≡ true
   every-more i e f = rw (add-one, e, f)
 
-  pub every-no : (m i : ℕ) → i < m → t i ≡ false → every m t ≡ false
+  pub every-no : (m i : ℕ) → i < m → t i ≡ false → allBelow m t ≡ false
   every-no zero i h e = absurd (omega arith)
   every-no (suc m) i h e = go (λ l. every-no m i l e) (decLt i m)
     where
-      go : (i < m → every m t ≡ false) → Dec (i < m) → every (suc m) t ≡ false
+      go : (i < m → allBelow m t ≡ false) → Dec (i < m) → allBelow (suc m) t ≡ false
       go ih (yes l) = rw (ih l) (and-false (t m))
-      go ih (no n) = let k : m ≡ i = omega arith in ap (λ (z : ℕ). t z && every m t) k ∙ rw e
+      go ih (no n) = let k : m ≡ i = omega arith in ap (λ (z : ℕ). t z && allBelow m t) k ∙ rw e
 
 -- ---- the tests without literals do not read the ticket
 
@@ -181,7 +182,7 @@ card-any b f ls m x =
     ap (λ (l : List ℕ). leb (length l) 1 || (not (leb (f .n) 1) && leb (logUp (length l) (f .n) (length l) 0) (natAbs (modelOf (asked b f) m len x))))
     (lowest-any b f ls m (modelOf (asked b f) m len x) (f .p))
 
-pub pairs-any : (b : List ℕ) (f : Leaf) (ls : List ℕ) (m : List ℤ) (x : ℕ) → every (f .p) (pairFits (asked [] f) ls m x) ≡ every (f .p) (pairFits (asked b f) ls m x)
+pub pairs-any : (b : List ℕ) (f : Leaf) (ls : List ℕ) (m : List ℤ) (x : ℕ) → allBelow (f .p) (pairFits (asked [] f) ls m x) ≡ allBelow (f .p) (pairFits (asked b f) ls m x)
 unfolding pairFits
 pairs-any b f ls m x = refl
 

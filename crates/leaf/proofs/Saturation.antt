@@ -6,20 +6,21 @@ use mathlib.Core.Option.{Option, none, some}
 use mathlib.Core.List.{List}
 use lib.Dec.{T, eqb→eq, eqb-refl, leb, ltb, eqb, le→leb, leb→le, ltb→lt}
 use lib.IntN.{ℤ, pos, negsuc, _-ℤ_}
-use lib.Signed.{ltZ}
+use lib.Signed.{ltZ, nonNeg}
 use borrow.Author.Tests.{lt-ltb}
 use Rattle.integers.proofs.Laws.{≤ℤ-pos, pos-≤ℤ, →-ℤ-zero, →-ℤ-nonneg, -ℤ-zero→, -ℤ-nonneg→}
+use Rattle.lists.specs.Lists.{allBelow}
 use Rattle.lists.proofs.Tests.{→true, true→, equal-tests}
 use Rattle.calculus.specs.Alphabet.{lastCharacter}
-use Rattle.calculus.specs.Rows.{eqℤ, isZero, nonneg, number, minus, less}
+use Rattle.calculus.specs.Rows.{eqℤ, isZero, number, minus, less, valueIn}
 use Rattle.calculus.specs.Facts.{Question, Branch, Fact, arithmetic, ge, eq, Function, len, code, literal, valueOf, apply}
 use Rattle.calculus.specs.Chains.{varNode, litNode}
 use Rattle.calculus.specs.Classes.{label, labels, sameClass, classLiteral, conflict}
 use Rattle.calculus.specs.Children.{one, sPropChild, literalChild, lValidChildren, cValidChildren, cInjChildren}
 use Rattle.calculus.specs.Rules.{guard, then}
 use Rattle.calculus.specs.Steps.{LIntro, LValid, CCollapse, CValid}
-use Rattle.calculus.specs.Model.{modelOf, valueIn}
-use Rattle.calculus.specs.SaturationTest.{held, heldSome, byChildren, saturatedStep, saturatedCard, saturated, every}
+use Rattle.calculus.specs.Model.{modelOf}
+use Rattle.calculus.specs.SaturationTest.{held, heldSome, byChildren, saturatedStep, saturatedCard, saturated}
 use Rattle.calculus.proofs.Rows.{eqℤ→, →eqℤ, isZero→, →isZero}
 use Rattle.calculus.proofs.Relations.{nonneg→, →nonneg}
 use Rattle.calculus.proofs.Leaf.{apply-in, less-in, number-in, difference-in, last-in}
@@ -33,12 +34,12 @@ zero-minus x y = equal-tests (isZero (x -ℤ y)) (eqℤ x y)
     (λ t. →isZero (→-ℤ-zero (eqℤ→ x y t)))
 
 -- c ≤ k for numbers
-leb-minus : (k c : ℕ) → nonneg (pos k -ℤ pos c) ≡ leb c k
-leb-minus k c = equal-tests (nonneg (pos k -ℤ pos c)) (leb c k)
+leb-minus : (k c : ℕ) → nonNeg (pos k -ℤ pos c) ≡ leb c k
+leb-minus k c = equal-tests (nonNeg (pos k -ℤ pos c)) (leb c k)
     (λ t. le→leb c k (≤ℤ-pos (-ℤ-nonneg→ (nonneg→ (pos k -ℤ pos c) t))))
     (λ t. →nonneg (pos k -ℤ pos c) (→-ℤ-nonneg (pos-≤ℤ (leb→le c k t))))
 
-positive-minus : (z : ℤ) → nonneg (z -ℤ pos 1) ≡ ltZ (pos 0) z
+positive-minus : (z : ℤ) → nonNeg (z -ℤ pos 1) ≡ ltZ (pos 0) z
 positive-minus (pos k) = leb-minus k 1 ∙ equal-tests (leb 1 k) (ltb 0 k) (λ t. true→ (lt-ltb 0 k (leb→le 1 k t))) (λ t. le→leb 1 k (ltb→lt 0 k t))
 positive-minus (negsuc k) = refl
 
@@ -77,13 +78,13 @@ module _ (u : Question) (ls : List ℕ) (m : List ℤ) where
   unfolding lengthFits
   length-step x =
       ap₂ _||_ (and-true (sameClass ls (varNode x) (litNode 0)))
-      (one-holds (arithmetic ge (less (apply u len x))) (ap nonneg (less-in u m x) ∙ positive-minus (M len x)))
+      (one-holds (arithmetic ge (less (apply u len x))) (ap nonNeg (less-in u m x) ∙ positive-minus (M len x)))
 
   -- C-Valid
   code-cases : (n : ℕ) (t : Bool) (c : ℤ)
-      → ((not t && (eqℤ c (negsuc 0) && true)) || ((t && (nonneg c && (nonneg (pos (lastCharacter n) -ℤ c) && true))) || false)) ≡ codeBy t n c
+      → ((not t && (eqℤ c (negsuc 0) && true)) || ((t && (nonNeg c && (nonNeg (pos (lastCharacter n) -ℤ c) && true))) || false)) ≡ codeBy t n c
   unfolding codeBy
-  code-cases n true (pos c) = or-false (nonneg (pos (lastCharacter n) -ℤ pos c) && true) ∙ and-true (nonneg (pos (lastCharacter n) -ℤ pos c)) ∙ leb-minus (lastCharacter n) c
+  code-cases n true (pos c) = or-false (nonNeg (pos (lastCharacter n) -ℤ pos c) && true) ∙ and-true (nonNeg (pos (lastCharacter n) -ℤ pos c)) ∙ leb-minus (lastCharacter n) c
   code-cases n true (negsuc c) = refl
   code-cases n false c = or-false (eqℤ c (negsuc 0) && true) ∙ and-true (eqℤ c (negsuc 0))
 
@@ -91,7 +92,7 @@ module _ (u : Question) (ls : List ℕ) (m : List ℤ) where
   code-step x =
       let single : isZero (valueIn m (less (apply u len x))) ≡ eqℤ (M len x) (pos 1) = ap isZero (less-in u m x) ∙ zero-minus (M len x) (pos 1) in
       ap₂ _||_ (ap₂ (λ (s t : Bool). not s && (t && true)) single (number-is code x (negsuc 0)))
-      (ap₂ (λ (s t : Bool). (s && t) || false) single (ap₂ (λ (s t : Bool). s && (t && true)) (ap nonneg (apply-in u m code x)) (ap nonneg (last-in u m x))))
+      (ap₂ (λ (s t : Bool). (s && t) || false) single (ap₂ (λ (s t : Bool). s && (t && true)) (ap nonNeg (apply-in u m code x)) (ap nonNeg (last-in u m x))))
       ∙ code-cases (u .n) (eqℤ (M len x) (pos 1)) (M code x)
 
   -- S-Prop and C-Inj
@@ -149,7 +150,7 @@ swap true false true = refl
 swap true false false = refl
 swap false b c = refl
 
-every-ap : (k : ℕ) (s t : ℕ → Bool) → ((x : ℕ) → s x ≡ t x) → every k s ≡ every k t
+every-ap : (k : ℕ) (s t : ℕ → Bool) → ((x : ℕ) → s x ≡ t x) → allBelow k s ≡ allBelow k t
 every-ap zero s t h = refl
 every-ap (suc k) s t h = ap₂ _&&_ (h k) (every-ap k s t h)
 
@@ -172,6 +173,6 @@ module _ (u : Question) (b : Branch) (m : List ℤ) where
       ∙ and-assoc (f && l) k (saturatedCard u (labels b) m x)
       ∙ and-assoc f l (k && saturatedCard u (labels b) m x)
 
-  pub saturated-is : saturated u b m ≡ (not (conflict u b) && every (u .p) (byValues u (labels b) m))
+  pub saturated-is : saturated u b m ≡ (not (conflict u b) && allBelow (u .p) (byValues u (labels b) m))
   saturated-is = ap (λ (t : Bool). not (conflict u b) && t) (every-ap (u .p) _ (byValues u (labels b) m) (λ x.
       ap₂ _&&_ (var-step x) (every-ap (u .p) _ (pairFits u (labels b) m x) (λ y. pair-step u (labels b) m x y))))

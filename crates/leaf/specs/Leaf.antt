@@ -1,10 +1,10 @@
 -- The leaf as the code holds it: numbers and labels, with the literals in the ticket and the model beside it.
-use Prim.Native.Nat.{ℕ, _+_, _≤_}
+use Prim.Native.Nat.{ℕ, _≤_}
 use mathlib.Core.List.{List, []}
 use lib.ListN.{length}
 use lib.IntN.{ℤ}
 use Rattle.calculus.specs.Limits.{alphabetLimit, variableLimit, literalLimit}
-use Rattle.calculus.specs.Facts.{Question}
+use Rattle.calculus.specs.Facts.{Question, columnCount}
 use Rattle.format.specs.Places.{skip, texts, literalsFrom}
 use Rattle.leaf.specs.declared.Leaf.{Leaf}
 
@@ -12,11 +12,15 @@ use Rattle.leaf.specs.declared.Leaf.{Leaf}
 abbrev pub asked : List ℕ → Leaf → Question
 asked b f = record { n = f .n; p = f .p; q = f .q; literals = texts b (f .literals) literalsFrom; constraints = [] }
 
+-- how many columns it has
+abbrev pub columnsOf : Leaf → ℕ
+columnsOf f = columnCount (asked [] f)
+
 -- m has a number for each column
 pub record Modelled (m : List ℤ) (f : Leaf) : Type 0 where
   pub few-strings : f .p ≤ variableLimit
   pub few-integers : f .q ≤ variableLimit
-  pub columns : f .q + (f .p + f .p) ≤ length m
+  pub columns : columnsOf f ≤ length m
 
 -- what a question without a fault gives
 pub record Ready (b : List ℕ) (m : List ℤ) (f : Leaf) : Type 0 where

@@ -7,6 +7,7 @@ use lib.ListN.{length}
 use lib.Dec.{leb}
 use lib.IntN.{ℤ, pos, negsuc}
 use lib.Signed.{ltZ}
+use Rattle.lists.specs.Lists.{allBelow}
 use Rattle.calculus.specs.Alphabet.{lastCharacter}
 use Rattle.calculus.specs.Rows.{eqℤ}
 use Rattle.calculus.specs.Facts.{Question, literal, codeOf, len, code}
@@ -14,7 +15,7 @@ use Rattle.calculus.specs.Chains.{varNode, litNode}
 use Rattle.calculus.specs.Classes.{sameClass, lowest}
 use Rattle.calculus.specs.Rules.{logUp}
 use Rattle.calculus.specs.Model.{modelOf}
-use Rattle.calculus.specs.SaturationTest.{every, saturatedCard}
+use Rattle.calculus.specs.SaturationTest.{saturatedCard}
 
 -- z and c are a text's length and code
 unfoldable pub textFits : List ℕ → ℤ → ℤ → Bool
@@ -62,4 +63,4 @@ pairFits u ls m x y =
 
 -- the rules for a variable, itself and with every variable
 abbrev pub byValues : Question → List ℕ → List ℤ → ℕ → Bool
-byValues u ls m x = varFits u ls m x && every (u .p) (pairFits u ls m x)
+byValues u ls m x = varFits u ls m x && allBelow (u .p) (pairFits u ls m x)

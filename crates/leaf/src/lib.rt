@@ -6,13 +6,14 @@ ghost use Prim.Native.Nat.{suc, _+_, _*_, _≤_, _<_};
 ghost use lib.ListN.{length, getD};
 ghost use lib.Dec.{eqb};
 ghost use lib.IntN.{pos, natAbs};
+ghost use Rattle.lists.specs.Lists.{allBelow};
 ghost use Rattle.calculus.specs.Limits.{alphabetLimit, variableLimit, literalLimit, factLimit};
 ghost use Rattle.calculus.specs.Rows.{eqℤ};
 ghost use Rattle.calculus.specs.Facts.{len, code};
 ghost use Rattle.calculus.specs.Classes as classes;
 ghost use Rattle.calculus.specs.Classes.{lowest};
 ghost use Rattle.calculus.specs.SaturationTest as test;
-ghost use Rattle.calculus.specs.SaturationTest.{every, lowestVar, lowestOf, saturatedCard};
+ghost use Rattle.calculus.specs.SaturationTest.{lowestVar, lowestOf, saturatedCard};
 ghost use Rattle.format.specs.Fields.{u32s};
 ghost use Rattle.format.specs.Places.{skip, literalsFrom};
 ghost use Rattle.format.specs.Checking.{shortLengths};
@@ -242,7 +243,7 @@ fn pair_fits(model: &[i64], leaf: Leaf, x: usize, y: usize) -> bool
 // S-Prop and C-Inj for variable x with every variable.
 fn pairs_fit(model: &[i64], leaf: Leaf, x: usize) -> bool
     requires { ⌜ Modelled (now model) leaf × (x < leaf .p) ⌝ }
-    ensures { λ r. ⌜ r ≡ every (leaf .p) (pairFits (asked [] leaf) (leaf .labels) (now (model .entry)) x) ⌝ }
+    ensures { λ r. ⌜ r ≡ allBelow (leaf .p) (pairFits (asked [] leaf) (leaf .labels) (now (model .entry)) x) ⌝ }
 {
     let mut y = 0;
     while y < leaf.p {
@@ -269,7 +270,7 @@ fn values_fit(ticket: &[u8], model: &[i64], leaf: Leaf, x: usize) -> bool
 
 fn every_fits(ticket: &[u8], model: &[i64], leaf: Leaf) -> bool
     requires { ⌜ Ready (now ticket) (now model) leaf ⌝ }
-    ensures { λ r. ⌜ r ≡ every (leaf .p) (byValues (asked (now (ticket .entry)) leaf) (leaf .labels) (now (model .entry))) ⌝ }
+    ensures { λ r. ⌜ r ≡ allBelow (leaf .p) (byValues (asked (now (ticket .entry)) leaf) (leaf .labels) (now (model .entry))) ⌝ }
 {
     let mut x = 0;
     while x < leaf.p {

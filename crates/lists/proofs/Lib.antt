@@ -4,3 +4,4 @@ pub mod Lists
 pub mod Filled
 pub mod Every
 pub mod Stores
+pub mod Below

@@ -1,12 +1,16 @@
--- Lists: properties of all elements and of some element, membership, lists without repeats, and counting.
-use Prim.Native.Nat.{ℕ, zero, suc, _<_, _≤_}
+-- Lists: properties of all elements and of some element, membership, lists without repeats, counting, and lists read place by place.
+use Prim.Native.Nat.{ℕ, zero, suc, _+_, _*_, _<_, _≤_}
+use native.Mathlib.Nat.{mul-suc}
 use native.Mathlib.Omega.{arith}
 use mathlib.Core.Path.{_≡_, refl, sym, _∙_, ap, ap₂, subst}
 use mathlib.Core.Logic.{_≢_, _⊎_, inl, inr}
+use mathlib.Core.Bool.{Bool, true}
 use mathlib.Core.Option.{some}
 use mathlib.Core.List.{List, [], _∷_, _++_, map}
-use lib.ListN.{length, getD, getElem?}
-use Rattle.lists.specs.Lists.{All, NotIn, Distinct}
+use lib.ListN.{length, getD, getElem?, replicate}
+use lib.Dec.{T}
+use Rattle.lists.specs.Lists.{All, NotIn, Distinct, all, any, onward, along}
+use Rattle.lists.proofs.Tests.{→true, true→, and→, →and, or→, →or-left, →or-right}
 use Rattle.lists.proofs.Options.{some-injective, none-some}
 
 -- ---- all elements
@@ -32,17 +36,51 @@ all-at P [] k h e = absurd (none-some e)
 all-at P (y ∷ xs) zero h e = subst P (some-injective e) (h .0)
 all-at P (y ∷ xs) (suc k) h e = all-at P xs k (h .1) e
 
+pub all-replicate : {A : Type 0} (P : A → Type 0) (n : ℕ) (x : A) → P x → All P (replicate n x)
+all-replicate P zero x h = tt
+all-replicate P (suc n) x h = (h, all-replicate P n x h)
+
 -- ---- some element
 
 abbrev pub Any : {A : Type 0} → (A → Type 0) → List A → Type 0
 Any P [] = ⊥
 Any P (x ∷ xs) = P x ⊎ Any P xs
 
+-- ---- tests of all and of some elements
+
+module _ {A : Type 0} {P : A → Type 0} (t : A → Bool) where
+  pub all→ : (xs : List A) → ((x : A) → T (t x) → P x) → T (all t xs) → All P xs
+  all→ [] f h = tt
+  all→ (x ∷ xs) f h = let (p, q) = and→ (t x) (all t xs) h in (f x p, all→ xs f q)
+
+  pub →all : (xs : List A) → ((x : A) → P x → T (t x)) → All P xs → T (all t xs)
+  →all [] f h = tt
+  →all (x ∷ xs) f (h, hs) = →and (t x) (all t xs) (f x h) (→all xs f hs)
+
+  pub any→ : (xs : List A) → ((x : A) → T (t x) → P x) → T (any t xs) → Any P xs
+  any→ [] f h = absurd h
+  any→ (x ∷ xs) f h = go (or→ (t x) (any t xs) h) (any→ xs f)
+    where
+      go : T (t x) ⊎ T (any t xs) → (T (any t xs) → Any P xs) → P x ⊎ Any P xs
+      go (inl s) ih = inl (f x s)
+      go (inr s) ih = inr (ih s)
+
+  pub →any : (xs : List A) → ((x : A) → P x → T (t x)) → Any P xs → T (any t xs)
+  →any [] f h = h
+  →any (x ∷ xs) f (inl h) = →or-left (t x) (any t xs) (f x h)
+  →any (x ∷ xs) f (inr h) = →or-right (t x) (any t xs) (→any xs f h)
+
+  -- the same of tests as equations
+  pub all-true→ : (xs : List A) → ((x : A) → t x ≡ true → P x) → all t xs ≡ true → All P xs
+  all-true→ xs f e = all→ xs (λ x h. f x (→true (t x) h)) (true→ e)
+
+  pub →all-true : (xs : List A) → ((x : A) → P x → t x ≡ true) → All P xs → all t xs ≡ true
+  →all-true xs f h = →true (all t xs) (→all xs (λ x p. true→ (f x p)) h)
+
 -- ---- membership
 
 abbrev pub In : {A : Type 0} → A → List A → Type 0
-In x [] = ⊥
-In x (y ∷ ys) = (x ≡ y) ⊎ In x ys
+In x ys = Any (λ y. x ≡ y) ys
 
 pub in-map : {A B : Type 0} (f : A → B) (x : A) (xs : List A) → In x xs → In (f x) (map f xs)
 in-map f x [] h = h
@@ -158,3 +196,28 @@ all-getD P (x ∷ xs) (suc i) d p h = all-getD P xs i d p (h .1)
 pub getD-all : {A : Type 0} (P : A → Type 0) (xs : List A) (d : A) → ((i : ℕ) → i < length xs → P (getD xs i d)) → All P xs
 getD-all P [] d h = tt
 getD-all P (x ∷ xs) d h = (h 0 (omega arith), getD-all P xs d (λ i g. h (suc i) (omega arith)))
+
+-- ---- lists read place by place
+
+pub onward-suc : {A : Type 0} (go : A → A) (a : A) (k : ℕ) → onward go a (suc k) ≡ go (onward go a k)
+onward-suc go a zero = refl
+onward-suc go a (suc k) = onward-suc go (go a) k
+
+-- places a fixed width apart
+pub onward-by : (w a k : ℕ) → onward (λ i. i + w) a k ≡ a + w * k
+onward-by w a zero = omega arith
+onward-by w a (suc k) = onward-by w (a + w) k ∙ let e : w * suc k ≡ w * k + w = mul-suc w k in omega arith
+
+module _ {A B : Type 0} (go : A → A) (f : A → B) where
+  pub length-along : (a : A) (k : ℕ) → length (along go f a k) ≡ k
+  length-along a zero = refl
+  length-along a (suc k) = ap suc (length-along (go a) k)
+
+  pub getD-along : (a : A) (k j : ℕ) (d : B) → j < k → getD (along go f a k) j d ≡ f (onward go a j)
+  getD-along a zero j d h = absurd (omega arith)
+  getD-along a (suc k) zero d h = refl
+  getD-along a (suc k) (suc j) d h = getD-along (go a) k j d (omega arith)
+
+  pub along-snoc : (a : A) (k : ℕ) → along go f a (suc k) ≡ along go f a k ++ (f (onward go a k) ∷ [])
+  along-snoc a zero = refl
+  along-snoc a (suc k) = ap (λ xs. f a ∷ xs) (along-snoc (go a) k)

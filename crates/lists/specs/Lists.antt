@@ -1,5 +1,7 @@
--- Lists of which every element has a property, membership, and lists without repeats.
+-- Lists of which every element has a property, membership, lists without repeats, tests of all or some elements, and lists read place by place.
+use Prim.Native.Nat.{ℕ, zero, suc}
 use mathlib.Core.Logic.{_≢_}
+use mathlib.Core.Bool.{Bool, true, false, _&&_, _||_}
 use mathlib.Core.List.{List, [], _∷_}
 
 abbrev pub All : {A : Type 0} → (A → Type 0) → List A → Type 0
@@ -7,9 +9,40 @@ All P [] = Unit {0}
 All P (x ∷ xs) = P x × All P xs
 
 abbrev pub NotIn : {A : Type 0} → A → List A → Type 0
-NotIn x [] = Unit {0}
-NotIn x (y ∷ ys) = (x ≢ y) × NotIn x ys
+NotIn x ys = All (λ y. x ≢ y) ys
 
 abbrev pub Distinct : {A : Type 0} → List A → Type 0
 Distinct [] = Unit {0}
 Distinct (x ∷ xs) = NotIn x xs × Distinct xs
+
+-- ---- tests
+
+-- every element passes the test; some element does
+abbrev pub all : {A : Type 0} → (A → Bool) → List A → Bool
+all t [] = true
+all t (x ∷ xs) = t x && all t xs
+
+abbrev pub any : {A : Type 0} → (A → Bool) → List A → Bool
+any t [] = false
+any t (x ∷ xs) = t x || any t xs
+
+-- every number below k passes the test; some number does
+abbrev pub allBelow : ℕ → (ℕ → Bool) → Bool
+allBelow zero t = true
+allBelow (suc k) t = t k && allBelow k t
+
+abbrev pub anyBelow : ℕ → (ℕ → Bool) → Bool
+anyBelow zero t = false
+anyBelow (suc k) t = t k || anyBelow k t
+
+-- ---- place by place
+
+-- the place behind k others, the first of which is a: go leads from each to the next
+abbrev pub onward : {A : Type 0} → (A → A) → A → ℕ → A
+onward go a zero = a
+onward go a (suc k) = onward go (go a) k
+
+-- what f gives at each of k places from a on
+abbrev pub along : {A B : Type 0} → (A → A) → (A → B) → A → ℕ → List B
+along go f a zero = []
+along go f a (suc k) = f a ∷ along go f (go a) k

@@ -10,9 +10,9 @@ use Rattle.calculus.specs.Facts.{Question, Branch}
 use Rattle.calculus.specs.Strings.{strings}
 use Rattle.format.specs.Checking.{answerOf}
 use Rattle.answer.specs.Table.{tableStrings, tableAnswer, Integers}
-use Rattle.leaf.specs.Leaf.{asked}
+use Rattle.leaf.specs.Leaf.{asked, columnsOf}
 use Rattle.model.specs.declared.Settled.{Settled}
-use Rattle.model.specs.Settled.{columnsOf, values, Writable, Answers}
+use Rattle.model.specs.Settled.{values, Writable, Answers}
 use Rattle.model.proofs.Bare.{strings-bare}
 
 module _ (b : List ℕ) (s : Settled) (w : Writable b s) where

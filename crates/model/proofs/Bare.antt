@@ -7,13 +7,14 @@ use mathlib.Core.List.{List, [], _∷_, _++_}
 use lib.ListN.{length, getD}
 use lib.Dec.{leb, ltb, eqb}
 use lib.IntN.{ℤ, natAbs}
+use Rattle.lists.specs.Lists.{allBelow}
 use Rattle.calculus.specs.Rows.{eqℤ}
 use Rattle.calculus.specs.Facts.{Question, Branch, len, code}
 use Rattle.calculus.specs.Classes.{labels, classLiteral, conflict}
 use Rattle.calculus.specs.Steps.{SProp, LIntro, LValid, CCollapse, CValid, CInj}
 use Rattle.calculus.specs.Rules.{logUp}
 use Rattle.calculus.specs.Model.{modelOf}
-use Rattle.calculus.specs.SaturationTest.{every, lowestVar, lowestOf, saturatedStep, saturatedCard, saturated}
+use Rattle.calculus.specs.SaturationTest.{lowestVar, lowestOf, saturatedStep, saturatedCard, saturated}
 use Rattle.calculus.specs.Strings.{freshFrom, fixedBy, fixedString, fixedStrings, stringOf, stringsTo, strings}
 use Rattle.format.specs.Records.{need}
 use Rattle.format.specs.Checking.{keeps, shortLengths, leafFault}
@@ -33,9 +34,9 @@ module _ (u : Question) (br : Branch) (m : List ℤ) where
       (lowest-bare ls (modelOf u m len x) (u .p))
 
   saturated-bare : saturated (bare u) br m ≡ saturated u br m
-  saturated-bare = ap (λ (card : ℕ → Bool). not (conflict u br) && every (u .p) (λ x.
+  saturated-bare = ap (λ (card : ℕ → Bool). not (conflict u br) && allBelow (u .p) (λ x.
       saturatedStep u br m (LIntro x) && saturatedStep u br m (LValid x) && saturatedStep u br m (CCollapse x) && saturatedStep u br m (CValid x)
-      && card x && every (u .p) (λ y. saturatedStep u br m (SProp len x y) && saturatedStep u br m (SProp code x y) && saturatedStep u br m (CInj x y))))
+      && card x && allBelow (u .p) (λ y. saturatedStep u br m (SProp len x y) && saturatedStep u br m (SProp code x y) && saturatedStep u br m (CInj x y))))
       (fun-ext (card-bare (labels br)))
 
   pub leaf-bare : leafFault (bare u) br m ≡ leafFault u br m

@@ -12,8 +12,7 @@ use Rattle.calculus.specs.Limits.{columnLimit, valueLimit}
 use Rattle.calculus.specs.Rows.{zeros}
 use Rattle.calculus.specs.Facts.{Branch}
 use Rattle.calculus.specs.Classes.{labels}
-use Rattle.format.specs.Fields.{i32s}
-use Rattle.format.specs.Answer.{allWithin}
+use Rattle.format.specs.Fields.{i32s, allWithin}
 use Rattle.format.specs.Reading.{modelAt, modelFault}
 use Rattle.format.specs.Checking.{leafFault}
 use Rattle.format.proofs.Fields.{length-i32s}
@@ -23,9 +22,9 @@ use Rattle.question.specs.declared.Progress.{Progress}
 use Rattle.question.specs.Posed.{asked, Posed}
 use Rattle.question.proofs.Standing.{literals-within}
 use Rattle.leaf.specs.declared.Leaf.{Leaf}
-use Rattle.leaf.specs.Leaf.{asked as askedBy, Ready}
+use Rattle.leaf.specs.Leaf.{asked as askedBy, Ready, columnsOf}
 use Rattle.strings.specs.Filling.{ShortLiterals}
-use Rattle.model.specs.Settled.{columnsOf, Filled, Answers}
+use Rattle.model.specs.Settled.{Filled, Answers}
 use Rattle.model.proofs.Bare.{leaf-bare}
 use Rattle.model.proofs.Tested.{lengths-pass, model-tests}
 
@@ -35,7 +34,7 @@ module _ (f : Leaf) (m held : List ℤ) (few : columnsOf f ≤ columnLimit) (n :
   pub columns-are : take (columnsOf f) held ≡ m
   columns-are = ap (take (columnsOf f)) e ∙ take-at m (zeros (columnLimit - columnsOf f)) (columnsOf f) n
 
-  module _ (small : allWithin m ≡ true) where
+  module _ (small : allWithin valueLimit m ≡ true) where
     pub model-filled : Filled held f
     model-filled = record {
       all = ap length e ∙ length-append m (zeros (columnLimit - columnsOf f)) ∙ rw length-replicate (omega arith);
@@ -70,7 +69,7 @@ module _ (b : List ℕ) (s : Progress) (h : Posed b s) where
 
   -- ---- the model's record, with its body at a position
 
-  module _ (at : ℕ) (ls : List ℕ) (held : List ℤ) (small : allWithin (i32s b at (s .q + (s .p + s .p))) ≡ true) (e : held ≡ i32s b at (s .q + (s .p + s .p)) ++ zeros (columnLimit - (s .q + (s .p + s .p)))) where
+  module _ (at : ℕ) (ls : List ℕ) (held : List ℤ) (small : allWithin valueLimit (i32s b at (s .q + (s .p + s .p))) ≡ true) (e : held ≡ i32s b at (s .q + (s .p + s .p)) ++ zeros (columnLimit - (s .q + (s .p + s .p)))) where
     abbrev f : Leaf
     f = leafOf s ls
 

@@ -1,5 +1,5 @@
 -- A leaf and its model as the code holds them, and what the answer needs of them.
-use Prim.Native.Nat.{ℕ, _+_, _-_}
+use Prim.Native.Nat.{_-_, ℕ}
 use mathlib.Core.Path.{_≡_}
 use mathlib.Core.Bool.{true}
 use mathlib.Core.List.{List, [], _++_}
@@ -12,13 +12,9 @@ use Rattle.calculus.specs.Classes.{labels}
 use Rattle.format.specs.Checking.{shortLengths}
 use Rattle.rows.specs.Work.{Within}
 use Rattle.leaf.specs.declared.Leaf.{Leaf}
-use Rattle.leaf.specs.Leaf.{asked, Ready}
+use Rattle.leaf.specs.Leaf.{asked, columnsOf, Ready}
 use Rattle.strings.specs.Filling.{ShortLiterals}
 use Rattle.model.specs.declared.Settled.{Settled}
-
--- how many columns a leaf has
-abbrev pub columnsOf : Leaf → ℕ
-columnsOf f = f .q + (f .p + f .p)
 
 -- a question without its constraints, which are facts of the leaf
 abbrev pub bare : Question → Question

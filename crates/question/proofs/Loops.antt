@@ -13,7 +13,7 @@ use Rattle.format.specs.Fields.{u16, u32, i32, u32s, pairsAt}
 use Rattle.format.specs.Records.{size, next}
 use Rattle.format.specs.Question.{textOf, pairInRange, rising}
 use Rattle.format.specs.Places.{texts}
-use Rattle.format.proofs.Fields.{down}
+use Rattle.format.proofs.Fields.{down, field-at}
 
 -- the tests of a definition, each from a fact in scope
 pub ruleset tests = (eq-eqb, ne-eqb, le-leb, lt-leb, le-ltb)
@@ -60,9 +60,7 @@ same-apart (c ∷ s) (d ∷ t) (suc i) h = ap (λ (e : Bool). eqb c d && e) (sam
 -- a character of a text
 pub text-char : (b : List ℕ) (at k i : ℕ) → i < k → getD (u32s b at k) i 0 ≡ u32 b (at + 4 * i)
 unfolding u32s
-text-char b at zero i h = absurd (omega arith)
-text-char b at (suc k) zero h = let none : at ≡ at + 4 * 0 = omega arith in ap (u32 b) none
-text-char b at (suc k) (suc i) h = let more : at + 4 + 4 * i ≡ at + 4 * suc i = omega arith in text-char b (at + 4) k i (omega arith) ∙ ap (u32 b) more
+text-char b at k i h = field-at 4 (u32 b) at k i 0 h
 
 -- texts of different lengths differ
 pub same-lengths : (a b : List ℕ) (m k x y : ℕ) → (m ≡ k → ⊥) → eqString (u32s a x m) (u32s b y k) ≡ false

@@ -1,6 +1,6 @@
 -- A question that is read stands in the bytes: what holds where reading began holds after each record, and where it ended.
 use mathlib.Core.Path.{_≡_, refl, sym, _∙_, ap, subst}
-use mathlib.Core.Bool.{Bool, true, false}
+use mathlib.Core.Bool.{Bool, true, false, cond}
 use mathlib.Core.List.{List}
 use Prim.Native.Nat.{ℕ, zero, suc, _+_, _≤_, _<_}
 use native.Mathlib.Omega.{arith}
@@ -11,7 +11,7 @@ use lib.Dec.{leb, eqb}
 use borrow.Author.Count.{below-more}
 use borrow.Author.Tests.{leb-true, leb-false, ltb-true, lt-leb, eq-eqb, ne-eqb}
 use Rattle.calculus.specs.Limits.{ticketBytes, factLimit}
-use Rattle.format.specs.Fields.{pick, u16, u32}
+use Rattle.format.specs.Fields.{u16, u32}
 use Rattle.format.specs.Records.{size, kind, next}
 use Rattle.format.specs.Question as format
 use Rattle.format.specs.Question.{fault, advanced, fresh, ending, readOn, question}
@@ -21,6 +21,7 @@ use Rattle.format.proofs.Turns.{read-none, read-ended, read-stopped, read-more,
 use Rattle.question.specs.declared.Progress.{Progress}
 use Rattle.question.specs.Progress.{progressOf}
 use Rattle.question.specs.Standing.{LiteralAt, ConstraintAt, Stands}
+use Rattle.question.specs.Posed.{Posed}
 use Rattle.format.proofs.RecordFaults.{Passed, passed, head-first, Behind, behind-head, Head, head-formed, literal-formed}
 use Rattle.format.proofs.Faults.{clash}
 
@@ -48,8 +49,8 @@ literals-within b s at l h g few =
 -- the numbers after the record at a position
 abbrev pub after : List ℕ → Progress → ℕ → Progress
 after b s at =
-    pick (eqb (kind b at) 1) (record { last = 1; n = u32 b (at + 6); p = u16 b (at + 6 + 4); q = u16 b (at + 6 + 6); literals = 0; constraints = 0 })
-    (pick (eqb (kind b at) 2) (record { last = 2; n = s .n; p = s .p; q = s .q; literals = s .literals + 1; constraints = s .constraints })
+    cond (eqb (kind b at) 1) (record { last = 1; n = u32 b (at + 6); p = u16 b (at + 6 + 4); q = u16 b (at + 6 + 6); literals = 0; constraints = 0 })
+    (cond (eqb (kind b at) 2) (record { last = 2; n = s .n; p = s .p; q = s .q; literals = s .literals + 1; constraints = s .constraints })
     (record { last = kind b at; n = s .n; p = s .p; q = s .q; literals = s .literals; constraints = s .constraints + 1 }))
 
 module _ (b : List ℕ) (s : Progress) (at : ℕ) (h : Stands b s at) (e : fault b (progressOf b s) at ≡ 0) where
@@ -236,11 +237,19 @@ read-stands (suc d) b s t r at to q l h e =
     go true false zero ex ey ef later =
         later ef (ap (λ (u : format.Progress). readOn fault b u (suc r) (next b at)) (after-advanced b s at h ef) ∙ sym (read-more fault b (progressOf b s) r at (leb-true _ _ ex) ey ef) ∙ e)
 
--- The question that is read stands in the bytes, up to the six leading bytes where reading ended.
-pub question-stands : (b : List ℕ) (t : Progress) (to q : ℕ) → question b ≡ format.Ended (progressOf b t) to q → Ends b t to
-question-stands b t to q e = go (leb (length b) ticketBytes) refl
+-- a question is read from a ticket that is not too long
+pub question-short : (b : List ℕ) (t : format.Progress) (to q : ℕ) → question b ≡ format.Ended t to q → length b ≤ ticketBytes
+question-short b t to q e = go (leb (length b) ticketBytes) refl
   where
-    go : (x : Bool) → leb (length b) ticketBytes ≡ x → Ends b t to
+    go : (x : Bool) → leb (length b) ticketBytes ≡ x → length b ≤ ticketBytes
     go false ex = let g = read-long fault b (leb-false _ _ ex) in clash cc
-    go true ex = read-stands (length b) b begun t 0 0 to q (omega arith) (begun-stands b)
-        (ap (λ (u : format.Progress). readOn fault b u 0 0) (begun-fresh b) ∙ sym (read-begin fault b (leb-true _ _ ex)) ∙ e)
+    go true ex = leb-true _ _ ex
+
+-- it stands in the bytes, up to the six leading bytes where reading ended
+pub question-stands : (b : List ℕ) (t : Progress) (to q : ℕ) → question b ≡ format.Ended (progressOf b t) to q → Ends b t to
+question-stands b t to q e =
+    read-stands (length b) b begun t 0 0 to q (omega arith) (begun-stands b)
+    (ap (λ (u : format.Progress). readOn fault b u 0 0) (begun-fresh b) ∙ sym (read-begin fault b (question-short b (progressOf b t) to q e)) ∙ e)
+
+pub question-posed : (b : List ℕ) (t : Progress) (to q : ℕ) → question b ≡ format.Ended (progressOf b t) to q → 1 ≤ t .last → Posed b t
+question-posed b t to q e h = record { to = to; stands = question-stands b t to q e .0; head = h; short = question-short b (progressOf b t) to q e }

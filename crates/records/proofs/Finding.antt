@@ -1,11 +1,10 @@
 -- What was found at a position says what stands there.
 use mathlib.Core.Path.{_≡_, refl}
-use mathlib.Core.Bool.{Bool, true, false}
+use mathlib.Core.Bool.{Bool, true, false, cond}
 use mathlib.Core.List.{List}
 use Prim.Native.Nat.{ℕ, _+_, _≤_, _<_}
 use lib.ListN.{length}
 use borrow.Author.Tests.{leb-true, leb-false}
-use Rattle.format.specs.Fields.{pick}
 use Rattle.format.specs.Records.{headed, whole, next, kind, size}
 use Rattle.format.proofs.Faults.{clash}
 use Rattle.records.specs.Found.{foundAt}
@@ -15,7 +14,7 @@ use Rattle.records.specs.declared.Found.the-variants.{Whole, Cut, Nothin
 module _ (b : List ℕ) (at : ℕ) where
   -- what is found, by whether the six leading bytes and the body are there
   abbrev found : Bool → Bool → Found
-  found h w = pick h (pick w (Whole (kind b at) (size b at)) (Cut (kind b at))) Nothing
+  found h w = cond h (cond w (Whole (kind b at) (size b at)) (Cut (kind b at))) Nothing
 
   pub found-nothing : foundAt b at ≡ Nothing → length b < at + 6
   unfolding foundAt

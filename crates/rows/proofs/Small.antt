@@ -1,45 +1,39 @@
 -- Numbers within the limit: what the tests say of them, and what the machine asks.
 use Prim.Native.Nat.{ℕ, zero, suc, _+_, _≤_, _<_}
 use native.Mathlib.Omega.{arith}
-use mathlib.Core.Path.{_≡_, refl, sym, _∙_, ap, ap₂, subst}
+use mathlib.Core.Path.{_≡_, refl, sym, _∙_, ap, ap₂}
 use mathlib.Core.Bool.{true, _&&_}
-use mathlib.Core.Option.{some}
 use mathlib.Core.List.{List, [], _∷_, _++_}
-use borrow.Author.Tests.{leb-true}
-use lib.ListN.{length, getD, drop, getElem?}
+use lib.ListN.{length, getD, drop}
 use lib.IntN.{ℤ, pos, negsuc, negℤ, natAbs, _+ℤ_, _-ℤ_, _*ℤ_, +ℤ-comm}
 use mir.Syntax.{w64}
 use mir.Val.{SFits, toZ, ofZ}
 use mir.Facts.{toZ-ofZ}
 use Rattle.integers.proofs.Laws.{minus-one-*ℤ, abs-+-le, sfits-abs}
 use Rattle.integers.proofs.Machine.{minus-fits, minus-is, flip-fits}
-use Rattle.lists.proofs.Options.{none-some, some-injective}
-use Rattle.lists.proofs.Every.{every-snoc}
-use Rattle.calculus.specs.Limits.{numberLimit, factLimit, workNumbers}
+use Rattle.lists.specs.Lists.{All}
+use Rattle.lists.proofs.Every.{every-snoc, every-at}
+use Rattle.lists.proofs.Lists.{all-getD}
+use Rattle.calculus.specs.Limits.{numberLimit, factLimit, workNumbers, Small}
 use Rattle.calculus.specs.Facts.{Fact}
-use Rattle.format.specs.Fields.{within}
-use Rattle.format.specs.Checking.{rowWithin, factWithin, factsWithin}
-use Rattle.format.proofs.Faults.{and-true}
+use Rattle.format.specs.Fields.{allWithin}
+use Rattle.format.specs.Checking.{factWithin, factsWithin}
+use Rattle.format.proofs.Limits.{within→}
 use Rattle.rows.specs.Rows.{factOf, rowAt, branchOf}
 use Rattle.rows.specs.Work.{Within, Fine}
 use Rattle.rows.proofs.Branches.{branch-at}
 
--- every number of a form within the limit
-pub row-small : (zs : List ℤ) → rowWithin zs ≡ true → Within numberLimit zs
-unfolding rowWithin
-row-small [] e j = omega arith
-row-small (z ∷ zs) e zero = leb-true (natAbs z) numberLimit (and-true (within numberLimit z) (rowWithin zs) e .0)
-row-small (z ∷ zs) e (suc j) = row-small zs (and-true (within numberLimit z) (rowWithin zs) e .1) j
+-- small numbers, place by place
+pub all-small : (n : ℕ) (zs : List ℤ) → All (Small n) zs → Within n zs
+all-small n zs h j = all-getD (Small n) zs j (pos 0) (omega arith) h
+
+pub within-small : (n : ℕ) (zs : List ℤ) → allWithin n zs ≡ true → Within n zs
+within-small n zs e = all-small n zs (within→ n zs e)
 
 -- a fact of a branch within the limit
-facts-at : (b : List Fact) (k : ℕ) (f : Fact) → factsWithin b ≡ true → getElem? b k ≡ some f → factWithin f ≡ true
-unfolding factsWithin
-facts-at [] k f e h = absurd (none-some h)
-facts-at (g ∷ b) zero f e h = subst (λ x. factWithin x ≡ true) (some-injective h) (and-true (factWithin g) (factsWithin b) e .0)
-facts-at (g ∷ b) (suc k) f e h = facts-at b k f (and-true (factWithin g) (factsWithin b) e .1) h
-
 pub fine-at : (w : List ℤ) (count k : ℕ) → Fine w count → k < count → factWithin (factOf (rowAt w k)) ≡ true
-fine-at w count k fine h = facts-at (branchOf w count) k (factOf (rowAt w k)) (fine .small) (branch-at w count k h)
+unfolding factsWithin
+fine-at w count k fine h = every-at factWithin (branchOf w count) k (factOf (rowAt w k)) (fine .small) (branch-at w count k h)
 
 -- ---- the invariant of the work area
 
@@ -55,7 +49,7 @@ fine-put w v k f fine h l e t =
     record {
       few = omega arith;
       room = omega arith;
-      small = ap factsWithin e ∙ every-snoc factWithin factsWithin refl (λ f b. refl) (branchOf w k) f ∙ ap₂ _&&_ (fine .small) t;
+      small = ap factsWithin e ∙ every-snoc factWithin (branchOf w k) f ∙ ap₂ _&&_ (fine .small) t;
     }
 
 -- ---- sizes
@@ -93,7 +87,7 @@ module _ (z : ℤ) (n : ℕ) (h : natAbs z ≤ n) (room : n ≤ 4000000000000000
   under-is = toZ-ofZ under-fits ∙ ap (λ x. negsuc 0 -ℤ x) (toZ-ofZ fits) ∙ +ℤ-comm (negsuc 0) (negℤ z) ∙ ap (λ x. x +ℤ negsuc 0) (sym (minus-one-*ℤ z))
 
 -- number j of a row behind its tag
-pub behind-tag : (row : List ℤ) (j : ℕ) → rowWithin (drop 1 row) ≡ true → 1 ≤ j → natAbs (getD row j (pos 0)) ≤ numberLimit
+pub behind-tag : (row : List ℤ) (j : ℕ) → allWithin numberLimit (drop 1 row) ≡ true → 1 ≤ j → natAbs (getD row j (pos 0)) ≤ numberLimit
 behind-tag [] j e h = omega arith
 behind-tag (x ∷ row) zero e h = absurd (omega arith)
-behind-tag (x ∷ row) (suc j) e h = row-small row e j
+behind-tag (x ∷ row) (suc j) e h = within-small numberLimit row e j

@@ -2,30 +2,25 @@
 use Prim.Native.Nat.{ℕ, zero, suc, _+_, _*_, _≤_, _<_}
 use native.Mathlib.Numerals.{add-one}
 use native.Mathlib.Omega.{arith}
-use mathlib.Core.Path.{_≡_, refl, sym, _∙_, ap, ap₂}
-use mathlib.Core.Bool.{Bool, true, _&&_, _||_, or-assoc, or-false, or-true}
-use mathlib.Core.Option.{some}
+use mathlib.Core.Path.{_≡_, refl, _∙_, ap, ap₂}
+use mathlib.Core.Bool.{true, _&&_}
 use mathlib.Core.List.{List, [], _∷_, _++_}
-use lib.ListN.{length, getD, drop, getElem?, drop-of-length-le}
+use lib.ListN.{length, getD, drop, drop-of-length-le}
 use lib.Seq.{drop-cons}
-use borrow.Author.Tests.{leb-true}
 use lib.IntN.{ℤ, pos, natAbs, one, _+ℤ_, _*ℤ_, *ℤ-zero, *ℤ-one}
 use mir.Syntax.{w64}
 use mir.Val.{SFits, toZ, ofZ}
 use mir.Facts.{toZ-ofZ}
 use Rattle.integers.proofs.Laws.{abs-+-le, abs-*-le}
-use Rattle.lists.proofs.Options.{some-injective, none-some}
-use Rattle.calculus.specs.Limits.{valueLimit}
-use Rattle.calculus.specs.Rows.{dot, zeros}
+use Rattle.lists.proofs.Lists.{all-append, all-replicate}
+use Rattle.calculus.specs.Limits.{valueLimit, Small}
+use Rattle.calculus.specs.Rows.{dot, zeros, valueIn}
 use Rattle.calculus.specs.Facts.{Fact, Branch, same, apart, isLiteral, arithmetic, holds}
-use Rattle.calculus.specs.Model.{valueIn}
-use Rattle.calculus.specs.Rules.{anyFact}
-use Rattle.format.specs.Fields.{within}
-use Rattle.format.specs.Answer.{allWithin}
+use Rattle.format.specs.Fields.{allWithin}
 use Rattle.format.specs.Checking.{keepsFact, keeps}
-use Rattle.format.proofs.Faults.{and-true}
+use Rattle.format.proofs.Limits.{within→}
 use Rattle.rows.specs.Work.{Within}
-use Rattle.rows.proofs.Small.{small-fits}
+use Rattle.rows.proofs.Small.{small-fits, all-small}
 
 -- ---- s + m x at an i64, where |s| is at most n, |m| at most a and |x| at most b
 
@@ -91,21 +86,5 @@ unfolding keeps
 keeps-filled m n [] = refl
 keeps-filled m n (f ∷ b) = ap₂ _&&_ (keeps-fact-filled m n f) (keeps-filled m n b)
 
-pub within-filled : (m : List ℤ) (n : ℕ) → allWithin m ≡ true → Within valueLimit (m ++ zeros n)
-unfolding allWithin
-within-filled [] zero e j = omega arith
-within-filled [] (suc n) e zero = omega arith
-within-filled [] (suc n) e (suc j) = within-filled [] n e j
-within-filled (z ∷ m) n e zero = leb-true (natAbs z) valueLimit (and-true (within valueLimit z) (allWithin m) e .0)
-within-filled (z ∷ m) n e (suc j) = within-filled m n (and-true (within valueLimit z) (allWithin m) e .1) j
-
--- ---- some fact of a branch
-
-pub any-snoc : (t : Fact → Bool) (b : Branch) (f : Fact) → anyFact t (b ++ (f ∷ [])) ≡ (anyFact t b || t f)
-any-snoc t [] f = or-false (t f)
-any-snoc t (g ∷ b) f = ap (λ s. t g || s) (any-snoc t b f) ∙ sym (or-assoc (t g) (anyFact t b) (t f))
-
-pub any-at : (t : Fact → Bool) (b : Branch) (k : ℕ) (f : Fact) → getElem? b k ≡ some f → t f ≡ true → anyFact t b ≡ true
-any-at t [] k f h e = absurd (none-some h)
-any-at t (g ∷ b) zero f h e = ap (λ s. s || anyFact t b) (ap t (some-injective h) ∙ e)
-any-at t (g ∷ b) (suc k) f h e = ap (λ s. t g || s) (any-at t b k f h e) ∙ or-true (t g)
+pub within-filled : (m : List ℤ) (n : ℕ) → allWithin valueLimit m ≡ true → Within valueLimit (m ++ zeros n)
+within-filled m n e = all-small valueLimit (m ++ zeros n) (all-append (Small valueLimit) m (zeros n) (within→ valueLimit m e) (all-replicate (Small valueLimit) n (pos 0) (omega arith)))

@@ -5,10 +5,11 @@ use mathlib.Core.Bool.{Bool, true, _||_}
 use mathlib.Core.List.{List}
 use lib.ListN.{length, getD, set}
 use lib.IntN.{ℤ, pos, negsuc, natAbs}
+use Rattle.lists.specs.Lists.{any}
 use Rattle.calculus.specs.Limits.{factLimit, workNumbers}
 use Rattle.calculus.specs.Rows.{number, column, minus}
 use Rattle.calculus.specs.Facts.{Fact, Branch, same, apart, isLiteral, arithmetic, ge, eq, ne}
-use Rattle.calculus.specs.Rules.{anyFact, statesZero}
+use Rattle.calculus.specs.Rules.{statesZero}
 use Rattle.format.specs.Checking.{factsWithin}
 use Rattle.rows.specs.Rows.{branchOf}
 
@@ -41,4 +42,4 @@ difference i j = set (set (number (pos 0)) (suc i) (pos 1)) (suc j) (negsuc 0)
 
 -- a fact states that the difference of the columns i and j is 0, "coefficients 1 and −1 in either order"
 unfoldable pub statesEqual : Branch → ℕ → ℕ → Bool
-statesEqual b i j = anyFact (statesZero (minus (column i) (column j))) b || anyFact (statesZero (minus (column j) (column i))) b
+statesEqual b i j = any (statesZero (minus (column i) (column j))) b || any (statesZero (minus (column j) (column i))) b

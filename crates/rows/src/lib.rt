@@ -6,14 +6,14 @@ ghost use mathlib.Core.List.{[], _∷_, _++_};
 ghost use Prim.Native.Nat.{_+_, _*_, _≤_, _<_};
 ghost use lib.ListN.{length, getD, drop};
 ghost use lib.IntN.{pos, negsuc};
+ghost use Rattle.lists.specs.Lists.{any};
 ghost use Rattle.calculus.specs.Limits.{variableLimit, columnLimit, numberLimit, valueLimit, factLimit, workNumbers};
-ghost use Rattle.calculus.specs.Rows.{zeros, column, scale, minus, less, below, allZero, eqRow};
+ghost use Rattle.calculus.specs.Rows.{zeros, column, scale, minus, less, below, allZero, eqRow, valueIn};
 ghost use Rattle.calculus.specs.Facts.{holds, arithmetic, ge, eq};
-ghost use Rattle.calculus.specs.Model.{valueIn};
-ghost use Rattle.calculus.specs.Rules.{falsum, joined, statesZero, anyFact};
-ghost use Rattle.format.specs.Fields.{within};
+ghost use Rattle.calculus.specs.Rules.{falsum, joined, statesZero};
+ghost use Rattle.format.specs.Fields.{within, allWithin};
 ghost use Rattle.format.specs.Question.{stringFact, relationOf};
-ghost use Rattle.format.specs.Checking.{fits, rowWithin, factWithin, keepsFact, keeps};
+ghost use Rattle.format.specs.Checking.{fits, factWithin, keepsFact, keeps};
 ghost use Rattle.rows.specs.Rows.{rowLength, index, factOf, rowAt, branchOf};
 ghost use Rattle.rows.specs.Work.{kindOf, Fine, Within, single, difference, statesEqual};
 use limits::COLUMN_LIMIT;
@@ -149,7 +149,7 @@ pub fn fill_difference(row: &mut [i64], relation: usize, i: usize, j: usize)
 // e − 1 ≥ 0, of the row of e.
 pub fn fill_less(out: &mut [i64], row: &[i64])
     requires { ⌜ (length (now out) ≡ rowLength) × (length (now row) ≡ rowLength) ⌝ }
-    requires { ⌜ rowWithin (drop 1 (now row)) ≡ true ⌝ }
+    requires { ⌜ allWithin numberLimit (drop 1 (now row)) ≡ true ⌝ }
     ensures { λ _. ⌜ factOf (now (out .exit)) ≡ arithmetic ge (less (drop 1 (now (row .entry)))) ⌝ }
 {
     fill_row(out, row);
@@ -161,7 +161,7 @@ pub fn fill_less(out: &mut [i64], row: &[i64])
 // −e behind the tag 0, in place of e.
 fn negate(row: &mut [i64])
     requires { ⌜ length (now row) ≡ rowLength ⌝ }
-    requires { ⌜ rowWithin (drop 1 (now row)) ≡ true ⌝ }
+    requires { ⌜ allWithin numberLimit (drop 1 (now row)) ≡ true ⌝ }
     ensures { λ _. ⌜ now (row .exit) ≡ pos 0 ∷ scale (negsuc 0) (drop 1 (now (row .entry))) ⌝ }
 {
     row[0] = 0;
@@ -176,7 +176,7 @@ fn negate(row: &mut [i64])
 // −e − 1 ≥ 0, in place of the row of e.
 pub fn turn_below(row: &mut [i64])
     requires { ⌜ length (now row) ≡ rowLength ⌝ }
-    requires { ⌜ rowWithin (drop 1 (now row)) ≡ true ⌝ }
+    requires { ⌜ allWithin numberLimit (drop 1 (now row)) ≡ true ⌝ }
     ensures { λ _. ⌜ factOf (now (row .exit)) ≡ arithmetic ge (below (drop 1 (now (row .entry)))) ⌝ }
 {
     let c = row[1];
@@ -187,7 +187,7 @@ pub fn turn_below(row: &mut [i64])
 // −e − 1 ≥ 0, of the row of e.
 pub fn fill_below(out: &mut [i64], row: &[i64])
     requires { ⌜ (length (now out) ≡ rowLength) × (length (now row) ≡ rowLength) ⌝ }
-    requires { ⌜ rowWithin (drop 1 (now row)) ≡ true ⌝ }
+    requires { ⌜ allWithin numberLimit (drop 1 (now row)) ≡ true ⌝ }
     ensures { λ _. ⌜ factOf (now (out .exit)) ≡ arithmetic ge (below (drop 1 (now (row .entry)))) ⌝ }
 {
     fill_row(out, row);
@@ -263,7 +263,7 @@ pub fn in_limit(x: i64) -> bool
 // Is every number behind the tag within the limit?
 fn form_within(row: &[i64]) -> bool
     requires { ⌜ length (now row) ≡ rowLength ⌝ }
-    ensures { λ r. ⌜ r ≡ rowWithin (drop 1 (now (row .entry))) ⌝ }
+    ensures { λ r. ⌜ r ≡ allWithin numberLimit (drop 1 (now (row .entry))) ⌝ }
 {
     let mut j = 1;
     while j < ROW_LENGTH {
@@ -337,7 +337,7 @@ pub fn is_false(row: &[i64]) -> bool
 // Is the second form the negative of the first?
 fn negates(row: &[i64], other: &[i64]) -> bool
     requires { ⌜ (length (now row) ≡ rowLength) × (length (now other) ≡ rowLength) ⌝ }
-    requires { ⌜ rowWithin (drop 1 (now row)) ≡ true ⌝ }
+    requires { ⌜ allWithin numberLimit (drop 1 (now row)) ≡ true ⌝ }
     ensures { λ r. ⌜ r ≡ eqRow (scale (negsuc 0) (drop 1 (now (row .entry)))) (drop 1 (now (other .entry))) ⌝ }
 {
     let mut j = 1;
@@ -388,7 +388,7 @@ fn same_row(row: &[i64], other: &[i64]) -> bool
 fn states_difference(work: &[i64], count: usize, i: usize, j: usize) -> bool
     requires { ⌜ (count ≤ factLimit) × (workNumbers ≤ length (now work)) ⌝ }
     requires { ⌜ (i < columnLimit) × (j < columnLimit) × (i ≢ j) ⌝ }
-    ensures { λ r. ⌜ r ≡ anyFact (statesZero (minus (column i) (column j))) (branchOf (now (work .entry)) count) ⌝ }
+    ensures { λ r. ⌜ r ≡ any (statesZero (minus (column i) (column j))) (branchOf (now (work .entry)) count) ⌝ }
 {
     let mut wanted = [0i64; ROW_LENGTH];
     fill_difference(&mut wanted, 1, i, j);
@@ -419,7 +419,7 @@ pub fn states_equal(work: &[i64], count: usize, i: usize, j: usize) -> bool
 // The form's value where the columns have the model's values.
 fn row_value(row: &[i64], model: &[i64]) -> i64
     requires { ⌜ (length (now row) ≡ rowLength) × (length (now model) ≡ columnLimit) ⌝ }
-    requires { ⌜ rowWithin (drop 1 (now row)) ≡ true ⌝ }
+    requires { ⌜ allWithin numberLimit (drop 1 (now row)) ≡ true ⌝ }
     requires { ⌜ Within valueLimit (now model) ⌝ }
     ensures { λ r. ⌜ r ≡ valueIn (now (model .entry)) (drop 1 (now (row .entry))) ⌝ }
 {

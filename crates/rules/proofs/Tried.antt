@@ -163,5 +163,5 @@ fine-added w v count r c fine l e h t =
     record {
       few = omega arith;
       room = omega arith;
-      small = ap factsWithin e ∙ every-append factWithin factsWithin refl (λ f b. refl) (branchOf w count) c ∙ ap₂ _&&_ (fine .small) t;
+      small = ap factsWithin e ∙ every-append factWithin (branchOf w count) c ∙ ap₂ _&&_ (fine .small) t;
     }

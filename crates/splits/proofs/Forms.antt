@@ -15,7 +15,8 @@ use Rattle.calculus.specs.Rows.{number}
 use Rattle.calculus.specs.Facts.{Fact, same, apart, isLiteral, arithmetic, ge, eq, ne}
 use Rattle.calculus.specs.Children.{apartChildren, cValidChildren, boundChild}
 use Rattle.calculus.specs.Rules.{then, parted, logUp, lastChild}
-use Rattle.format.specs.Checking.{fits, rowWithin, factWithin}
+use Rattle.format.specs.Checking.{fits, factWithin}
+use Rattle.format.specs.Fields.{allWithin}
 use Rattle.format.proofs.Faults.{not-both}
 use Rattle.rows.specs.Rows.{factOf, rowAt, branchOf}
 use Rattle.rows.specs.Work.{single, difference, kindOf}
@@ -82,7 +83,7 @@ parted-fits w count k e = go (decLt k count) (ℕ-discrete (kindOf (factOf (rowA
     go (yes h) (no n) = absurd (not-both (fits (then (getElem? (branchOf w count) k) parted)) e (parted-no w count k h n))
     go (no n) d = absurd (not-both (fits (then (getElem? (branchOf w count) k) parted)) e (parted-beyond w count k (omega arith)))
 
-pub ne-within : (row : List ℤ) → kindOf (factOf row) ≡ 2 → factWithin (factOf row) ≡ true → rowWithin (drop 1 row) ≡ true
+pub ne-within : (row : List ℤ) → kindOf (factOf row) ≡ 2 → factWithin (factOf row) ≡ true → allWithin numberLimit (drop 1 row) ≡ true
 ne-within row e h = sym (ap factWithin (row-relation row 2 (sym e) (omega arith))) ∙ h
 
 -- ---- Branch
@@ -159,14 +160,14 @@ last-some s x m j h = go (decLt 1 (s .n))
 
 -- ---- the limit
 
-within-number : (z : ℤ) → natAbs z ≤ numberLimit → rowWithin (number z) ≡ true
-unfolding rowWithin
+within-number : (z : ℤ) → natAbs z ≤ numberLimit → allWithin numberLimit (number z) ≡ true
+unfolding allWithin
 within-number z h = ap₂ _&&_ (le-leb (natAbs z) numberLimit h) refl
 
-pub within-single : (c : ℤ) (j : ℕ) (k : ℤ) → natAbs c ≤ numberLimit → natAbs k ≤ numberLimit → rowWithin (single c j k) ≡ true
+pub within-single : (c : ℤ) (j : ℕ) (k : ℤ) → natAbs c ≤ numberLimit → natAbs k ≤ numberLimit → allWithin numberLimit (single c j k) ≡ true
 unfolding single
 within-single c j k h g = within-set (number c) (suc j) k (within-number c h) (le-leb (natAbs k) numberLimit g)
 
-pub within-difference : (i j : ℕ) → rowWithin (difference i j) ≡ true
+pub within-difference : (i j : ℕ) → allWithin numberLimit (difference i j) ≡ true
 unfolding difference
 within-difference i j = within-set (set (number (pos 0)) (suc i) (pos 1)) (suc j) (negsuc 0) (within-set (number (pos 0)) (suc i) (pos 1) (within-number (pos 0) (omega arith)) refl) refl

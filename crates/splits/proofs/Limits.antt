@@ -11,13 +11,13 @@ use lib.Dec.{leb}
 use lib.IntN.{ℤ, pos, negsuc, negℤ, natAbs, _+ℤ_, _*ℤ_}
 use Rattle.integers.proofs.Laws.{abs-neg, minus-one-*ℤ}
 use Rattle.calculus.specs.Limits.{numberLimit}
-use Rattle.calculus.specs.Rows.{number, scale, less, below}
+use Rattle.calculus.specs.Rows.{scale, less, below}
 use Rattle.calculus.specs.Facts.{Fact, isLiteral, arithmetic, ge}
 use Rattle.calculus.specs.Children.{lValidChildren, cValidChildren, cInjChildren, pairsWith, pairs}
 use Rattle.calculus.specs.Rules.{logUp, lastChild, children}
-use Rattle.format.specs.Fields.{u16, u16s, within}
+use Rattle.format.specs.Fields.{u16, u16s, within, allWithin}
 use Rattle.format.specs.StepForms.{rule, stepOf}
-use Rattle.format.specs.Checking.{fits, orNone, rowWithin, factWithin, factsWithin, childrenWithin}
+use Rattle.format.specs.Checking.{fits, orNone, factWithin, factsWithin, childrenWithin}
 use Rattle.format.proofs.Faults.{and-true}
 use Rattle.rows.specs.Rows.{branchOf}
 use Rattle.rows.proofs.Forms.{less-form, below-form, less-column, minus-number, columns-difference}
@@ -56,27 +56,27 @@ two-within o c d e =
 
 -- ---- Branch and Apart: only the constant of e − 1 and of −e − 1 can pass the limit
 
-scale-within : (e : List ℤ) → rowWithin (scale (negsuc 0) e) ≡ rowWithin e
-unfolding rowWithin
+scale-within : (e : List ℤ) → allWithin numberLimit (scale (negsuc 0) e) ≡ allWithin numberLimit e
+unfolding allWithin
 scale-within [] = refl
 scale-within (z ∷ e) = ap₂ (λ (n : ℕ) (t : Bool). leb n numberLimit && t) (ap natAbs (minus-one-*ℤ z) ∙ abs-neg z) (scale-within e)
 
-first-within : (v : ℤ) (cs : List ℤ) → rowWithin cs ≡ true → within numberLimit v ≡ factsWithin (arithmetic ge (v ∷ cs) ∷ [])
-unfolding factsWithin rowWithin
-first-within v cs h = and-one (within numberLimit v) ∙ ap (λ t. within numberLimit v && t) (sym h) ∙ and-one (within numberLimit v && rowWithin cs)
+first-within : (v : ℤ) (cs : List ℤ) → allWithin numberLimit cs ≡ true → within numberLimit v ≡ factsWithin (arithmetic ge (v ∷ cs) ∷ [])
+unfolding factsWithin allWithin
+first-within v cs h = and-one (within numberLimit v) ∙ ap (λ t. within numberLimit v && t) (sym h) ∙ and-one (within numberLimit v && allWithin numberLimit cs)
 
-pub less-within : (e : List ℤ) (v : ℤ) → length e ≡ 49 → rowWithin e ≡ true → v ≡ getD e 0 (pos 0) +ℤ negsuc 0 → within numberLimit v ≡ factsWithin (arithmetic ge (less e) ∷ [])
-unfolding rowWithin
+pub less-within : (e : List ℤ) (v : ℤ) → length e ≡ 49 → allWithin numberLimit e ≡ true → v ≡ getD e 0 (pos 0) +ℤ negsuc 0 → within numberLimit v ≡ factsWithin (arithmetic ge (less e) ∷ [])
+unfolding allWithin
 less-within [] v l h q = absurd (omega arith)
 less-within (c ∷ cs) v l h q =
-    first-within v cs (and-true (within numberLimit c) (rowWithin cs) h .1)
+    first-within v cs (and-true (within numberLimit c) (allWithin numberLimit cs) h .1)
     ∙ ap (λ (r : List ℤ). factsWithin (arithmetic ge r ∷ [])) (ap (λ (z : ℤ). z ∷ cs) q ∙ sym (less-form c cs (omega arith)))
 
-pub below-within : (e : List ℤ) (v : ℤ) → length e ≡ 49 → rowWithin e ≡ true → v ≡ (negsuc 0 *ℤ getD e 0 (pos 0)) +ℤ negsuc 0 → within numberLimit v ≡ factsWithin (arithmetic ge (below e) ∷ [])
-unfolding rowWithin
+pub below-within : (e : List ℤ) (v : ℤ) → length e ≡ 49 → allWithin numberLimit e ≡ true → v ≡ (negsuc 0 *ℤ getD e 0 (pos 0)) +ℤ negsuc 0 → within numberLimit v ≡ factsWithin (arithmetic ge (below e) ∷ [])
+unfolding allWithin
 below-within [] v l h q = absurd (omega arith)
 below-within (c ∷ cs) v l h q =
-    first-within v (scale (negsuc 0) cs) (scale-within cs ∙ and-true (within numberLimit c) (rowWithin cs) h .1)
+    first-within v (scale (negsuc 0) cs) (scale-within cs ∙ and-true (within numberLimit c) (allWithin numberLimit cs) h .1)
     ∙ ap (λ (r : List ℤ). factsWithin (arithmetic ge r ∷ [])) (ap (λ (z : ℤ). z ∷ scale (negsuc 0) cs) q ∙ sym (below-form c cs (omega arith)))
 
 -- ---- the children of each rule

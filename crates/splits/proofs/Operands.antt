@@ -21,7 +21,7 @@ use Rattle.calculus.specs.Rules.{guard, distinct, neighbours, sameLength, lastC
 use Rattle.format.specs.Fields.{u16, u16s, i32, pairsAt, within}
 use Rattle.format.specs.Question.{rising, formRange, formOf}
 use Rattle.format.specs.Checking.{fits, orNone}
-use Rattle.format.specs.StepForms.{ruleOf, formFor, rule, allBelow, operandsInRange, stepOf}
+use Rattle.format.specs.StepForms.{ruleOf, formFor, rule, variables, operandsInRange, stepOf}
 use Rattle.format.proofs.Faults.{and-true}
 use Rattle.constraints.proofs.Ranges.{form-rises}
 use Rattle.format.proofs.Decoded.{at-least}
@@ -97,8 +97,8 @@ module _ (b : List ℕ) (s : Progress) (at m : ℕ) (w : List ℤ) (count : ℕ)
   ranged : (k : ℕ) → k ≡ u16 b at → operandsInRange b (s .p) (s .q + (s .p + s .p)) (ruleOf k) at m ≡ true
   ranged k e = ap (λ j. operandsInRange b (s .p) (s .q + (s .p + s .p)) (ruleOf j) at m) e ∙ h .in-range
 
-  first-below : (x : ℕ) (xs : List ℕ) → allBelow (s .p) (x ∷ xs) ≡ true → x < s .p
-  first-below x xs e = ltb-true x (s .p) (and-true (ltb x (s .p)) (allBelow (s .p) xs) e .0)
+  first-below : (x : ℕ) (xs : List ℕ) → variables (s .p) (x ∷ xs) ≡ true → x < s .p
+  first-below x xs e = ltb-true x (s .p) (and-true (ltb x (s .p)) (variables (s .p) xs) e .0)
 
   -- Card and Branch by what the number is not
   pub card-number : (k : ℕ) → k ≡ u16 b at → (k ≡ 2 → ⊥) → (k ≡ 3 → ⊥) → (k ≡ 8 → ⊥) → (u16 b at ≡ 10 → ⊥) → (k ≡ 11 → ⊥) → 12 ≡ u16 b at
@@ -145,10 +145,10 @@ module _ (b : List ℕ) (s : Progress) (at m : ℕ) (w : List ℤ) (count : ℕ)
   c-inj-operands e =
       let l : 8 ≤ m = long 11 e in
       let whole = h .whole in
-      (omega arith, first-below (u16 b (at + 4)) (u16 b (at + 6) ∷ []) (ranged 11 e), first-below (u16 b (at + 6)) [] (and-true (ltb (u16 b (at + 4)) (s .p)) (allBelow (s .p) (u16 b (at + 6) ∷ [])) (ranged 11 e) .1))
+      (omega arith, first-below (u16 b (at + 4)) (u16 b (at + 6) ∷ []) (ranged 11 e), first-below (u16 b (at + 6)) [] (and-true (ltb (u16 b (at + 4)) (s .p)) (variables (s .p) (u16 b (at + 6) ∷ [])) (ranged 11 e) .1))
 
   -- Card: the variables
-  pub card-operands : 12 ≡ u16 b at → (2 ≤ (m - 4) / 2) × ((m - 4) / 2 ≤ 16) × (at + 4 + 2 * ((m - 4) / 2) ≤ length b) × (allBelow (s .p) (u16s b (at + 4) ((m - 4) / 2)) ≡ true) × (4 ≤ m)
+  pub card-operands : 12 ≡ u16 b at → (2 ≤ (m - 4) / 2) × ((m - 4) / 2 ≤ 16) × (at + 4 + 2 * ((m - 4) / 2) ≤ length b) × (variables (s .p) (u16s b (at + 4) ((m - 4) / 2)) ≡ true) × (4 ≤ m)
   unfolding operandsInRange
   card-operands e =
       let l : 8 ≤ m = long 12 e in

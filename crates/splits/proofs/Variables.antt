@@ -12,7 +12,7 @@ use Rattle.calculus.specs.Facts.{Question, Branch}
 use Rattle.calculus.specs.Children.{pairs}
 use Rattle.calculus.specs.Rules.{guard, elem, distinct, neighbours, sameLength, lastChild, cardChildren}
 use Rattle.format.specs.Fields.{u16, u16s}
-use Rattle.format.specs.StepForms.{allBelow}
+use Rattle.format.specs.StepForms.{variables}
 use Rattle.format.proofs.Faults.{and-true, not-both}
 use Rattle.format.proofs.Fields.{length-u16s}
 use Rattle.rows.specs.Work.{statesEqual}
@@ -77,33 +77,33 @@ neighbours-differ b i others h e q =
 
 -- ---- variables below p
 
-pub below-first : (b : List ℕ) (p i left : ℕ) → 0 < left → allBelow p (u16s b i left) ≡ true → u16 b i < p
-below-first b p i left h e = ltb-true (u16 b i) p (and-true (ltb (u16 b i) p) (allBelow p (u16s b (i + 2) (left - 1))) (sym (ap (allBelow p) (u16s-more b i left h)) ∙ e) .0)
+pub below-first : (b : List ℕ) (p i left : ℕ) → 0 < left → variables p (u16s b i left) ≡ true → u16 b i < p
+below-first b p i left h e = ltb-true (u16 b i) p (and-true (ltb (u16 b i) p) (variables p (u16s b (i + 2) (left - 1))) (sym (ap (variables p) (u16s-more b i left h)) ∙ e) .0)
 
-pub below-others : (b : List ℕ) (p i left : ℕ) → 0 < left → allBelow p (u16s b i left) ≡ true → allBelow p (u16s b (i + 2) (left - 1)) ≡ true
-below-others b p i left h e = and-true (ltb (u16 b i) p) (allBelow p (u16s b (i + 2) (left - 1))) (sym (ap (allBelow p) (u16s-more b i left h)) ∙ e) .1
+pub below-others : (b : List ℕ) (p i left : ℕ) → 0 < left → variables p (u16s b i left) ≡ true → variables p (u16s b (i + 2) (left - 1)) ≡ true
+below-others b p i left h e = and-true (ltb (u16 b i) p) (variables p (u16s b (i + 2) (left - 1))) (sym (ap (variables p) (u16s-more b i left h)) ∙ e) .1
 
-pub below-at : (b : List ℕ) (p i n j : ℕ) → j < n → allBelow p (u16s b i n) ≡ true → u16 b (i + 2 * j) < p
+pub below-at : (b : List ℕ) (p i n j : ℕ) → j < n → variables p (u16s b i n) ≡ true → u16 b (i + 2 * j) < p
 below-at b p i zero j h e = absurd (omega arith)
 below-at b p i (suc n) zero h e = let q : i + 2 * 0 ≡ i = omega arith in rw q (below-first b p i (suc n) (omega arith) e)
 below-at b p i (suc n) (suc j) h e =
     let r : suc n - 1 ≡ n = omega arith in
-    let q : i + 2 * suc j ≡ i + 2 + 2 * j = omega arith in rw q (below-at b p (i + 2) n j (omega arith) (subst (λ l. allBelow p (u16s b (i + 2) l) ≡ true) r (below-others b p i (suc n) (omega arith) e)))
+    let q : i + 2 * suc j ≡ i + 2 + 2 * j = omega arith in rw q (below-at b p (i + 2) n j (omega arith) (subst (λ l. variables p (u16s b (i + 2) l) ≡ true) r (below-others b p i (suc n) (omega arith) e)))
 
-pub below-later : (b : List ℕ) (p i others j : ℕ) → j < others → allBelow p (u16s b i (others + 1)) ≡ true → u16 b (i + 2 + 2 * j) < p
+pub below-later : (b : List ℕ) (p i others j : ℕ) → j < others → variables p (u16s b i (others + 1)) ≡ true → u16 b (i + 2 + 2 * j) < p
 below-later b p i others j h e =
     let q : i + 2 * (j + 1) ≡ i + 2 + 2 * j = omega arith in
     subst (λ k. u16 b k < p) q (below-at b p i (others + 1) (j + 1) (omega arith) e)
 
-pub below-second : (b : List ℕ) (p i others : ℕ) → 0 < others → allBelow p (u16s b i (others + 1)) ≡ true → u16 b (i + 2) < p
+pub below-second : (b : List ℕ) (p i others : ℕ) → 0 < others → variables p (u16s b i (others + 1)) ≡ true → u16 b (i + 2) < p
 below-second b p i others h e =
     let q : i + 2 + 2 * 0 ≡ i + 2 = omega arith in
     subst (λ k. u16 b k < p) q (below-later b p i others 0 h e)
 
-pub below-rest : (b : List ℕ) (p i others : ℕ) → 0 < others → allBelow p (u16s b i (others + 1)) ≡ true → allBelow p (u16s b (i + 2) (others - 1 + 1)) ≡ true
+pub below-rest : (b : List ℕ) (p i others : ℕ) → 0 < others → variables p (u16s b i (others + 1)) ≡ true → variables p (u16s b (i + 2) (others - 1 + 1)) ≡ true
 below-rest b p i others h e =
     let q : others + 1 - 1 ≡ others - 1 + 1 = omega arith in
-    subst (λ n. allBelow p (u16s b (i + 2) n) ≡ true) q (below-others b p i (others + 1) (omega arith) e)
+    subst (λ n. variables p (u16s b (i + 2) n) ≡ true) q (below-others b p i (others + 1) (omega arith) e)
 
 -- ---- neighbours
 

@@ -13,7 +13,7 @@ ghost use Rattle.calculus.specs.Children.{splitChildren, apartChildren, lValidC
 ghost use Rattle.calculus.specs.Rules.{then, parted, elem, distinct, neighbours, lastChild, cardChildren, children};
 ghost use Rattle.format.specs.Fields.{u16, u16s};
 ghost use Rattle.format.specs.Question.{formRange, formOf};
-ghost use Rattle.format.specs.StepForms.{allBelow, stepAt};
+ghost use Rattle.format.specs.StepForms.{variables, stepAt};
 ghost use Rattle.format.specs.Checking.{fits as fitting, orNone, factWithin, factsWithin, childrenWithin};
 ghost use Rattle.rows.specs.Rows.{rowLength, factOf, rowAt, branchOf};
 ghost use Rattle.rows.specs.Work.{kindOf, single};
@@ -81,7 +81,7 @@ fn lengths_agree(
     count: usize,
 ) -> bool
     requires { ⌜ (at + 2 + 2 * others ≤ length (now b)) × (s .p ≤ variableLimit) × (s .q ≤ variableLimit) ⌝ }
-    requires { ⌜ (distinct (u16s (now b) at (others + 1)) ≡ true) × (allBelow (s .p) (u16s (now b) at (others + 1)) ≡ true) ⌝ }
+    requires { ⌜ (distinct (u16s (now b) at (others + 1)) ≡ true) × (variables (s .p) (u16s (now b) at (others + 1)) ≡ true) ⌝ }
     requires { ⌜ (count ≤ factLimit) × (workNumbers ≤ length (now work)) ⌝ }
     ensures { λ r. ⌜ r ≡ neighbours (numbered s) (branchOf (now (work .entry)) count) (u16 (now (b .entry)) at) (u16s (now (b .entry)) (at + 2) others) ⌝ }
 {
@@ -102,7 +102,7 @@ fn lengths_agree(
 // Card fits on the m variables from a position.
 fn card_fits(b: &[u8], s: Progress, at: usize, m: usize, work: &[i64], count: usize) -> bool
     requires { ⌜ (2 ≤ m) × (at + 2 * m ≤ length (now b)) × (s .p ≤ variableLimit) × (s .q ≤ variableLimit) ⌝ }
-    requires { ⌜ allBelow (s .p) (u16s (now b) at m) ≡ true ⌝ }
+    requires { ⌜ variables (s .p) (u16s (now b) at m) ≡ true ⌝ }
     requires { ⌜ (count ≤ factLimit) × (workNumbers ≤ length (now work)) ⌝ }
     ensures { λ r. ⌜ r ≡ fitting (cardChildren (numbered s) (branchOf (now (work .entry)) count) (u16s (now (b .entry)) at m)) ⌝ }
 {
@@ -222,7 +222,7 @@ fn put_bound(work: &mut [i64], count: usize, s: Progress, x: usize, m: usize)
 // Card: "Children, for each pair i < j in lexicographic order, x_i ≈ x_j; last, len(x_1) ≥ L", of the m variables from a position.
 fn put_card(work: &mut [i64], count: usize, b: &[u8], s: Progress, at: usize, m: usize, k: usize)
     requires { ⌜ (count < factLimit) × (workNumbers ≤ length (now work)) ⌝ }
-    requires { ⌜ (2 ≤ m) × (m ≤ variableLimit) × (at + 2 * m ≤ length (now b)) × (allBelow (s .p) (u16s (now b) at m) ≡ true) ⌝ }
+    requires { ⌜ (2 ≤ m) × (m ≤ variableLimit) × (at + 2 * m ≤ length (now b)) × (variables (s .p) (u16s (now b) at m) ≡ true) ⌝ }
     requires { ⌜ (s .p ≤ variableLimit) × (s .q ≤ variableLimit) × (1 ≤ s .n) × (s .n ≤ alphabetLimit) ⌝ }
     requires { ⌜ (1 ≤ k) × (k ≤ length (pairs (u16s (now b) at m) (lastChild (numbered s) (u16 (now b) at) m))) ⌝ }
     ensures { λ _. ⌜ branchOf (now (work .exit)) (count + 1) ≡ branchOf (now (work .entry)) count ++ childOf (some (pairs (u16s (now (b .entry)) at m) (lastChild (numbered s) (u16 (now (b .entry)) at) m))) k ⌝ }

@@ -5,9 +5,8 @@ use mathlib.Core.Path.{_≡_, refl, sym, _∙_, ap, ap₂}
 use mathlib.Core.Bool.{Bool, true, false, _&&_}
 use mathlib.Core.List.{List}
 use lib.ListN.{length}
-use Rattle.calculus.specs.Facts.{Question}
+use Rattle.calculus.specs.Facts.{Question, columnCount}
 use Rattle.format.specs.Records.{need}
-use Rattle.format.specs.Question.{columnCount}
 use Rattle.format.specs.StepForms.{rule, lengthFits, operandsInRange}
 use Rattle.format.specs.Reading.{stepFault}
 use Rattle.steps.specs.Forms.{Formed}

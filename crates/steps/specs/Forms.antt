@@ -4,8 +4,7 @@ use mathlib.Core.Path.{_≡_}
 use mathlib.Core.Bool.{true}
 use mathlib.Core.List.{List}
 use lib.ListN.{length}
-use Rattle.calculus.specs.Facts.{Question}
-use Rattle.format.specs.Question.{columnCount}
+use Rattle.calculus.specs.Facts.{Question, columnCount}
 use Rattle.format.specs.StepForms as format
 use Rattle.format.specs.StepForms.{rule, lengthFits, operandsInRange}
 use Rattle.steps.specs.declared.Form.{Form}

@@ -9,7 +9,7 @@ ghost use Rattle.calculus.specs.Limits.{variableLimit};
 ghost use Rattle.calculus.specs.Alphabet.{characterCount};
 ghost use Rattle.calculus.specs.Steps.{pairCount, lastCount, shape};
 ghost use Rattle.format.specs.Fields.{u16s, pairsAt};
-ghost use Rattle.format.specs.StepForms.{sum, sProp, ruleOf, formFor, fitsForm, rule, child, lengthFits, multipliersWithin, allBelow, operandsInRange, stepAt, childInRange};
+ghost use Rattle.format.specs.StepForms.{sum, sProp, ruleOf, formFor, fitsForm, rule, child, lengthFits, multipliersWithin, variables, operandsInRange, stepAt, childInRange};
 ghost use Rattle.format.specs.Reading.{stepFault};
 ghost use Rattle.question.specs.Progress.{progressOf};
 ghost use Rattle.steps.specs.Forms.{formOf};
@@ -133,7 +133,7 @@ fn sum_in_range(b: &[u8], at: usize, size: usize) -> bool
 // Whether the count variables from a position are below p.
 fn variables_below(b: &[u8], p: usize, at: usize, count: usize) -> bool
     requires { ⌜ at + 2 * count ≤ length (now b) ⌝ }
-    ensures { λ r. ⌜ r ≡ allBelow p (u16s (now (b .entry)) at count) ⌝ }
+    ensures { λ r. ⌜ r ≡ variables p (u16s (now (b .entry)) at count) ⌝ }
 {
     let mut i = at;
     let mut left = count;

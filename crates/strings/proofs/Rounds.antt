@@ -15,6 +15,7 @@ use lib.IntN.{ℤ, natAbs}
 use Rattle.lists.proofs.Options.{some-injective, none-some}
 use Rattle.lists.proofs.Tests.{true→, equal-tests}
 use Rattle.lists.proofs.Lists.{In, in-append, in-left, in-right}
+use Rattle.lists.proofs.Below.{all-below→}
 use Rattle.calculus.specs.Limits.{lengthLimit}
 use Rattle.calculus.specs.Facts.{Question, Branch, len}
 use Rattle.calculus.specs.Classes.{labels}
@@ -24,7 +25,6 @@ use Rattle.calculus.specs.Strings.{given, fixedString, fixedStrings, stringsTo,
 use Rattle.calculus.proofs.Lowest.{lowest-le}
 use Rattle.calculus.proofs.Strings.{S, length-strings, strings-at, in-strings→, →in-strings, in-fixed→, →in-fixed, S-fixed, S-copied, S-new}
 use Rattle.calculus.proofs.Words.{given→, →given}
-use Rattle.calculus.proofs.Tests.{every→}
 use Rattle.format.specs.Checking.{shortLengths}
 use Rattle.answer.specs.Table.{row, tableStrings}
 use Rattle.strings.specs.Filling.{entry, before, givenStrings, fixedAt, completed}
@@ -180,4 +180,4 @@ sizes-more sizes x size inside h l y k = go (ℕ-discrete y x)
     go (no n) = omega (arith, getD-set-other sizes x y size 0 n, h y (omega arith))
 
 pub short-length : (u : Question) (m : List ℤ) (x : ℕ) → shortLengths u m ≡ true → x < u .p → natAbs (modelOf u m len x) ≤ lengthLimit
-short-length u m x e h = leb→le (natAbs (modelOf u m len x)) lengthLimit (every→ (u .p) (λ y. leb (natAbs (modelOf u m len y)) lengthLimit) (true→ e) x h)
+short-length u m x e h = leb→le (natAbs (modelOf u m len x)) lengthLimit (all-below→ (u .p) (λ y. leb (natAbs (modelOf u m len y)) lengthLimit) (true→ e) x h)

@@ -11,9 +11,9 @@ use lib.IntN.{ℤ, pos, natAbs}
 use Rattle.calculus.specs.Limits.{numberLimit}
 use Rattle.calculus.specs.Rows.{zeros}
 use Rattle.calculus.specs.Rules.{summand, sumOf}
-use Rattle.format.specs.Fields.{u16, i32, pairsAt, within}
+use Rattle.format.specs.Fields.{u16, i32, pairsAt, within, allWithin}
 use Rattle.format.specs.StepForms.{multipliersWithin}
-use Rattle.format.specs.Checking.{fits, rowWithin}
+use Rattle.format.specs.Checking.{fits}
 use Rattle.format.proofs.Faults.{and-true}
 use Rattle.format.proofs.Pairs.{next-pair, no-pair, all-pairs}
 use Rattle.rows.specs.Rows.{factOf, rowAt, branchOf}
@@ -84,7 +84,7 @@ module _ (w : List ℤ) (count : ℕ) (b : List ℕ) (at n : ℕ) where
 
       -- it does
       module _ (fine : Fine w count) (t : fits (summand multiplier (factOf (rowAt w fact))) ≡ true) where
-        pub row-small : rowWithin (drop 1 (rowAt w fact)) ≡ true
+        pub row-small : allWithin numberLimit (drop 1 (rowAt w fact)) ≡ true
         row-small = sym (taken multiplier (rowAt w fact) t .small) ∙ fine-at w count fact fine g
 
         pub summing-more : length (rowAt w fact) ≡ 50 → Summing (added sum multiplier (rowAt w fact)) (i + 1)

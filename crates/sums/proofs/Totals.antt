@@ -11,18 +11,19 @@ use borrow.Author.Tests.{lt-ltb}
 use lib.ListN.{length, getD, take, drop, getElem?, length-drop}
 use lib.Seq.{getD-take}
 use lib.IntN.{ℤ, pos, negsuc, natAbs, _+ℤ_, _*ℤ_}
-use lib.Signed.{ltZ}
+use lib.Signed.{ltZ, nonNeg}
 use Rattle.integers.proofs.Laws.{abs-+-le, abs-*-le}
 use Rattle.lists.proofs.Options.{none-some, some-injective}
 use Rattle.calculus.specs.Limits.{numberLimit}
-use Rattle.calculus.specs.Rows.{plus, scale, zeros, nonneg, isZero}
+use Rattle.calculus.specs.Rows.{plus, scale, zeros, isZero}
 use Rattle.calculus.specs.Facts.{Question, Fact, Branch, same, apart, isLiteral, arithmetic, ge, eq, ne}
 use Rattle.calculus.specs.Steps.{Sum}
 use Rattle.calculus.specs.Children.{one}
 use Rattle.calculus.specs.Rules.{then, summand, sumOf, divided, children}
 use Rattle.calculus.proofs.Entries.{entry-plus, entry-scale, length-plus, length-scale}
 use Rattle.calculus.proofs.Tests.{then→}
-use Rattle.format.specs.Checking.{fits, rowWithin, factWithin}
+use Rattle.format.specs.Checking.{fits, factWithin}
+use Rattle.format.specs.Fields.{allWithin}
 use Rattle.rows.specs.Rows.{rowLength, factOf, rowAt, branchOf}
 use Rattle.rows.specs.Work.{Within, kindOf}
 use Rattle.rows.proofs.Branches.{branch-at, branch-beyond, length-row}
@@ -35,7 +36,7 @@ use Rattle.sums.specs.Sums.{added, sumFact}
 -- ---- a summand
 
 -- the test of a multiplier on a ≥ fact
-pub positive-test : (m : ℤ) → ltZ (pos 0) m ≡ (nonneg m && not (isZero m))
+pub positive-test : (m : ℤ) → ltZ (pos 0) m ≡ (nonNeg m && not (isZero m))
 positive-test (pos zero) = refl
 positive-test (pos (suc n)) = lt-ltb 0 (suc n) (omega arith)
 positive-test (negsuc n) = refl
@@ -52,7 +53,7 @@ no-summand m (arithmetic ne e) h k = refl
 -- what a fact that takes the multiplier gives
 pub record Taken (m : ℤ) (row : List ℤ) : Type 0 where
   pub form : summand m (factOf row) ≡ some (scale m (drop 1 row))
-  pub small : factWithin (factOf row) ≡ rowWithin (drop 1 row)
+  pub small : factWithin (factOf row) ≡ allWithin numberLimit (drop 1 row)
 
 pub taken : (m : ℤ) (row : List ℤ) → fits (summand m (factOf row)) ≡ true → Taken m row
 taken m row e = go (ℕ-discrete (kindOf (factOf row)) 0) (ℕ-discrete (kindOf (factOf row)) 1)
@@ -61,7 +62,7 @@ taken m row e = go (ℕ-discrete (kindOf (factOf row)) 0) (ℕ-discrete (kindOf 
     go (yes p) d =
         let f : factOf row ≡ arithmetic ge (drop 1 row) = row-relation row 0 (sym p) (omega arith) in
         record {
-          form = ap (summand m) f ∙ guard-given (nonneg m && not (isZero m)) (scale m (drop 1 row)) (sym (ap (λ x. fits (summand m x)) f) ∙ e);
+          form = ap (summand m) f ∙ guard-given (nonNeg m && not (isZero m)) (scale m (drop 1 row)) (sym (ap (λ x. fits (summand m x)) f) ∙ e);
           small = ap factWithin f;
         }
     go (no n) (yes p) =
@@ -179,7 +180,7 @@ pub same-first : (a b : List ℤ) → take 1 a ≡ take 1 b → getD a 0 (pos 0)
 same-first a b e = sym (getD-take 1 a 0 (pos 0) (omega arith)) ∙ ap (λ (l : List ℤ). getD l 0 (pos 0)) e ∙ getD-take 1 b 0 (pos 0) (omega arith)
 
 -- its size
-pub added-within : (n : ℕ) (sum : List ℤ) (m : ℤ) (row : List ℤ) → length sum ≡ 50 → Within n sum → natAbs m ≤ numberLimit → rowWithin (drop 1 row) ≡ true
+pub added-within : (n : ℕ) (sum : List ℤ) (m : ℤ) (row : List ℤ) → length sum ≡ 50 → Within n sum → natAbs m ≤ numberLimit → allWithin numberLimit (drop 1 row) ≡ true
     → Within (n + 1000000000000000000) (added sum m row)
 added-within n sum m row h ws hm wr zero = le-trans (subst (λ z. natAbs z ≤ n) (same-first sum (added sum m row) (added-first sum m row h)) (ws 0)) (omega arith)
 added-within n sum m row h ws hm wr (suc j) =

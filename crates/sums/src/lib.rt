@@ -8,9 +8,9 @@ ghost use lib.Signed.{_≤ℤ_};
 ghost use Rattle.calculus.specs.Limits.{numberLimit, summandLimit};
 ghost use Rattle.calculus.specs.Rows.{zeros, floorDiv};
 ghost use Rattle.calculus.specs.Rules.{summand, sumOf, divided};
-ghost use Rattle.format.specs.Fields.{pairsAt};
+ghost use Rattle.format.specs.Fields.{pairsAt, allWithin};
 ghost use Rattle.format.specs.StepForms.{multipliersWithin};
-ghost use Rattle.format.specs.Checking.{fits, rowWithin};
+ghost use Rattle.format.specs.Checking.{fits};
 ghost use Rattle.rows.specs.Rows.{rowLength, factOf, branchOf};
 ghost use Rattle.rows.specs.Work.{Within, Fine};
 ghost use Rattle.sums.specs.Sums.{added, geRow, rowIn, factIn, sumFact};
@@ -33,7 +33,7 @@ fn takes(row: &[i64], multiplier: i64) -> bool
 
 // A row times a multiplier is added to the sum.
 fn add_multiple(sum: &mut [i64], row: &[i64], multiplier: i64)
-    requires { ⌜ (length (now row) ≡ rowLength) × (rowWithin (drop 1 (now row)) ≡ true) ⌝ }
+    requires { ⌜ (length (now row) ≡ rowLength) × (allWithin numberLimit (drop 1 (now row)) ≡ true) ⌝ }
     requires { ⌜ natAbs multiplier ≤ numberLimit ⌝ }
     requires { ⌜ (length (now sum) ≡ rowLength) × Within 7000000000000000000 (now sum) ⌝ }
     ensures { λ _. ⌜ now (sum .exit) ≡ added (now (sum .entry)) multiplier (now (row .entry)) ⌝ }

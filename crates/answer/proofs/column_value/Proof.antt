@@ -13,9 +13,9 @@ use Rattle.answer.proofs.Columns.{code-column, integer-column, len-colu
 use Rattle.answer.proofs.Read.{integers-there, text-there}
 use Rattle.answer.specs.Form.{columnsAt}
 use Rattle.calculus.specs.Facts.{codeOf}
-use Rattle.format.specs.Answer.{stringAt}
 use Rattle.format.specs.Fields.{i32}
 use Rattle.format.specs.Records.{size}
+use Rattle.format.specs.Places.{textAt}
 use Rattle.answer.proofs.column_value.Statement.{statement}
 use Rattle.answer.proofs.column_value.Tie as tie
 
@@ -98,7 +98,7 @@ returns-3 c =
     let h : s .args .j - s .args .q - s .args .p < s .args .p = omega arith in
     let e : s .args .q + (s .args .p + (s .args .j - s .args .q - s .args .p)) ≡ s .args .j = omega arith in
     toZ-ofZ (record { sfits = c .string-code .ok }) ∙ c .string-code .ensures
-    ∙ ap (λ (k : ℕ). codeOf (stringAt (now (s .args .v)) k)) (s .pre .1 x (omega arith))
+    ∙ ap (λ (k : ℕ). codeOf (textAt (now (s .args .v)) k)) (s .pre .1 x (omega arith))
     ∙ sym (code-column (now (s .args .v)) (s .args .p) (s .args .q) x h)
     ∙ ap (λ (k : ℕ). getD (columnsAt (now (s .args .v)) (s .args .p) (s .args .q)) k (pos 0)) e
 

@@ -10,18 +10,18 @@ use mathlib.Core.Path.{_∙_, _≡_, ap, refl, sym}
 use native.Mathlib.Numerals.{add-one}
 use native.Mathlib.Omega.{arith}
 use Rattle.answer.proofs.Read.{integers-there, outside-last, outside-no, outside-none, outside-yes, text-there}
-use Rattle.answer.specs.Form.{asking}
 use Rattle.calculus.specs.Alphabet.{allCharacters}
+use Rattle.calculus.specs.Facts.{blank}
 use Rattle.format.proofs.Places.{skip-snoc}
-use Rattle.format.specs.Answer.{outside, stringAt}
+use Rattle.format.specs.Answer.{outside}
 use Rattle.format.specs.Fields.{u32s}
-use Rattle.format.specs.Places.{skip}
+use Rattle.format.specs.Places.{skip, textAt}
 use Rattle.format.specs.Records.{next}
 use Rattle.answer.proofs.first_outside.Statement.{statement}
 use Rattle.answer.proofs.first_outside.Tie as tie
 
 abbrev Inv-loop : tie.InvT-loop
-Inv-loop v n p q at₀ r₀ at r = (r ≤ p) × (at ≡ skip v r 0) × (outside v (asking n p q) (p - r) r at ≡ outside v (asking n p q) p 0 0)
+Inv-loop v n p q at₀ r₀ at r = (r ≤ p) × (at ≡ skip v r 0) × (outside v (blank n p q) (p - r) r at ≡ outside v (blank n p q) p 0 0)
 
 abbrev μ-loop : tie.MeasureT-loop
 μ-loop v n p q at₀ r₀ at r = p - r
@@ -31,7 +31,7 @@ unfolding skip
 loop-holds c =
     let s = c .before .args in
     let e : s .p - 0 ≡ s .p = omega arith in
-    (omega arith, refl, ap (λ (k : ℕ). outside (now (s .v)) (asking (s .n) (s .p) (s .q)) k 0 0) e)
+    (omega arith, refl, ap (λ (k : ℕ). outside (now (s .v)) (blank (s .n) (s .p) (s .q)) k 0 0) e)
 
 u32-at-requires : tie.Need-u32-at-requires Inv-loop μ-loop
 u32-at-requires c κs =
@@ -54,9 +54,9 @@ returns : tie.Need-returns Inv-loop μ-loop
 returns c =
     let l = c .before .before .before .before .loop in
     let s = c .before .before .before .before .before .before .args in
-    let t : allCharacters (s .n) (stringAt (now (s .v)) (l .at)) ≡ false =
+    let t : allCharacters (s .n) (textAt (now (s .v)) (l .at)) ≡ false =
     ap (λ (m : ℕ). allCharacters (s .n) (u32s (now (s .v)) (l .at + 6) (m / 4))) (sym (c .before .before .u32-at .ensures .0)) ∙ sym (c .before .all-characters .ensures) ∙ not-true _ (c .if1 .taken) in
-    sym (outside-no (now (s .v)) (asking (s .n) (s .p) (s .q)) (l .r) (l .at) (s .p - l .r) (omega arith) t) ∙ l .inv .2
+    sym (outside-no (now (s .v)) (blank (s .n) (s .p) (s .q)) (l .r) (l .at) (s .p - l .r) (omega arith) t) ∙ l .inv .2
 
 add-at : tie.Need-add-at Inv-loop μ-loop
 add-at c =
@@ -80,8 +80,8 @@ loop-again : tie.Need-loop-again Inv-loop μ-loop
 loop-again c =
     let l = c .before .before .before .before .loop in
     let s = c .before .before .before .before .before .before .args in
-    let u = asking (s .n) (s .p) (s .q) in
-    let t : allCharacters (s .n) (stringAt (now (s .v)) (l .at)) ≡ true =
+    let u = blank (s .n) (s .p) (s .q) in
+    let t : allCharacters (s .n) (textAt (now (s .v)) (l .at)) ≡ true =
     ap (λ (m : ℕ). allCharacters (s .n) (u32s (now (s .v)) (l .at + 6) (m / 4))) (sym (c .before .before .u32-at .ensures .0)) ∙ sym (c .before .all-characters .ensures) ∙ not-false _ (c .if1 .left) in
     let e : s .p - l .r - 1 ≡ s .p - (l .r + 1) = omega arith in
     let here : next (now (s .v)) (l .at) ≡ skip (now (s .v)) (suc (l .r)) 0 = ap (next (now (s .v))) (l .inv .1) ∙ sym (skip-snoc (now (s .v)) (l .r) 0) in
@@ -107,14 +107,14 @@ returns-2 : tie.Need-returns-2 Inv-loop μ-loop
 returns-2 c =
     let l = c .before .before .before .loop in
     let s = c .before .before .before .before .before .args in
-    sym (outside-none (now (s .v)) (asking (s .n) (s .p) (s .q)) (l .r) (l .at) (s .p - l .r) (omega arith) (sym (c .before .integers-within .ensures) ∙ c .if2 .taken)) ∙ l .inv .2
+    sym (outside-none (now (s .v)) (blank (s .n) (s .p) (s .q)) (l .r) (l .at) (s .p - l .r) (omega arith) (sym (c .before .integers-within .ensures) ∙ c .if2 .taken)) ∙ l .inv .2
 
 returns-3 : tie.Need-returns-3 Inv-loop μ-loop
 returns-3 c =
     let l = c .before .before .before .loop in
     let s = c .before .before .before .before .before .args in
     let e : s .p ≡ l .r = omega arith in
-    ap some e ∙ sym (outside-last (now (s .v)) (asking (s .n) (s .p) (s .q)) (l .r) (l .at) (s .p - l .r) (omega arith) (sym (c .before .integers-within .ensures) ∙ c .if2 .left)) ∙ l .inv .2
+    ap some e ∙ sym (outside-last (now (s .v)) (blank (s .n) (s .p) (s .q)) (l .r) (l .at) (s .p - l .r) (omega arith) (sym (c .before .integers-within .ensures) ∙ c .if2 .left)) ∙ l .inv .2
 
 pub first-outside-spec : {M : Type 1} → statement M
 first-outside-spec =

@@ -9,13 +9,12 @@ use native.Mathlib.Omega.{arith}
 use Rattle.answer.proofs.Read.{within-done, within-no, within-yes}
 use Rattle.calculus.proofs.Shapes.{count}
 use Rattle.calculus.specs.Limits.{valueLimit}
-use Rattle.format.specs.Answer.{allWithin}
-use Rattle.format.specs.Fields.{i32s, signed, within}
+use Rattle.format.specs.Fields.{i32s, signed, within, allWithin}
 use Rattle.answer.proofs.integers_within.Statement.{statement}
 use Rattle.answer.proofs.integers_within.Tie as tie
 
 abbrev Inv-loop : tie.InvT-loop
-Inv-loop v at count i₀ left₀ i left = (i + 4 * left ≤ length v) × (allWithin (i32s v i left) ≡ allWithin (i32s v at count))
+Inv-loop v at count i₀ left₀ i left = (i + 4 * left ≤ length v) × (allWithin valueLimit (i32s v i left) ≡ allWithin valueLimit (i32s v at count))
 
 abbrev μ-loop : tie.MeasureT-loop
 μ-loop v at count i₀ left₀ i left = left

@@ -4,8 +4,9 @@ use borrow.Author.Needs.{needs}
 use mathlib.Core.Bool.{false}
 use mathlib.Core.Path.{_∙_, _≡_, ap, refl, sym}
 use native.Mathlib.Omega.{arith}
+use Rattle.lists.specs.Lists.{anyBelow}
 use Rattle.calculus.specs.Chains.{litNode}
-use Rattle.calculus.specs.Classes.{anyBelow, sameClass}
+use Rattle.calculus.specs.Classes.{sameClass}
 use Rattle.classes.proofs.Laws.{any-more, any-yes}
 use Rattle.classes.proofs.literal_meets.Statement.{statement}
 use Rattle.classes.proofs.literal_meets.Tie as tie

@@ -7,10 +7,10 @@ use mathlib.Core.Path.{_∙_, _≡_, ap, refl, sym}
 use native.Mathlib.Omega.{arith}
 use Rattle.calculus.specs.Rules.{children}
 use Rattle.calculus.specs.Steps.{Step}
+use Rattle.calculus.specs.Facts.{columnCount}
 use Rattle.conclusions.proofs.Forms.{at-least, c-collapse-step, c-collapse-variable, four-bytes, in-form, in-range, join-step, l-intro-step, l-intro-variable, last-concluding, s-prop-step, s-prop-variables, six-bytes, sum-step}
 use Rattle.conclusions.specs.Made.{isConcluding}
 use Rattle.format.specs.Fields.{u16}
-use Rattle.format.specs.Question.{columnCount}
 use Rattle.format.specs.StepForms.{operandsInRange, ruleOf}
 use Rattle.question.specs.Progress.{progressOf}
 use Rattle.rows.specs.Rows.{branchOf}

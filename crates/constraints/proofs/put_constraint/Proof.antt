@@ -3,13 +3,13 @@ use Prim.Native.Nat.{_+_, _-_, _/_, _<_, _≤_, ℕ}
 use borrow.Author.Needs.{needs}
 use borrow.Author.Tests.{eq-eqb, ne-eqb}
 use denote.Ref.{now}
-use mathlib.Core.Bool.{Bool}
+use mathlib.Core.Bool.{Bool, cond}
 use mathlib.Core.List.{[], _∷_, _++_}
 use mathlib.Core.Path.{_∙_, _≡_, ap, ap₂, subst, sym}
 use native.Mathlib.Omega.{arith}
 use Rattle.calculus.specs.Facts.{Fact, arithmetic}
 use Rattle.constraints.proofs.Ranges.{FormInRange, StringInRange, body-long, form-in-range, string-in-range}
-use Rattle.format.specs.Fields.{pick, u16}
+use Rattle.format.specs.Fields.{u16}
 use Rattle.format.specs.Question.{formOf, relationOf, stringFact}
 use Rattle.rows.specs.Rows.{branchOf}
 use Rattle.constraints.proofs.put_constraint.Statement.{statement}
@@ -64,7 +64,7 @@ returns c =
     ∙ ap (λ (f : Fact). branchOf (now (s .args .work)) (s .args .k) ++ (f ∷ []))
     (ap₂ (λ (m n : ℕ). stringFact m n (c .before .before .before .u16-at3 .result)) r x
     ∙ ap (λ (n : ℕ). stringFact (u16 b at') (u16 b (at' + 2)) n) y
-    ∙ sym (ap (λ (t : Bool). pick t (stringFact (u16 b at') (u16 b (at' + 2)) (u16 b (at' + 4))) (arithmetic (relationOf (u16 b at')) (formOf b (at' + 2) (s .args .size / 6 - 1)))) (eq-eqb (s .args .kind) 3 (c .before .before .before .before .before .if1 .taken))))
+    ∙ sym (ap (λ (t : Bool). cond t (stringFact (u16 b at') (u16 b (at' + 2)) (u16 b (at' + 4))) (arithmetic (relationOf (u16 b at')) (formOf b (at' + 2) (s .args .size / 6 - 1)))) (eq-eqb (s .args .kind) 3 (c .before .before .before .before .before .if1 .taken))))
 
 add-put-form : tie.Need-add-put-form
 add-put-form c = search needs
@@ -90,7 +90,7 @@ returns-2 c =
     c .before .put-form .ensures
     ∙ ap (λ (f : Fact). branchOf (now (s .args .work)) (s .args .k) ++ (f ∷ []))
     (ap (λ (r : ℕ). arithmetic (relationOf r) (formOf b (at' + 2) (s .args .size / 6 - 1))) (c .before .before .before .before .u16-at .ensures .0)
-    ∙ sym (ap (λ (t : Bool). pick t (stringFact (u16 b at') (u16 b (at' + 2)) (u16 b (at' + 4))) (arithmetic (relationOf (u16 b at')) (formOf b (at' + 2) (s .args .size / 6 - 1)))) (ne-eqb (s .args .kind) 3 (c .before .before .before .if1 .left))))
+    ∙ sym (ap (λ (t : Bool). cond t (stringFact (u16 b at') (u16 b (at' + 2)) (u16 b (at' + 4))) (arithmetic (relationOf (u16 b at')) (formOf b (at' + 2) (s .args .size / 6 - 1)))) (ne-eqb (s .args .kind) 3 (c .before .before .before .if1 .left))))
 
 pub put-constraint-spec : {M : Type 1} → statement M
 put-constraint-spec =

@@ -14,14 +14,14 @@ use Rattle.question.specs.Posed.{asked}
 use Rattle.judging.proofs.Constraints.{literal-room}
 use Rattle.judging.proofs.Unmet.{first-done, first-no, first-yes}
 use Rattle.judging.specs.Judgements.{firstUnmet}
-use Rattle.judging.specs.Ready.{given}
+use Rattle.judging.specs.Ready.{valuesOf}
 use Rattle.judging.proofs.first_unmet.Statement.{statement}
 use Rattle.judging.proofs.first_unmet.Tie as tie
 
 abbrev Inv-loop : tie.InvT-loop
 Inv-loop b v s places values count at₀ k₀ at k =
     (k ≤ s .constraints) × (at ≡ skip b k (skip b (s .literals) literalsFrom))
-    × (firstUnmet (asked b s) (given b v s) (constraintsAt b (s .constraints - k) at) k ≡ firstUnmet (asked b s) (given b v s) (asked b s .constraints) 0)
+    × (firstUnmet (asked b s) (valuesOf b v s) (constraintsAt b (s .constraints - k) at) k ≡ firstUnmet (asked b s) (valuesOf b v s) (asked b s .constraints) 0)
 
 abbrev μ-loop : tie.MeasureT-loop
 μ-loop b v s places values count at₀ k₀ at k = s .constraints - k
@@ -36,24 +36,24 @@ unfolding skip asked
 loop-holds c =
     let s = c .before .before .before .before .args in
     let e : s .s .constraints - 0 ≡ s .s .constraints = omega arith in
-    (omega arith, c .behind-literals .ensures, ap₂ (λ (m at : ℕ). firstUnmet (asked (now (s .b)) (s .s)) (given (now (s .b)) (now (s .v)) (s .s)) (constraintsAt (now (s .b)) m at) 0) e (c .behind-literals .ensures))
+    (omega arith, c .behind-literals .ensures, ap₂ (λ (m at : ℕ). firstUnmet (asked (now (s .b)) (s .s)) (valuesOf (now (s .b)) (now (s .v)) (s .s)) (constraintsAt (now (s .b)) m at) 0) e (c .behind-literals .ensures))
 
 constraint-met-requires : tie.Need-constraint-met-requires Inv-loop μ-loop
 constraint-met-requires c κs =
     let s = c .before .before .before .before .before .before in
-    (s .pre, rw (c .before .loop .inv .1) (s .pre .texts .behind .stands .constraints-stand (c .before .loop .k) (omega arith)))
+    (s .pre, rw (c .before .loop .inv .1) (s .pre .texts .posed .stands .constraints-stand (c .before .loop .k) (omega arith)))
 
 returns : tie.Need-returns Inv-loop μ-loop
 returns c =
     let l = c .before .before .before .loop in
     let s = c .before .before .before .before .before .before .before .before .args in
-    sym (first-no (asked (now (s .b)) (s .s)) (given (now (s .b)) (now (s .v)) (s .s)) (now (s .b)) (l .at) (l .k) (s .s .constraints - l .k) (omega arith) (sym (c .before .constraint-met .ensures) ∙ not-true _ (c .if1 .taken))) ∙ l .inv .2
+    sym (first-no (asked (now (s .b)) (s .s)) (valuesOf (now (s .b)) (now (s .v)) (s .s)) (now (s .b)) (l .at) (l .k) (s .s .constraints - l .k) (omega arith) (sym (c .before .constraint-met .ensures) ∙ not-true _ (c .if1 .taken))) ∙ l .inv .2
 
 -- the record in turn is all there
 record-there : (c : tie.In-loop Inv-loop μ-loop) → next (now (c .before .before .before .before .before .before .args .b)) (c .before .loop .at) ≤ length (now (c .before .before .before .before .before .before .args .b))
 record-there c =
     let s = c .before .before .before .before .before .before in
-    rw (c .before .loop .inv .1) (s .pre .texts .behind .stands .constraints-stand (c .before .loop .k) (omega arith) .whole)
+    rw (c .before .loop .inv .1) (s .pre .texts .posed .stands .constraints-stand (c .before .loop .k) (omega arith) .whole)
 
 add-at : tie.Need-add-at Inv-loop μ-loop
 add-at c = omega (arith, record-there (c .before .before))
@@ -81,7 +81,7 @@ loop-again c =
       omega arith,
       rw (add-one (l .k)) here,
       rw (← e, add-one (l .k)) (
-          sym (first-yes (asked b (s .s)) (given b (now (s .v)) (s .s)) b (l .at) (l .k) (s .s .constraints - l .k) (omega arith) (sym (c .before .before .constraint-met .ensures) ∙ not-false _ (c .before .if1 .left)))
+          sym (first-yes (asked b (s .s)) (valuesOf b (now (s .v)) (s .s)) b (l .at) (l .k) (s .s .constraints - l .k) (omega arith) (sym (c .before .before .constraint-met .ensures) ∙ not-false _ (c .before .if1 .left)))
           ∙ l .inv .2
           ),
     )
@@ -90,7 +90,7 @@ returns-2 : tie.Need-returns-2 Inv-loop μ-loop
 returns-2 c =
     let l = c .before .loop in
     let s = c .before .before .before .before .before .before .args in
-    sym (first-done (asked (now (s .b)) (s .s)) (given (now (s .b)) (now (s .v)) (s .s)) (now (s .b)) (l .at) (l .k) (s .s .constraints - l .k) (omega arith)) ∙ l .inv .2
+    sym (first-done (asked (now (s .b)) (s .s)) (valuesOf (now (s .b)) (now (s .v)) (s .s)) (now (s .b)) (l .at) (l .k) (s .s .constraints - l .k) (omega arith)) ∙ l .inv .2
 
 pub first-unmet-spec : {M : Type 1} → statement M
 first-unmet-spec =

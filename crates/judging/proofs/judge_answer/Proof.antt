@@ -3,7 +3,8 @@ use borrow.Author.Needs.{needs}
 use denote.Ref.{now}
 use mathlib.Core.Path.{_∙_, ap, sym}
 use native.Mathlib.Omega.{arith}
-use Rattle.judging.proofs.Outcomes.{behind, headed, headless, stopped}
+use Rattle.question.proofs.Standing.{question-posed}
+use Rattle.judging.proofs.Outcomes.{headed, headless, stopped}
 use Rattle.judging.specs.Judgements.{judgementOf}
 use Rattle.question.specs.Progress.{readingOf}
 use Rattle.question.specs.Posed.{asked}
@@ -23,7 +24,7 @@ judge-behind-requires : tie.Need-judge-behind-requires
 unfolding readingOf
 judge-behind-requires c κs =
     let s = c .before .before .before .before .before .before .before .args in
-    behind (now (s .question)) (c .before .before .s .given .0 .0) (sym (c .before .before .before .before .read-question .ensures) ∙ ap (readingOf (now (s .question))) (c .before .before .s .given .1)) (omega arith)
+    question-posed (now (s .question)) (c .before .before .s .given .0 .0) _ _ (sym (c .before .before .before .before .read-question .ensures) ∙ ap (readingOf (now (s .question))) (c .before .before .s .given .1)) (omega arith)
 
 returns : tie.Need-returns
 unfolding readingOf

@@ -3,9 +3,10 @@ use borrow.Author.Needs.{needs}
 use borrow.Author.Tests.{not-false, not-true}
 use denote.Ref.{now}
 use mathlib.Core.Path.{_∙_, ap, refl, sym}
+use Rattle.calculus.specs.Facts.{blank}
 use Rattle.question.specs.Posed.{asked}
 use Rattle.answer.proofs.Bounds.{outside-same}
-use Rattle.answer.specs.Form.{asking, outsideOf}
+use Rattle.answer.specs.Form.{outsideOf}
 use Rattle.judging.proofs.Outcomes.{judged, out-of-range, unformed}
 use Rattle.judging.proofs.judge_behind.Statement.{statement}
 use Rattle.judging.proofs.judge_behind.Tie as tie
@@ -35,7 +36,7 @@ judge-values-requires c κs =
     let u = asked (now (s .args .b)) (s .args .s) in (
       s .pre,
       sym (c .before .before .before .before .answer-formed .ensures) ∙ not-false _ (c .before .before .before .if1 .left),
-      outside-same (now (s .args .v)) u (asking (u .n) (u .p) (u .q)) (u .p) 0 0 refl refl ∙ sym (c .before .before .first-outside .ensures) ∙ ap outsideOf (c .enum-told .given .1),
+      outside-same (now (s .args .v)) u (blank (u .n) (u .p) (u .q)) (u .p) 0 0 refl refl ∙ sym (c .before .before .first-outside .ensures) ∙ ap outsideOf (c .enum-told .given .1),
     )
 
 returns-2 : tie.Need-returns-2
@@ -44,7 +45,7 @@ returns-2 c =
     let s = c .before .before .before .before .before .before .before .before .args in
     let u = asked (now (s .b)) (s .s) in
     out-of-range u (now (s .v)) (sym (c .before .before .before .before .before .answer-formed .ensures) ∙ not-false _ (c .before .before .before .before .if1 .left))
-    (outside-same (now (s .v)) u (asking (u .n) (u .p) (u .q)) (u .p) 0 0 refl refl ∙ sym (c .before .before .before .first-outside .ensures) ∙ ap outsideOf (c .before .r .given .1))
+    (outside-same (now (s .v)) u (blank (u .n) (u .p) (u .q)) (u .p) 0 0 refl refl ∙ sym (c .before .before .before .first-outside .ensures) ∙ ap outsideOf (c .before .r .given .1))
 
 returns-3 : tie.Need-returns-3
 unfolding asked
@@ -52,7 +53,7 @@ returns-3 c =
     let s = c .before .before .before .before .before .before .before .before .args in
     let u = asked (now (s .b)) (s .s) in
     judged u (now (s .v)) (sym (c .before .before .before .before .before .answer-formed .ensures) ∙ not-false _ (c .before .before .before .before .if1 .left))
-    (outside-same (now (s .v)) u (asking (u .n) (u .p) (u .q)) (u .p) 0 0 refl refl ∙ sym (c .before .before .before .first-outside .ensures) ∙ ap outsideOf (c .before .enum-told .given .1))
+    (outside-same (now (s .v)) u (blank (u .n) (u .p) (u .q)) (u .p) 0 0 refl refl ∙ sym (c .before .before .before .first-outside .ensures) ∙ ap outsideOf (c .before .enum-told .given .1))
     (c .judge-values .ensures)
 
 pub judge-behind-spec : {M : Type 1} → statement M

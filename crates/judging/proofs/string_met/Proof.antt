@@ -9,12 +9,11 @@ use mathlib.Core.Path.{_∙_, _≡_, ap, ap₂, sym}
 use native.Mathlib.Omega.{arith}
 use Rattle.calculus.specs.Meaning.{str}
 use Rattle.calculus.specs.Strings.{eqString}
-use Rattle.format.specs.Answer.{stringAt}
 use Rattle.format.specs.Fields.{u16}
-use Rattle.format.specs.Places.{literalsFrom, texts}
+use Rattle.format.specs.Places.{literalsFrom, texts, textAt}
 use Rattle.question.specs.Posed.{asked}
 use Rattle.judging.proofs.Constraints.{apart-met, literal-met, literal-room, same-met, string-ranges, text-is, text-room}
-use Rattle.judging.specs.Ready.{given}
+use Rattle.judging.specs.Ready.{valuesOf}
 use Rattle.judging.proofs.string_met.Statement.{statement}
 use Rattle.judging.proofs.string_met.Tie as tie
 
@@ -63,9 +62,9 @@ returns c =
     let two : u16 b (s .args .at) ≡ 2 = sym (c .before .before .before .before .before .u16-at .ensures .0) ∙ c .before .if1 .taken in
     let few : c .before .before .before .u16-at3 .result ≤ k = omega (arith, c .before .before .before .u16-at3 .ensures .0, r .literal two) in
     c .is-literal .ensures k few
-    ∙ ap₂ (λ (x y : ℕ). eqString (stringAt v (getD (now (s .args .places)) x 0)) (getD ([] ∷ texts b k literalsFrom) y [])) (c .before .before .before .before .u16-at2 .ensures .0) (c .before .before .before .u16-at3 .ensures .0)
+    ∙ ap₂ (λ (x y : ℕ). eqString (textAt v (getD (now (s .args .places)) x 0)) (getD ([] ∷ texts b k literalsFrom) y [])) (c .before .before .before .before .u16-at2 .ensures .0) (c .before .before .before .u16-at3 .ensures .0)
     ∙ ap (λ (t : List ℕ). eqString t (getD ([] ∷ texts b k literalsFrom) (u16 b (s .args .at + 4)) [])) (text-is b v (s .args .s) (now (s .args .places)) (s .pre .0) (u16 b (s .args .at + 2)) (r .first))
-    ∙ literal-met (asked b (s .args .s)) (given b v (s .args .s)) (u16 b (s .args .at)) (u16 b (s .args .at + 2)) (u16 b (s .args .at + 4)) two
+    ∙ literal-met (asked b (s .args .s)) (valuesOf b v (s .args .s)) (u16 b (s .args .at)) (u16 b (s .args .at + 2)) (u16 b (s .args .at + 4)) two
 
 mul-same-strings : tie.Need-mul-same-strings
 mul-same-strings c = search needs
@@ -90,7 +89,7 @@ same-strings-requires c κs =
 -- whether the two strings are the same
 strings : (c : tie.After-same-strings) →
     let s = c .before .before .before .before .before .before .before .before .before .before .args in
-    let a = given (now (s .b)) (now (s .v)) (s .s) in
+    let a = valuesOf (now (s .b)) (now (s .v)) (s .s) in
     c .same-strings .result ≡ eqString (str a (u16 (now (s .b)) (s .at + 2))) (str a (u16 (now (s .b)) (s .at + 4)))
 strings c =
     let s = c .before .before .before .before .before .before .before .before .before .before in
@@ -99,7 +98,7 @@ strings c =
     let r = string-ranges b (s .args .s .p) (s .args .s .literals) (s .args .at) (s .pre .2) in
     let y = r .second (λ e. c .before .before .if1 .left (c .before .before .before .before .before .before .u16-at .ensures .0 ∙ e)) in
     c .same-strings .ensures
-    ∙ ap₂ (λ (x y : ℕ). eqString (stringAt v (getD (now (s .args .places)) x 0)) (stringAt v (getD (now (s .args .places)) y 0))) (c .before .before .before .before .before .u16-at2 .ensures .0) (c .before .before .before .before .u16-at3 .ensures .0)
+    ∙ ap₂ (λ (x y : ℕ). eqString (textAt v (getD (now (s .args .places)) x 0)) (textAt v (getD (now (s .args .places)) y 0))) (c .before .before .before .before .before .u16-at2 .ensures .0) (c .before .before .before .before .u16-at3 .ensures .0)
     ∙ ap₂ eqString (text-is b v (s .args .s) (now (s .args .places)) (s .pre .0) (u16 b (s .args .at + 2)) (r .first)) (text-is b v (s .args .s) (now (s .args .places)) (s .pre .0) (u16 b (s .args .at + 4)) y)
 
 returns-2 : tie.Need-returns-2
@@ -108,7 +107,7 @@ returns-2 c =
     let b = now (s .args .b) in
     let v = now (s .args .v) in
     let zero : u16 b (s .args .at) ≡ 0 = sym (c .before .before .before .before .before .before .before .u16-at .ensures .0) ∙ c .if2 .taken in
-    strings (c .before) ∙ same-met (asked b (s .args .s)) (given b v (s .args .s)) (u16 b (s .args .at)) (u16 b (s .args .at + 2)) (u16 b (s .args .at + 4)) zero
+    strings (c .before) ∙ same-met (asked b (s .args .s)) (valuesOf b v (s .args .s)) (u16 b (s .args .at)) (u16 b (s .args .at + 2)) (u16 b (s .args .at + 4)) zero
 
 returns-3 : tie.Need-returns-3
 returns-3 c =
@@ -119,7 +118,7 @@ returns-3 c =
     let not-two : u16 b (s .args .at) ≡ 2 → ⊥ = λ e. c .before .before .before .if1 .left (c .before .before .before .before .before .before .before .u16-at .ensures .0 ∙ e) in
     let not-zero : u16 b (s .args .at) ≡ 0 → ⊥ = λ e. c .if2 .left (c .before .before .before .before .before .before .before .u16-at .ensures .0 ∙ e) in
     let one : u16 b (s .args .at) ≡ 1 = omega (arith, r .relation) in
-    ap not (strings (c .before)) ∙ apart-met (asked b (s .args .s)) (given b v (s .args .s)) (u16 b (s .args .at)) (u16 b (s .args .at + 2)) (u16 b (s .args .at + 4)) one
+    ap not (strings (c .before)) ∙ apart-met (asked b (s .args .s)) (valuesOf b v (s .args .s)) (u16 b (s .args .at)) (u16 b (s .args .at + 2)) (u16 b (s .args .at + 4)) one
 
 pub string-met-spec : {M : Type 1} → statement M
 string-met-spec =

@@ -6,7 +6,7 @@ use denote.Ref.{now}
 use mathlib.Core.Bool.{true}
 use mathlib.Core.Path.{_∙_, _≡_, ap, refl, sym}
 use native.Mathlib.Omega.{arith}
-use Rattle.calculus.specs.SaturationTest.{every}
+use Rattle.lists.specs.Lists.{allBelow}
 use Rattle.leaf.proofs.Laws.{every-more, every-no}
 use Rattle.leaf.specs.Leaf.{asked}
 use Rattle.leaf.specs.Values.{byValues}
@@ -14,7 +14,7 @@ use Rattle.leaf.proofs.every_fits.Statement.{statement}
 use Rattle.leaf.proofs.every_fits.Tie as tie
 
 abbrev Inv-loop : tie.InvT-loop
-Inv-loop ticket model leaf x₀ x = (x ≤ leaf .p) × (every x (byValues (asked ticket leaf) (leaf .labels) model) ≡ true)
+Inv-loop ticket model leaf x₀ x = (x ≤ leaf .p) × (allBelow x (byValues (asked ticket leaf) (leaf .labels) model) ≡ true)
 
 abbrev μ-loop : tie.MeasureT-loop
 μ-loop ticket model leaf x₀ x = leaf .p - x
@@ -48,7 +48,7 @@ returns-2 c =
     let l = c .before .before .loop in
     let s = c .before .before .before .before .args in
     let e : l .x ≡ s .leaf .p = omega arith in
-    sym (ap (λ (k : ℕ). every k (byValues (asked (now (s .ticket)) (s .leaf)) (s .leaf .labels) (now (s .model)))) (sym e) ∙ l .inv .1)
+    sym (ap (λ (k : ℕ). allBelow k (byValues (asked (now (s .ticket)) (s .leaf)) (s .leaf .labels) (now (s .model)))) (sym e) ∙ l .inv .1)
 
 pub every-fits-spec : {M : Type 1} → statement M
 every-fits-spec =

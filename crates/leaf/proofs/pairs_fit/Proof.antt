@@ -7,7 +7,7 @@ use mathlib.Core.Bool.{true}
 use mathlib.Core.List.{[]}
 use mathlib.Core.Path.{_∙_, _≡_, ap, refl, sym}
 use native.Mathlib.Omega.{arith}
-use Rattle.calculus.specs.SaturationTest.{every}
+use Rattle.lists.specs.Lists.{allBelow}
 use Rattle.leaf.proofs.Laws.{every-more, every-no}
 use Rattle.leaf.specs.Leaf.{asked}
 use Rattle.leaf.specs.Values.{pairFits}
@@ -15,7 +15,7 @@ use Rattle.leaf.proofs.pairs_fit.Statement.{statement}
 use Rattle.leaf.proofs.pairs_fit.Tie as tie
 
 abbrev Inv-loop : tie.InvT-loop
-Inv-loop model leaf x y₀ y = (y ≤ leaf .p) × (every y (pairFits (asked [] leaf) (leaf .labels) model x) ≡ true)
+Inv-loop model leaf x y₀ y = (y ≤ leaf .p) × (allBelow y (pairFits (asked [] leaf) (leaf .labels) model x) ≡ true)
 
 abbrev μ-loop : tie.MeasureT-loop
 μ-loop model leaf x y₀ y = leaf .p - y
@@ -49,7 +49,7 @@ returns-2 c =
     let l = c .before .before .loop in
     let s = c .before .before .before .args in
     let e : l .y ≡ s .leaf .p = omega arith in
-    sym (ap (λ (k : ℕ). every k (pairFits (asked [] (s .leaf)) (s .leaf .labels) (now (s .model)) (s .x))) (sym e) ∙ l .inv .1)
+    sym (ap (λ (k : ℕ). allBelow k (pairFits (asked [] (s .leaf)) (s .leaf .labels) (now (s .model)) (s .x))) (sym e) ∙ l .inv .1)
 
 pub pairs-fit-spec : {M : Type 1} → statement M
 pairs-fit-spec =

@@ -5,8 +5,8 @@ use denote.Ref.{now}
 use mathlib.Core.Bool.{Bool, _&&_, not}
 use mathlib.Core.List.{List}
 use mathlib.Core.Path.{_∙_, _≡_, ap, sym}
+use Rattle.lists.specs.Lists.{allBelow}
 use Rattle.calculus.specs.Classes.{conflict, labels}
-use Rattle.calculus.specs.SaturationTest.{every}
 use Rattle.leaf.proofs.Laws.{conflict-is}
 use Rattle.leaf.proofs.Saturation.{saturated-is}
 use Rattle.leaf.specs.Leaf.{asked}
@@ -33,7 +33,7 @@ returns c =
     let u = asked (now (s .ticket)) (s .leaf) in
     let b = branchOf (now (s .work)) (s .count) in
     sym (saturated-is u b (now (s .model))
-    ∙ ap (λ (t : Bool). not t && every (u .p) (byValues u (labels b) (now (s .model)))) (sym (conflict-test (c .before)) ∙ c .if1 .taken))
+    ∙ ap (λ (t : Bool). not t && allBelow (u .p) (byValues u (labels b) (now (s .model)))) (sym (conflict-test (c .before)) ∙ c .if1 .taken))
 
 every-fits-requires : tie.Need-every-fits-requires
 every-fits-requires c κs = search needs
@@ -45,8 +45,8 @@ returns-2 c =
     let m = now (s .args .model) in
     let b = branchOf (now (s .args .work)) (s .args .count) in
     c .every-fits .ensures
-    ∙ ap (λ (ls : List ℕ). every (u .p) (byValues u ls m)) (s .pre .1)
-    ∙ sym (saturated-is u b m ∙ ap (λ (t : Bool). not t && every (u .p) (byValues u (labels b) m)) (sym (conflict-test (c .before .before)) ∙ c .before .if1 .left))
+    ∙ ap (λ (ls : List ℕ). allBelow (u .p) (byValues u ls m)) (s .pre .1)
+    ∙ sym (saturated-is u b m ∙ ap (λ (t : Bool). not t && allBelow (u .p) (byValues u (labels b) m)) (sym (conflict-test (c .before .before)) ∙ c .before .if1 .left))
 
 pub saturated-spec : {M : Type 1} → statement M
 saturated-spec =

@@ -11,14 +11,14 @@ use mathlib.Core.List.{List}
 use mathlib.Core.Path.{_∙_, _≡_, ap, refl, sym}
 use mir.Facts.{toZ-ofZ}
 use native.Mathlib.Omega.{arith}
+use Rattle.lists.specs.Lists.{allBelow}
 use Rattle.calculus.specs.Limits.{lengthLimit}
-use Rattle.calculus.specs.SaturationTest.{every}
 use Rattle.leaf.proofs.Laws.{every-more, every-no}
 use Rattle.leaf.proofs.short_lengths.Statement.{statement}
 use Rattle.leaf.proofs.short_lengths.Tie as tie
 
 abbrev Inv-loop : tie.InvT-loop
-Inv-loop model leaf x₀ x = (x ≤ leaf .p) × (every x (λ y. leb (natAbs (getD model (leaf .q + y) (pos 0))) lengthLimit) ≡ true)
+Inv-loop model leaf x₀ x = (x ≤ leaf .p) × (allBelow x (λ y. leb (natAbs (getD model (leaf .q + y) (pos 0))) lengthLimit) ≡ true)
 
 abbrev μ-loop : tie.MeasureT-loop
 μ-loop model leaf x₀ x = leaf .p - x
@@ -62,7 +62,7 @@ returns-2 c =
     let l = c .before .before .loop in
     let s = c .before .before .before .args in
     let e : l .x ≡ s .leaf .p = omega arith in
-    sym (ap (λ (k : ℕ). every k (short (now (s .model)) (s .leaf .q))) (sym e) ∙ l .inv .1)
+    sym (ap (λ (k : ℕ). allBelow k (short (now (s .model)) (s .leaf .q))) (sym e) ∙ l .inv .1)
 
 pub short-lengths-spec : {M : Type 1} → statement M
 short-lengths-spec =

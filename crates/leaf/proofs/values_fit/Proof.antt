@@ -4,7 +4,7 @@ use borrow.Author.Tests.{not-false, not-true}
 use denote.Ref.{now}
 use mathlib.Core.Bool.{Bool, _&&_}
 use mathlib.Core.Path.{_∙_, ap, sym}
-use Rattle.calculus.specs.SaturationTest.{every}
+use Rattle.lists.specs.Lists.{allBelow}
 use Rattle.leaf.proofs.Laws.{pairs-any}
 use Rattle.leaf.specs.Leaf.{asked}
 use Rattle.leaf.specs.Values.{pairFits}
@@ -18,7 +18,7 @@ returns : tie.Need-returns
 returns c =
     let s = c .before .before .before .args in
     let u = asked (now (s .ticket)) (s .leaf) in
-    sym (ap (λ (t : Bool). t && every (s .leaf .p) (pairFits u (s .leaf .labels) (now (s .model)) (s .x))) (sym (c .before .var-fits .ensures) ∙ not-true _ (c .if1 .taken)))
+    sym (ap (λ (t : Bool). t && allBelow (s .leaf .p) (pairFits u (s .leaf .labels) (now (s .model)) (s .x))) (sym (c .before .var-fits .ensures) ∙ not-true _ (c .if1 .taken)))
 
 pairs-fit-requires : tie.Need-pairs-fit-requires
 pairs-fit-requires c κs = search needs
@@ -29,7 +29,7 @@ returns-2 c =
     let u = asked (now (s .ticket)) (s .leaf) in
     c .pairs-fit .ensures
     ∙ pairs-any (now (s .ticket)) (s .leaf) (s .leaf .labels) (now (s .model)) (s .x)
-    ∙ sym (ap (λ (t : Bool). t && every (s .leaf .p) (pairFits u (s .leaf .labels) (now (s .model)) (s .x))) (sym (c .before .before .var-fits .ensures) ∙ not-false _ (c .before .if1 .left)))
+    ∙ sym (ap (λ (t : Bool). t && allBelow (s .leaf .p) (pairFits u (s .leaf .labels) (now (s .model)) (s .x))) (sym (c .before .before .var-fits .ensures) ∙ not-false _ (c .before .if1 .left)))
 
 pub values-fit-spec : {M : Type 1} → statement M
 values-fit-spec = tie.close (tie.spec var-fits-requires returns pairs-fit-requires returns-2)

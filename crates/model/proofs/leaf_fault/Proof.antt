@@ -9,9 +9,8 @@ use mathlib.Core.Path.{_∙_, _≡_, refl, sym}
 use native.Mathlib.Omega.{arith}
 use Rattle.calculus.specs.SaturationTest.{saturated}
 use Rattle.format.specs.Checking.{keeps, shortLengths}
-use Rattle.leaf.specs.Leaf.{asked}
+use Rattle.leaf.specs.Leaf.{asked, columnsOf}
 use Rattle.rows.specs.Rows.{branchOf}
-use Rattle.model.specs.Settled.{columnsOf}
 use Rattle.model.proofs.Tested.{keeps-columns, leaf-tests}
 use Rattle.model.proofs.leaf_fault.Statement.{statement}
 use Rattle.model.proofs.leaf_fault.Tie as tie

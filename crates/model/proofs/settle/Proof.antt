@@ -6,9 +6,9 @@ use Prim.Native.Nat.{_+_, _*_}
 use mathlib.Core.Bool.{true, false}
 use mathlib.Core.Path.{_∙_, _≡_, refl, sym}
 use native.Mathlib.Omega.{arith}
-use Rattle.format.specs.Answer.{allWithin}
+use Rattle.calculus.specs.Limits.{valueLimit}
 use Rattle.format.specs.Checking.{leafFault}
-use Rattle.format.specs.Fields.{i32s}
+use Rattle.format.specs.Fields.{i32s, allWithin}
 use Rattle.format.specs.Reading.{modelAt}
 use Rattle.question.specs.Posed.{asked}
 use Rattle.rows.specs.Rows.{branchOf}
@@ -59,7 +59,7 @@ slice-aggregate-leaf-fault : tie.Need-slice-aggregate-leaf-fault
 slice-aggregate-leaf-fault c = search needs
 
 -- the model's numbers are small
-small : (c : tie.Else2) → allWithin (i32s (now (c .before .before .before .before .before .before .before .args .ticket)) (c .before .before .before .before .before .before .before .args .at) (c .before .before .before .before .before .before .before .args .s .q + (c .before .before .before .before .before .before .before .args .s .p + c .before .before .before .before .before .before .before .args .s .p))) ≡ true
+small : (c : tie.Else2) → allWithin valueLimit (i32s (now (c .before .before .before .before .before .before .before .args .ticket)) (c .before .before .before .before .before .before .before .args .at) (c .before .before .before .before .before .before .before .args .s .q + (c .before .before .before .before .before .before .before .args .s .p + c .before .before .before .before .before .before .before .args .s .p))) ≡ true
 small c = sym (c .before .integers-within .ensures) ∙ not-false _ (c .if2 .left)
 
 leaf-fault-requires : tie.Need-leaf-fault-requires

@@ -1,7 +1,8 @@
 -- `question::repeats` meets its contract.
 use borrow.Author.Needs.{needs}
 use mathlib.Core.Path.{_≡_, _∙_, sym}
-use Prim.Native.Nat.{_≤_}
+use Prim.Native.Nat.{ℕ, _≤_}
+use mathlib.Core.List.{List}
 use native.Mathlib.Omega.{arith}
 use denote.Ref.{now}
 use lib.ListN.{length}
@@ -32,9 +33,12 @@ add-same-text c = omega (arith, skip-within _ _ _ (c .before .loop-test .taken) 
 same-text-requires : tie.Need-same-text-requires Inv-loop μ-loop
 same-text-requires c κs = omega (arith, skip-within _ _ _ (c .before .loop-test .taken) (c .before .before .loop .inv .0))
 
+abbrev text : tie.Start Inv-loop μ-loop → List ℕ
+text s = textOf (now (s .args .b)) (s .args .at) (s .args .size)
+
 returns : tie.Need-returns Inv-loop μ-loop
 returns c =
-    sym (given-yes _ _ _ _ (c .before .before .before .loop-test .taken) (rw (c .before .before .u32-at .ensures .0) at (sym (c .before .same-text .ensures) ∙ c .if1 .taken))) ∙ c .before .before .before .before .loop .inv .1
+    sym (given-yes _ (text (c .before .before .before .before .before .before)) _ _ (c .before .before .before .loop-test .taken) (rw (c .before .before .u32-at .ensures .0) at (sym (c .before .same-text .ensures) ∙ c .if1 .taken))) ∙ c .before .before .before .before .loop .inv .1
 
 add-j : tie.Need-add-j Inv-loop μ-loop
 add-j c = omega (arith, skip-within _ _ _ (c .before .before .before .loop-test .taken) (c .before .before .before .before .loop .inv .0))
@@ -52,11 +56,11 @@ loop-again : tie.Need-loop-again Inv-loop μ-loop
 loop-again c =
     rw (c .before .before .u32-at .ensures .0) (
       omega (arith, skip-one (now (c .before .before .before .before .before .before .args .b)) (c .before .before .before .before .loop .left) (c .before .before .before .before .loop .j) (c .before .before .before .loop-test .taken)),
-      sym (given-no _ _ _ _ (c .before .before .before .loop-test .taken) (rw (c .before .before .u32-at .ensures .0) at (sym (c .before .same-text .ensures) ∙ c .if1 .left))) ∙ c .before .before .before .before .loop .inv .1,
+      sym (given-no _ (text (c .before .before .before .before .before .before)) _ _ (c .before .before .before .loop-test .taken) (rw (c .before .before .u32-at .ensures .0) at (sym (c .before .same-text .ensures) ∙ c .if1 .left))) ∙ c .before .before .before .before .loop .inv .1,
     )
 
 returns-2 : tie.Need-returns-2 Inv-loop μ-loop
-returns-2 c = sym (given-done _ _ _ _ (omega arith)) ∙ c .before .loop .inv .1
+returns-2 c = sym (given-done _ (text (c .before .before .before)) _ _ (omega arith)) ∙ c .before .loop .inv .1
 
 pub repeats-spec : {M : Type 1} → statement M
 repeats-spec =

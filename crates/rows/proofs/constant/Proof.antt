@@ -34,7 +34,7 @@ returns c =
     let l = c .before .before .before .loop in
     let z = getD (now (c .before .before .before .before .args .row)) (l .j) (pos 0) in
     let f : SFits w64 z = record { sfits = c .before .x .given } in
-    sym (every-fails isZero allZero refl (λ x xs. refl) (now (c .before .before .before .before .args .row)) (l .j) (pos 0) (omega arith) (zero-no z f (c .if1 .taken))) ∙ l .inv .2
+    sym (every-fails isZero (now (c .before .before .before .before .args .row)) (l .j) (pos 0) (omega arith) (zero-no z f (c .if1 .taken))) ∙ l .inv .2
 
 add-j : tie.Need-add-j Inv-loop μ-loop
 add-j c = search needs
@@ -47,12 +47,12 @@ loop-again c =
     let l = c .before .before .before .loop in
     let z = getD (now (c .before .before .before .before .args .row)) (l .j) (pos 0) in
     let f : SFits w64 z = record { sfits = c .before .x .given } in
-    (omega arith, omega arith, every-on isZero allZero refl (λ x xs. refl) (now (c .before .before .before .before .args .row)) (l .j) (pos 0) (omega arith) (zero-yes z f (c .if1 .left)) ∙ l .inv .2)
+    (omega arith, omega arith, every-on isZero (now (c .before .before .before .before .args .row)) (l .j) (pos 0) (omega arith) (zero-yes z f (c .if1 .left)) ∙ l .inv .2)
 
 returns-2 : tie.Need-returns-2 Inv-loop μ-loop
 returns-2 c =
     let l = c .before .loop in
-    sym (every-done isZero allZero refl (λ x xs. refl) (now (c .before .before .args .row)) (l .j) (omega arith)) ∙ l .inv .2
+    sym (every-done isZero (now (c .before .before .args .row)) (l .j) (omega arith)) ∙ l .inv .2
 
 pub constant-spec : {M : Type 1} → statement M
 constant-spec =

@@ -6,7 +6,8 @@ use mathlib.Core.List.{List}
 use mathlib.Core.Path.{_∙_, ap}
 use Rattle.calculus.specs.Facts.{arithmetic, ge}
 use Rattle.calculus.specs.Rows.{below}
-use Rattle.format.specs.Checking.{rowWithin}
+use Rattle.calculus.specs.Limits.{numberLimit}
+use Rattle.format.specs.Fields.{allWithin}
 use Rattle.rows.proofs.fill_below.Statement.{statement}
 use Rattle.rows.proofs.fill_below.Tie as tie
 
@@ -14,7 +15,7 @@ fill-row-requires : tie.Need-fill-row-requires
 fill-row-requires c κs = search needs
 
 turn-below-requires : tie.Need-turn-below-requires
-turn-below-requires c κs = (search needs, ap (λ (l : List ℤ). rowWithin (drop 1 l)) (c .before .before .fill-row .ensures) ∙ c .before .before .before .before .pre .1)
+turn-below-requires c κs = (search needs, ap (λ (l : List ℤ). allWithin numberLimit (drop 1 l)) (c .before .before .fill-row .ensures) ∙ c .before .before .before .before .pre .1)
 
 same-length : tie.Need-same-length
 same-length c = search needs

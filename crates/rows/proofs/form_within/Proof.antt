@@ -11,14 +11,13 @@ use mir.Syntax.{w64}
 use mir.Val.{SFits}
 use native.Mathlib.Omega.{arith}
 use Rattle.calculus.specs.Limits.{numberLimit}
-use Rattle.format.specs.Checking.{rowWithin}
-use Rattle.format.specs.Fields.{within}
+use Rattle.format.specs.Fields.{within, allWithin}
 use Rattle.lists.proofs.Every.{every-done, every-fails, every-on}
 use Rattle.rows.proofs.form_within.Statement.{statement}
 use Rattle.rows.proofs.form_within.Tie as tie
 
 abbrev Inv-loop : tie.InvT-loop
-Inv-loop row j₀ j = (1 ≤ j) × (j ≤ 50) × (rowWithin (drop j row) ≡ rowWithin (drop 1 row))
+Inv-loop row j₀ j = (1 ≤ j) × (j ≤ 50) × (allWithin numberLimit (drop j row) ≡ allWithin numberLimit (drop 1 row))
 
 abbrev μ-loop : tie.MeasureT-loop
 μ-loop row j₀ j = 50 - j
@@ -42,10 +41,10 @@ in-limit-requires : tie.Need-in-limit-requires Inv-loop μ-loop
 in-limit-requires c κs = search needs
 
 returns : tie.Need-returns Inv-loop μ-loop
-unfolding rowWithin
+unfolding allWithin
 returns c =
     let l = c .before .before .before .before .loop in
-    sym (every-fails (within numberLimit) rowWithin refl (λ x xs. refl) (now (c .before .before .before .before .before .args .row)) (l .j) (pos 0) (omega arith) (sym (test (c .before)) ∙ not-true _ (c .if1 .taken))) ∙ l .inv .2
+    sym (every-fails (within numberLimit) (now (c .before .before .before .before .before .args .row)) (l .j) (pos 0) (omega arith) (sym (test (c .before)) ∙ not-true _ (c .if1 .taken))) ∙ l .inv .2
 
 add-j : tie.Need-add-j Inv-loop μ-loop
 add-j c = search needs
@@ -54,19 +53,19 @@ loop-less : tie.Need-loop-less Inv-loop μ-loop
 loop-less c = search needs
 
 loop-again : tie.Need-loop-again Inv-loop μ-loop
-unfolding rowWithin
+unfolding allWithin
 loop-again c =
     let l = c .before .before .before .before .loop in (
       omega arith,
       omega arith,
-      every-on (within numberLimit) rowWithin refl (λ x xs. refl) (now (c .before .before .before .before .before .args .row)) (l .j) (pos 0) (omega arith) (sym (test (c .before)) ∙ not-false _ (c .if1 .left)) ∙ l .inv .2,
+      every-on (within numberLimit) (now (c .before .before .before .before .before .args .row)) (l .j) (pos 0) (omega arith) (sym (test (c .before)) ∙ not-false _ (c .if1 .left)) ∙ l .inv .2,
     )
 
 returns-2 : tie.Need-returns-2 Inv-loop μ-loop
-unfolding rowWithin
+unfolding allWithin
 returns-2 c =
     let l = c .before .loop in
-    sym (every-done (within numberLimit) rowWithin refl (λ x xs. refl) (now (c .before .before .args .row)) (l .j) (omega arith)) ∙ l .inv .2
+    sym (every-done (within numberLimit) (now (c .before .before .args .row)) (l .j) (omega arith)) ∙ l .inv .2
 
 pub form-within-spec : {M : Type 1} → statement M
 form-within-spec =

@@ -54,7 +54,7 @@ returns c =
     let m = now (s .args .model) in
     let w = now (s .args .work) in
     let k = c .before .before .before .before .loop .k in
-    sym (every-broken (keepsFact m) (keeps m) refl (λ f b. refl) (branchOf w (s .args .count)) k (factOf (rowAt w k))
+    sym (every-broken (keepsFact m) (branchOf w (s .args .count)) k (factOf (rowAt w k))
     (branch-at w (s .args .count) k (c .before .before .before .loop-test .taken)) (sym (test (c .before)) ∙ not-true _ (c .if1 .taken)))
 
 add-k : tie.Need-add-k Inv-loop μ-loop
@@ -72,7 +72,7 @@ loop-again c =
     let k = c .before .before .before .before .loop .k in (
       omega arith,
       ap (keeps m) (branch-more w k)
-          ∙ every-snoc (keepsFact m) (keeps m) refl (λ f b. refl) (branchOf w k) (factOf (rowAt w k))
+          ∙ every-snoc (keepsFact m) (branchOf w k) (factOf (rowAt w k))
           ∙ ap₂ _&&_ (c .before .before .before .before .loop .inv .1) (sym (test (c .before)) ∙ not-false _ (c .if1 .left)),
     )
 

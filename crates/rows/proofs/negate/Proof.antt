@@ -9,8 +9,9 @@ use mathlib.Core.List.{List, _∷_}
 use mathlib.Core.Path.{_∙_, _≡_, ap, refl, subst, sym}
 use native.Mathlib.Omega.{arith}
 use Rattle.calculus.specs.Rows.{scale}
-use Rattle.format.specs.Checking.{rowWithin}
+use Rattle.calculus.specs.Limits.{numberLimit}
 use Rattle.lists.proofs.Filled.{filled-all, filled-more, kept-at, kept-more}
+use Rattle.format.specs.Fields.{allWithin}
 use Rattle.rows.proofs.Forms.{length-negative, negative-number}
 use Rattle.rows.proofs.Small.{behind-tag, neg-fits, neg-is}
 use Rattle.rows.proofs.negate.Statement.{statement}
@@ -48,7 +49,7 @@ module _ (c : tie.After-x Inv-loop μ-loop) where
   small : natAbs z ≤ 1000000000
   small =
       let n = c .before .before .before .pre .0 in
-      let w = ap rowWithin (form-kept row n) ∙ c .before .before .before .pre .1 in
+      let w = ap (allWithin numberLimit) (form-kept row n) ∙ c .before .before .before .pre .1 in
       subst (λ (y : ℤ). natAbs y ≤ 1000000000) (sym was) (behind-tag (start row n) (c .before .before .loop .j) w (omega arith))
 
 slice-set-of-row : tie.Need-slice-set-of-row Inv-loop μ-loop

@@ -8,19 +8,20 @@ use mathlib.Core.Bool.{_||_, false}
 use mathlib.Core.List.{List, _∷_}
 use mathlib.Core.Path.{_∙_, _≡_, ap, ap₂, refl, sym}
 use native.Mathlib.Omega.{arith}
+use Rattle.lists.proofs.Every.{some-snoc, some-at}
+use Rattle.lists.specs.Lists.{any}
 use Rattle.calculus.specs.Rows.{column, eqRow, minus}
-use Rattle.calculus.specs.Rules.{anyFact, statesZero}
+use Rattle.calculus.specs.Rules.{statesZero}
 use Rattle.rows.proofs.Branches.{branch-at, branch-more, length-row}
 use Rattle.rows.proofs.Forms.{columns-difference}
 use Rattle.rows.proofs.Tested.{equation-row, states-by-row}
-use Rattle.rows.proofs.Values.{any-at, any-snoc}
 use Rattle.rows.specs.Rows.{branchOf, factOf, rowAt}
 use Rattle.rows.proofs.states_difference.Statement.{statement}
 use Rattle.rows.proofs.states_difference.Tie as tie
 use Rattle.rows.proofs.row_at.Reads as row-at-reads
 
 abbrev Inv-loop : tie.InvT-loop
-Inv-loop work count i j wanted k₀ k = (k ≤ count) × (anyFact (statesZero (minus (column i) (column j))) (branchOf work k) ≡ false)
+Inv-loop work count i j wanted k₀ k = (k ≤ count) × (any (statesZero (minus (column i) (column j))) (branchOf work k) ≡ false)
 
 abbrev μ-loop : tie.MeasureT-loop
 μ-loop work count i j wanted k₀ k = count - k
@@ -71,7 +72,7 @@ returns c =
     let w = now (s .args .work) in
     let k = c .before .before .before .before .before .loop .k in
     let t = statesZero (minus (column (s .args .i)) (column (s .args .j))) in
-    sym (any-at t (branchOf w (s .args .count)) k (factOf (rowAt w k)) (branch-at w (s .args .count) k (c .before .before .before .before .loop-test .taken)) (sym (test (c .before)) ∙ c .if1 .taken))
+    sym (some-at t (branchOf w (s .args .count)) k (factOf (rowAt w k)) (branch-at w (s .args .count) k (c .before .before .before .before .loop-test .taken)) (sym (test (c .before)) ∙ c .if1 .taken))
 
 add-k : tie.Need-add-k Inv-loop μ-loop
 add-k c = search needs
@@ -86,8 +87,8 @@ loop-again c =
     let k = c .before .before .before .before .before .loop .k in
     let t = statesZero (minus (column (s .args .i)) (column (s .args .j))) in (
       omega arith,
-      ap (anyFact t) (branch-more w k)
-          ∙ any-snoc t (branchOf w k) (factOf (rowAt w k))
+      ap (any t) (branch-more w k)
+          ∙ some-snoc t (branchOf w k) (factOf (rowAt w k))
           ∙ ap₂ _||_ (c .before .before .before .before .before .loop .inv .1) (sym (test (c .before)) ∙ c .if1 .left),
     )
 
@@ -95,7 +96,7 @@ returns-2 : tie.Need-returns-2 Inv-loop μ-loop
 returns-2 c =
     let s = c .before .before .before .before .before in
     let e : c .before .loop .k ≡ s .args .count = omega arith in
-    sym (ap (λ (k : ℕ). anyFact (statesZero (minus (column (s .args .i)) (column (s .args .j)))) (branchOf (now (s .args .work)) k)) (sym e) ∙ c .before .loop .inv .1)
+    sym (ap (λ (k : ℕ). any (statesZero (minus (column (s .args .i)) (column (s .args .j)))) (branchOf (now (s .args .work)) k)) (sym e) ∙ c .before .loop .inv .1)
 
 pub states-difference-spec : {M : Type 1} → statement M
 states-difference-spec =

@@ -3,8 +3,9 @@ use borrow.Author.Needs.{needs}
 use denote.Ref.{now}
 use mathlib.Core.Bool.{Bool, _||_}
 use mathlib.Core.Path.{_∙_, ap, sym}
+use Rattle.lists.specs.Lists.{any}
 use Rattle.calculus.specs.Rows.{column, minus}
-use Rattle.calculus.specs.Rules.{anyFact, statesZero}
+use Rattle.calculus.specs.Rules.{statesZero}
 use Rattle.rows.specs.Rows.{branchOf}
 use Rattle.rows.specs.Work.{statesEqual}
 use Rattle.rows.proofs.states_equal.Statement.{statement}
@@ -18,7 +19,7 @@ unfolding statesEqual
 returns c =
     let s = c .before .before in
     let b = branchOf (now (s .args .work)) (s .args .count) in
-    sym (ap (λ (t : Bool). t || anyFact (statesZero (minus (column (s .args .j)) (column (s .args .i)))) b) (sym (c .before .states-difference .ensures) ∙ c .if1 .taken))
+    sym (ap (λ (t : Bool). t || any (statesZero (minus (column (s .args .j)) (column (s .args .i)))) b) (sym (c .before .states-difference .ensures) ∙ c .if1 .taken))
 
 states-difference-requires-2 : tie.Need-states-difference-requires-2
 states-difference-requires-2 c κs = search needs
@@ -29,7 +30,7 @@ returns-2 c =
     let s = c .before .before .before in
     let b = branchOf (now (s .args .work)) (s .args .count) in
     c .states-difference2 .ensures
-    ∙ sym (ap (λ (t : Bool). t || anyFact (statesZero (minus (column (s .args .j)) (column (s .args .i)))) b) (sym (c .before .before .states-difference .ensures) ∙ c .before .if1 .left))
+    ∙ sym (ap (λ (t : Bool). t || any (statesZero (minus (column (s .args .j)) (column (s .args .i)))) b) (sym (c .before .before .states-difference .ensures) ∙ c .before .if1 .left))
 
 pub states-equal-spec : {M : Type 1} → statement M
 states-equal-spec =

@@ -12,7 +12,8 @@ use native.Mathlib.Omega.{arith}
 use Rattle.calculus.specs.Rows.{less, below}
 use Rattle.calculus.specs.Facts.{arithmetic, ge}
 use Rattle.calculus.specs.Limits.{numberLimit}
-use Rattle.format.specs.Checking.{rowWithin, factsWithin}
+use Rattle.format.specs.Checking.{factsWithin}
+use Rattle.format.specs.Fields.{allWithin}
 use Rattle.rows.specs.Rows.{rowAt}
 use Rattle.rows.proofs.Branches.{length-row}
 use Rattle.rows.proofs.Small.{behind-tag, less-fits, less-is, under-fits, under-is}
@@ -22,8 +23,8 @@ use Rattle.splits.proofs.apart_within.Statement.{statement}
 use Rattle.splits.proofs.apart_within.Tie as tie
 
 -- the fact's constant
-constant-small : (r row : List ℤ) → r ≡ row → rowWithin (drop 1 row) ≡ true → natAbs (getD r 1 (pos 0)) ≤ numberLimit
-constant-small r row e h = behind-tag r 1 (ap (λ (l : List ℤ). rowWithin (drop 1 l)) e ∙ h) (omega arith)
+constant-small : (r row : List ℤ) → r ≡ row → allWithin numberLimit (drop 1 row) ≡ true → natAbs (getD r 1 (pos 0)) ≤ numberLimit
+constant-small r row e h = behind-tag r 1 (ap (λ (l : List ℤ). allWithin numberLimit (drop 1 l)) e ∙ h) (omega arith)
 
 first-of-form : (r row : List ℤ) → r ≡ row → getD r 1 (pos 0) ≡ getD (drop 1 row) 0 (pos 0)
 first-of-form r row e = ap (λ (l : List ℤ). getD l 1 (pos 0)) e ∙ sym (getD-drop 1 row 0 (pos 0))

@@ -9,7 +9,8 @@ use mathlib.Core.Path.{_∙_, _≡_, ap}
 use native.Mathlib.Omega.{arith}
 use Rattle.calculus.specs.Rows.{less, below}
 use Rattle.calculus.specs.Facts.{Fact, arithmetic, ge}
-use Rattle.format.specs.Checking.{rowWithin}
+use Rattle.calculus.specs.Limits.{numberLimit}
+use Rattle.format.specs.Fields.{allWithin}
 use Rattle.rows.specs.Rows.{rowAt}
 use Rattle.rows.proofs.Branches.{length-row}
 use Rattle.splits.proofs.Forms.{child-one, child-two, ne-within}
@@ -25,7 +26,7 @@ fill-less-requires c κs =
     let w = now (s .args .work) in
     let few : s .args .fact < 128 = s .pre .0 .1 in
     let room = s .pre .0 .2 in
-    ((s .pre .0 .0, ap length (c .before .before .row-at .ensures) ∙ length-row w (s .args .fact) (omega arith)), ap (λ (l : List ℤ). rowWithin (drop 1 l)) (c .before .before .row-at .ensures) ∙ ne-within (rowAt w (s .args .fact)) (s .pre .1 .0) (s .pre .1 .1))
+    ((s .pre .0 .0, ap length (c .before .before .row-at .ensures) ∙ length-row w (s .args .fact) (omega arith)), ap (λ (l : List ℤ). allWithin numberLimit (drop 1 l)) (c .before .before .row-at .ensures) ∙ ne-within (rowAt w (s .args .fact)) (s .pre .1 .0) (s .pre .1 .1))
 
 same-length : tie.Need-same-length
 same-length c = search needs
@@ -43,7 +44,7 @@ fill-below-requires c κs =
     let w = now (s .args .work) in
     let few : s .args .fact < 128 = s .pre .0 .1 in
     let room = s .pre .0 .2 in
-    ((s .pre .0 .0, ap length (c .before .before .row-at .ensures) ∙ length-row w (s .args .fact) (omega arith)), ap (λ (l : List ℤ). rowWithin (drop 1 l)) (c .before .before .row-at .ensures) ∙ ne-within (rowAt w (s .args .fact)) (s .pre .1 .0) (s .pre .1 .1))
+    ((s .pre .0 .0, ap length (c .before .before .row-at .ensures) ∙ length-row w (s .args .fact) (omega arith)), ap (λ (l : List ℤ). allWithin numberLimit (drop 1 l)) (c .before .before .row-at .ensures) ∙ ne-within (rowAt w (s .args .fact)) (s .pre .1 .0) (s .pre .1 .1))
 
 same-length-2 : tie.Need-same-length-2
 same-length-2 c = search needs

@@ -5,11 +5,11 @@ use lib.IntN.{ℤ}
 use mathlib.Core.List.{List, [], _∷_}
 use mathlib.Core.Path.{_∙_, _≡_, ap}
 use native.Mathlib.Omega.{arith}
-use Rattle.calculus.specs.Limits.{columnLimit}
+use Rattle.calculus.specs.Limits.{columnLimit, numberLimit}
 use Rattle.calculus.specs.Rows.{below}
 use Rattle.calculus.specs.Facts.{Fact, arithmetic, ge}
 use Rattle.format.specs.Question.{formOf}
-use Rattle.format.specs.Checking.{rowWithin}
+use Rattle.format.specs.Fields.{allWithin}
 use Rattle.constraints.proofs.Ranges.{form-within, form-rises}
 use Rattle.splits.proofs.Forms.{child-one, child-two, ge-form}
 use Rattle.splits.proofs.fill_branch.Statement.{statement}
@@ -33,7 +33,7 @@ turn-below-requires : tie.Need-turn-below-requires
 turn-below-requires c κs =
     let s = c .before .before .before .before .before .before in
     let f = formOf (now (s .args .b)) (s .args .at) (s .args .pairs) in
-    (search needs, ap rowWithin (ge-form (c .before .before .before .fill-form .last .0) f (c .before .before .before .fill-form .ensures)) ∙ form-within (now (s .args .b)) columnLimit (s .args .at) (s .args .pairs) (s .pre .1))
+    (search needs, ap (allWithin numberLimit) (ge-form (c .before .before .before .fill-form .last .0) f (c .before .before .before .fill-form .ensures)) ∙ form-within (now (s .args .b)) columnLimit (s .args .at) (s .args .pairs) (s .pre .1))
 
 same-length-2 : tie.Need-same-length-2
 same-length-2 c = search needs

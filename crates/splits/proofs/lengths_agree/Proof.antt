@@ -9,7 +9,7 @@ use mathlib.Core.Path.{_∙_, _≡_, refl, sym, ap₂}
 use native.Mathlib.Omega.{arith}
 use Rattle.calculus.specs.Rules.{distinct, neighbours}
 use Rattle.format.specs.Fields.{u16, u16s}
-use Rattle.format.specs.StepForms.{allBelow}
+use Rattle.format.specs.StepForms.{variables}
 use Rattle.rows.specs.Rows.{branchOf}
 use Rattle.rows.specs.Work.{statesEqual}
 use Rattle.splits.specs.Splits.{numbered}
@@ -18,7 +18,7 @@ use Rattle.splits.proofs.lengths_agree.Statement.{statement}
 use Rattle.splits.proofs.lengths_agree.Tie as tie
 
 abbrev Inv-loop : tie.InvT-loop
-Inv-loop b s at others work count i₀ left₀ i left = (i + 2 + 2 * left ≤ length b) × (distinct (u16s b i (left + 1)) ≡ true) × (allBelow (s .p) (u16s b i (left + 1)) ≡ true) × (neighbours (numbered s) (branchOf work count) (u16 b i) (u16s b (i + 2) left) ≡ neighbours (numbered s) (branchOf work count) (u16 b at) (u16s b (at + 2) others))
+Inv-loop b s at others work count i₀ left₀ i left = (i + 2 + 2 * left ≤ length b) × (distinct (u16s b i (left + 1)) ≡ true) × (variables (s .p) (u16s b i (left + 1)) ≡ true) × (neighbours (numbered s) (branchOf work count) (u16 b i) (u16s b (i + 2) left) ≡ neighbours (numbered s) (branchOf work count) (u16 b at) (u16s b (at + 2) others))
 
 abbrev μ-loop : tie.MeasureT-loop
 μ-loop b s at others work count i₀ left₀ i left = left

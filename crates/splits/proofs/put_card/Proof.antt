@@ -13,7 +13,7 @@ use Rattle.calculus.specs.Facts.{Fact, same}
 use Rattle.calculus.specs.Children.{pairs}
 use Rattle.calculus.specs.Rules.{lastChild}
 use Rattle.format.specs.Fields.{u16, u16s}
-use Rattle.format.specs.StepForms.{allBelow}
+use Rattle.format.specs.StepForms.{variables}
 use Rattle.rows.specs.Rows.{branchOf}
 use Rattle.splits.specs.Splits.{numbered, childOf}
 use Rattle.splits.proofs.Variables.{below-first, below-later, below-rest}
@@ -23,7 +23,7 @@ use Rattle.splits.proofs.put_card.Statement.{statement}
 use Rattle.splits.proofs.put_card.Tie as tie
 
 abbrev Inv-loop : tie.InvT-loop
-Inv-loop work₀ count b s at m k i₀ others₀ left₀ work i others left = (work ≡ work₀) × (i + 2 + 2 * others ≤ length b) × (allBelow (s .p) (u16s b i (others + 1)) ≡ true) × (left < length (pairs (u16s b i (others + 1)) (lastChild (numbered s) (u16 b at) m))) × (getD (pairs (u16s b i (others + 1)) (lastChild (numbered s) (u16 b at) m)) left [] ≡ getD (pairs (u16s b at m) (lastChild (numbered s) (u16 b at) m)) (k - 1) [])
+Inv-loop work₀ count b s at m k i₀ others₀ left₀ work i others left = (work ≡ work₀) × (i + 2 + 2 * others ≤ length b) × (variables (s .p) (u16s b i (others + 1)) ≡ true) × (left < length (pairs (u16s b i (others + 1)) (lastChild (numbered s) (u16 b at) m))) × (getD (pairs (u16s b i (others + 1)) (lastChild (numbered s) (u16 b at) m)) left [] ≡ getD (pairs (u16s b at m) (lastChild (numbered s) (u16 b at) m)) (k - 1) [])
 
 abbrev μ-loop : tie.MeasureT-loop
 μ-loop work₀ count b s at m k i₀ others₀ left₀ work i others left = others
@@ -46,7 +46,7 @@ loop-holds c =
     let e : s .args .m - 1 + 1 ≡ s .args .m = omega arith in (
       refl,
       omega arith,
-      ap (λ (n : ℕ). allBelow (s .args .s .p) (u16s b (s .args .at) n)) e ∙ s .pre .1 .0 .3,
+      ap (λ (n : ℕ). variables (s .args .s .p) (u16s b (s .args .at) n)) e ∙ s .pre .1 .0 .3,
       subst (λ (n : ℕ). s .args .k - 1 < length (pairs (u16s b (s .args .at) n) more)) (sym e) (omega arith),
       ap (λ (n : ℕ). getD (pairs (u16s b (s .args .at) n) more) (s .args .k - 1) []) e,
     )

@@ -18,7 +18,7 @@ abbrev μ-loop : tie.MeasureT-loop
 μ-loop characters p w sizes y₀ y = p - y
 
 loop-holds : tie.Need-loop-holds Inv-loop μ-loop
-loop-holds c = (omega arith, given-none _ _ _)
+loop-holds c = (omega arith, given-none _ _ (now (c .before .before .args .w)))
 
 mul-size : tie.Need-mul-size Inv-loop μ-loop
 mul-size c = search needs

@@ -16,8 +16,9 @@ use native.Mathlib.Nat.{le-trans}
 use native.Mathlib.Omega.{arith}
 use Rattle.calculus.specs.Rows.{zeros}
 use Rattle.calculus.specs.Rules.{sumOf, summand}
-use Rattle.format.specs.Checking.{fits, rowWithin}
-use Rattle.format.specs.Fields.{i32, pairsAt, u16}
+use Rattle.calculus.specs.Limits.{numberLimit}
+use Rattle.format.specs.Checking.{fits}
+use Rattle.format.specs.Fields.{i32, pairsAt, u16, allWithin}
 use Rattle.rows.proofs.Branches.{length-row}
 use Rattle.rows.specs.Rows.{branchOf, factOf, rowAt}
 use Rattle.sums.proofs.Division.{tag-first}
@@ -138,7 +139,7 @@ add-multiple-requires c κs =
     let h = c .before .before .before .before .before .before .before .loop-test .taken in (
       (
         ap length (row-is (c .before .before .before)) ∙ long (c .before .before .before),
-        ap (λ (r : List ℤ). rowWithin (drop 1 r)) (row-is (c .before .before .before))
+        ap (λ (r : List ℤ). allWithin numberLimit (drop 1 r)) (row-is (c .before .before .before))
             ∙ row-small (w p) (count p) (b p) (at' p) (n p) (c .before .before .before .before .before .before .before .before .loop .sum) (i p) s h (on-branch (c .before .before .before)) (c .before .before .before .before .before .before .before .before .before .before .pre .1 .1 .1) (passed (c .before)),
       ),
       (

@@ -2,13 +2,13 @@
 use borrow.Author.Needs.{needs}
 use denote.Ref.{now}
 use lib.IntN.{pos, ℤ}
-use lib.Signed.{ltZ}
+use lib.Signed.{ltZ, nonNeg}
 use mathlib.Core.Bool.{_&&_, not}
 use mathlib.Core.Path.{_∙_, ap, sym}
 use mir.Facts.{toZ-ofZ}
 use native.Mathlib.Omega.{arith}
 use Rattle.calculus.specs.Facts.{Fact}
-use Rattle.calculus.specs.Rows.{isZero, nonneg}
+use Rattle.calculus.specs.Rows.{isZero}
 use Rattle.calculus.specs.Rules.{summand}
 use Rattle.format.specs.Checking.{fits}
 use Rattle.rows.proofs.Tags.{row-relation}
@@ -27,7 +27,7 @@ returns c =
     let f = row-relation (now (s .args .row)) 0 (sym (c .if1 .taken) ∙ c .before .kind-of .ensures) (omega arith) in
     ap (λ (z : ℤ). ltZ (pos 0) z) (toZ-ofZ (s .fits .multiplier))
     ∙ positive-test (s .args .multiplier)
-    ∙ sym (ap (λ (x : Fact). fits (summand (s .args .multiplier) x)) f ∙ guard-fits (nonneg (s .args .multiplier) && not (isZero (s .args .multiplier))) _)
+    ∙ sym (ap (λ (x : Fact). fits (summand (s .args .multiplier) x)) f ∙ guard-fits (nonNeg (s .args .multiplier) && not (isZero (s .args .multiplier))) _)
 
 returns-2 : tie.Need-returns-2
 returns-2 c =
