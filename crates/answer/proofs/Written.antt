@@ -1,6 +1,6 @@
 -- The stores that write the answer.
 use mathlib.Core.Path.{_≡_, refl, sym, _∙_, ap}
-use mathlib.Core.List.{List, [], _∷_, _++_, append-nil, append-assoc}
+use mathlib.Core.List.{List, [], _∷_, _++_, append-assoc, flatMap}
 use Prim.Native.Nat.{ℕ, zero, suc, _+_, _*_, _≤_, _<_}
 use native.Mathlib.Numerals.{add-one}
 use native.Mathlib.Nat.{zero-add}
@@ -11,34 +11,34 @@ use lib.IntN.{ℤ, pos}
 use Rattle.lists.specs.Lists.{All}
 use Rattle.lists.proofs.Stores.{sets-sets, sets-front}
 use Rattle.calculus.specs.Limits.{variableLimit, lengthLimit, answerBytes}
-use Rattle.lists.proofs.Lists.{all-append}
+use Rattle.lists.proofs.Lists.{all-append, length-flatMap, flatMap-snoc}
 use Rattle.format.specs.Fields.{bytesOf, unsigned}
 use Rattle.format.specs.Answer.{recordBytes, characterBytes, integerBytes, stringRecords, encode}
-use Rattle.format.proofs.Encoded.{length-bytes, length-characters, characters-append, length-integers, integers-append, length-record, records-snoc, encode-short}
+use Rattle.format.proofs.Encoded.{length-bytes, length-integers, length-record, records-snoc, encode-short}
 use Rattle.answer.specs.Table.{row, tableStrings, tableAnswer, Table, Integers}
 
 -- a turn of the loop that writes the items of a list, 4 bytes each
-module _ {A : Type 0} (item : A → ℕ) (bytes : List A → List ℕ)
-    (one : (x : A) → bytes (x ∷ []) ≡ bytesOf 4 (item x))
-    (joined : (s t : List A) → bytes (s ++ t) ≡ bytes s ++ bytes t)
-    (fours : (s : List A) → length (bytes s) ≡ 4 * length s) where
+module _ {A : Type 0} (item : A → ℕ) where
+  abbrev bytes : List A → List ℕ
+  bytes = flatMap (λ x. bytesOf 4 (item x))
+
   items-more : (b : List ℕ) (s : List A) (d : A) (at i : ℕ) → i < length s
       → sets (sets b at (bytes (take i s))) (at + 4 * i) (bytesOf 4 (item (getD s i d))) ≡ sets b at (bytes (take (i + 1) s))
   items-more b s d at i h =
-      let n : length (bytes (take i s)) ≡ 4 * i = fours (take i s) ∙ ap (λ (k : ℕ). 4 * k) (length-take-le i s (omega arith)) in
+      let n : length (bytes (take i s)) ≡ 4 * i = length-flatMap (λ x. bytesOf 4 (item x)) 4 (λ x. length-bytes 4 (item x)) (take i s) ∙ ap (λ (k : ℕ). 4 * k) (length-take-le i s (omega arith)) in
       let e : bytes (take (i + 1) s) ≡ bytes (take i s) ++ bytesOf 4 (item (getD s i d)) =
-      rw (add-one, take-suc s i d h, joined (take i s) (getD s i d ∷ []), one (getD s i d)) in
+      rw (add-one, take-suc s i d h, flatMap-snoc (λ x. bytesOf 4 (item x)) (take i s) (getD s i d)) in
       rw (← n, sets-sets, e)
 
 pub characters-more : (b s : List ℕ) (at i : ℕ) → i < length s
     → sets (sets b at (characterBytes (take i s))) (at + 4 * i) (bytesOf 4 (getD s i 0)) ≡ sets b at (characterBytes (take (i + 1) s))
 unfolding characterBytes
-characters-more b s at i h = items-more (λ c. c) characterBytes (λ c. append-nil (bytesOf 4 c)) characters-append length-characters b s 0 at i h
+characters-more b s at i h = items-more (λ c. c) b s 0 at i h
 
 pub integers-more : (b : List ℕ) (zs : List ℤ) (at i : ℕ) → i < length zs
     → sets (sets b at (integerBytes (take i zs))) (at + 4 * i) (bytesOf 4 (unsigned (getD zs i (pos 0)))) ≡ sets b at (integerBytes (take (i + 1) zs))
 unfolding integerBytes
-integers-more b zs at i h = items-more unsigned integerBytes (λ z. append-nil (bytesOf 4 (unsigned z))) integers-append length-integers b zs (pos 0) at i h
+integers-more b zs at i h = items-more unsigned b zs (pos 0) at i h
 
 -- length and kind, and then the body, stored behind each other are the record
 pub record-put : (b : List ℕ) (at m k : ℕ) (body : List ℕ) → m ≡ length body → sets (sets b at (bytesOf 4 m ++ bytesOf 2 k)) (at + 6) body ≡ sets b at (recordBytes k body)

@@ -1,13 +1,13 @@
--- Small cases, computed: rounding, multipliers, Card's bound, classes through literals, different variables, and the facts that a sibling starts with.
+-- Small cases, computed: rounding, multipliers, Card's bound, classes through literals, different variables, S-Conf, and the facts that a sibling starts with.
 use mathlib.Core.Path.{_≡_, refl}
 use mathlib.Core.Logic.{inl, inr}
 use mathlib.Core.Option.{none, some}
 use mathlib.Core.List.{[], _∷_, _++_}
 use lib.IntN.{pos, negsuc}
 use Rattle.calculus.specs.Rows.{zeros}
-use Rattle.calculus.specs.Facts.{Question, same, isLiteral, arithmetic, ge}
+use Rattle.calculus.specs.Facts.{Question, same, apart, isLiteral, arithmetic, ge}
 use Rattle.calculus.specs.Chains.{here, along, back, OneClass}
-use Rattle.calculus.specs.Steps.{Sum, CInj}
+use Rattle.calculus.specs.Steps.{Sum, SConf, CInj}
 use Rattle.calculus.specs.Children.{one}
 use Rattle.calculus.specs.Rules.{logUp, children}
 use Rattle.calculus.specs.Walk.{working, enter}
@@ -25,6 +25,14 @@ negative-multiplier = refl
 
 one-variable : children small [] (CInj 0 0) ≡ none
 one-variable = refl
+
+-- x ≉ x closes by itself
+with-itself : children small (apart 0 0 ∷ []) SConf ≡ some []
+with-itself = refl
+
+-- literal 0, the empty string, is one of the literals
+literal-zero : children (record { n = 2; p = 1; q = 0; literals = (0 ∷ []) ∷ []; constraints = [] }) (isLiteral 0 0 ∷ isLiteral 0 1 ∷ []) SConf ≡ some []
+literal-zero = refl
 
 -- "four strings of length 2 exist over two characters"
 four-strings : logUp 4 2 4 0 ≡ 2

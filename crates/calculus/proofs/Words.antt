@@ -11,8 +11,8 @@ use lib.ListN.{length}
 use lib.Dec.{T, eqb, ltb→lt, lt→ltb, eqb→eq, eqb-refl}
 use lib.IntN.{negsuc}
 use Rattle.lists.specs.Lists.{All, NotIn, Distinct}
-use Rattle.lists.proofs.Lists.{In, all-in, at-most, all→, →all, any→, →any}
-use Rattle.lists.proofs.Tests.{true→, and→, →and}
+use Rattle.lists.proofs.Lists.{In, all-in, at-most, all→, →all, any→, →any, eq-list→, eq-list-refl}
+use Rattle.lists.proofs.Tests.{true→}
 use Rattle.calculus.specs.Alphabet.{characterCount, isCharacter, Over, allCharacters}
 use Rattle.calculus.specs.Facts.{codeOf}
 use Rattle.calculus.specs.Strings.{word, eqString, given, freshFrom}
@@ -124,17 +124,10 @@ count n l ss ws d = subst (λ k. length ss ≤ k) (length-words n l (n ^ l)) (at
 -- ---- the first word that is not given
 
 pub eqString→ : (s t : List ℕ) → T (eqString s t) → s ≡ t
-eqString→ [] [] h = refl
-eqString→ [] (d ∷ t) h = absurd h
-eqString→ (c ∷ s) [] h = absurd h
-eqString→ (c ∷ s) (d ∷ t) h = let (p, q) = and→ (eqb c d) (eqString s t) h in ap₂ _∷_ (eqb→eq c d p) (eqString→ s t q)
-
-eqString-refl : (s : List ℕ) → T (eqString s s)
-eqString-refl [] = tt
-eqString-refl (c ∷ s) = →and (eqb c c) (eqString s s) (eqb-refl c) (eqString-refl s)
+eqString→ s t h = eq-list→ eqb eqb→eq s t h
 
 pub →eqString : {s t : List ℕ} → s ≡ t → T (eqString s t)
-→eqString {s} e = subst (λ t. T (eqString s t)) e (eqString-refl s)
+→eqString {s} e = subst (λ t. T (eqString s t)) e (eq-list-refl eqb eqb-refl s)
 
 pub given→ : (s : List ℕ) (ts : List (List ℕ)) → T (given s ts) → In s ts
 given→ s ts h = any→ (eqString s) ts (λ t. eqString→ s t) h

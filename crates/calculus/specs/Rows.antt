@@ -1,11 +1,11 @@
 -- Forms: an integer form is a list, the constant first, then a coefficient for each of the 48 columns.
 use Prim.Native.Nat.{ℕ, zero, suc, _-_, _/_}
-use mathlib.Core.Bool.{Bool, true, false, _&&_}
+use mathlib.Core.Bool.{Bool, true, false}
 use mathlib.Core.List.{List, [], _∷_, _++_}
 use lib.ListN.{replicate}
 use lib.Dec.{eqb}
 use lib.IntN.{ℤ, pos, negsuc, _+ℤ_, _*ℤ_}
-use Rattle.lists.specs.Lists.{all}
+use Rattle.lists.specs.Lists.{all, eqList}
 use Rattle.calculus.specs.Limits.{columnLimit}
 
 abbrev pub plus : List ℤ → List ℤ → List ℤ
@@ -51,10 +51,7 @@ eqℤ (negsuc m) (pos n) = false
 eqℤ (negsuc m) (negsuc n) = eqb m n
 
 abbrev pub eqRow : List ℤ → List ℤ → Bool
-eqRow [] [] = true
-eqRow [] (y ∷ b) = false
-eqRow (x ∷ a) [] = false
-eqRow (x ∷ a) (y ∷ b) = eqℤ x y && eqRow a b
+eqRow a b = eqList eqℤ a b
 
 abbrev pub allZero : List ℤ → Bool
 allZero a = all isZero a

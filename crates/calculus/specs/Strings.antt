@@ -1,12 +1,12 @@
 -- "The strings: a class with a literal gets it; a class of length 1 gets the character of its code; then each other class .."
 use Prim.Native.Nat.{ℕ, zero, suc, _/_, _%_, _^_}
-use mathlib.Core.Bool.{Bool, true, false, _&&_}
+use mathlib.Core.Bool.{Bool, true, false}
 use mathlib.Core.Option.{Option, none, some}
 use mathlib.Core.List.{List, [], _∷_, _++_}
 use lib.ListN.{getD}
 use lib.Dec.{ltb, eqb}
 use lib.IntN.{ℤ, pos, natAbs}
-use Rattle.lists.specs.Lists.{any}
+use Rattle.lists.specs.Lists.{any, eqList}
 use Rattle.calculus.specs.Alphabet.{characterCount, character}
 use Rattle.calculus.specs.Rows.{eqℤ}
 use Rattle.calculus.specs.Facts.{Question, Branch, len, code, literal}
@@ -20,10 +20,7 @@ word n zero k = []
 word n (suc l) k = character n (k / characterCount n ^ l) ∷ word n l (k % characterCount n ^ l)
 
 abbrev pub eqString : List ℕ → List ℕ → Bool
-eqString [] [] = true
-eqString [] (d ∷ t) = false
-eqString (c ∷ s) [] = false
-eqString (c ∷ s) (d ∷ t) = eqb c d && eqString s t
+eqString s t = eqList eqb s t
 
 abbrev pub given : List ℕ → List (List ℕ) → Bool
 given s ts = any (eqString s) ts

@@ -5,8 +5,8 @@ use mathlib.Core.Path.{_≡_, sym, _∙_, ap}
 use mathlib.Core.List.{List}
 use lib.ListN.{length}
 use Rattle.calculus.specs.Facts.{Question, Fact, Branch}
-use Rattle.format.specs.Records.{kind, size, next, records}
-use Rattle.format.specs.Reading.{taking, modelled, modelAt, modelFault, Ticket, Faulty, Done, readSteps}
+use Rattle.format.specs.Records.{kind, size, next}
+use Rattle.format.specs.Reading.{taking, modelled, modelAt, modelFault, Ticket, Faulty, Done, stepsOn}
 use Rattle.format.specs.Checking.{checker, leafFault}
 use Rattle.claims.specs.Numbers.{endNumber}
 use Rattle.claims.proofs.Ends.{model-refused, model-taken, modelled-refused, modelled-done}
@@ -14,7 +14,7 @@ use Rattle.checking.proofs.Outcomes.{nonzero}
 
 module _ (b : List ℕ) (u : Question) (br : Branch) (r at m : ℕ) (em : m ≡ size b at) (k : kind b at ≡ 7) (h : next b at ≤ length b) where
   abbrev fromHere : Ticket Branch (List Fact)
-  fromHere = readSteps (checker u) b u (taking br) r (records b at)
+  fromHere = stepsOn (checker u) b u (taking br) r at
 
   abbrev numberOf : ℕ → ℕ
   numberOf m = modelFault b u (leafFault u br (modelAt b u (at + 6))) (at + 6) m
@@ -23,8 +23,8 @@ module _ (b : List ℕ) (u : Question) (br : Branch) (r at m : ℕ) (em : m ≡ 
   unsettled f e n = nonzero (model-refused b u br r at k h) f (e ∙ ap numberOf em) n
 
   module _ (e : numberOf m ≡ 0) where
-    onward : fromHere ≡ readSteps (checker u) b u (modelled br (modelAt b u (at + 6))) (suc r) (records b (at + 6 + m))
-    onward = model-taken b u br r at k h (sym (ap numberOf em) ∙ e) ∙ ap (λ x. readSteps (checker u) b u (modelled br (modelAt b u (at + 6))) (suc r) (records b (at + 6 + x))) (sym em)
+    onward : fromHere ≡ stepsOn (checker u) b u (modelled br (modelAt b u (at + 6))) (suc r) (at + 6 + m)
+    onward = model-taken b u br r at k h (sym (ap numberOf em) ∙ e) ∙ ap (λ x. stepsOn (checker u) b u (modelled br (modelAt b u (at + 6))) (suc r) (at + 6 + x)) (sym em)
 
     pub unended : (c : ℕ) → c ≡ endNumber b (at + 6 + m) → (c ≡ 0 → ⊥) → fromHere ≡ Faulty c (r + 1)
     unended c f n = onward ∙ nonzero (modelled-refused b u (suc r) (at + 6 + m) br (modelAt b u (at + 6))) c f n ∙ ap (Faulty c) (sym (add-one r))

@@ -20,7 +20,7 @@ use Rattle.format.specs.Records.{need, kind, next, whole, records, size}
 use Rattle.format.specs.Question as question
 use Rattle.format.specs.Question.{Progress, Reading, Stopped, Ended, fresh, headRange, textOf, stringRange, formRange}
 use Rattle.format.specs.StepForms.{rule, child, lengthFits, operandsInRange, stepAt, childInRange}
-use Rattle.format.specs.Reading.{State, proving, taking, modelled, Ticket, Faulty, Done, fault, advanced, readSteps, claimFault, claimAt, begin, bodyFault, lastFault, stepFault, modelAt, modelFault, readBehind}
+use Rattle.format.specs.Reading.{State, proving, taking, modelled, Ticket, Faulty, Done, fault, advanced, readSteps, claimFault, claimAt, begin, bodyFault, lastFault, stepFault, modelAt, modelFault, readBehind, stepsOn}
 use Rattle.format.specs.Checking as format
 use Rattle.format.specs.Checking.{checker, outcomeOf, fits, orNone, factsWithin, childrenWithin, room, roomForAll, roomToPend, allTried, takenTried, keeps, shortLengths, leafFault, complete, takenFacts}
 
@@ -167,10 +167,10 @@ never-one b = go (question.question b) (reading-other b)
     claim : (s : Progress) (at r f : ℕ) → Other f
         → OtherThanOne (outcomeOf (elim f as (λ _. Ticket Branch (List Fact)) [
           | suc c ↦ Faulty (suc c) r
-          | zero ↦ readSteps (checker (s .question)) b (s .question) (begin (checker (s .question)) (claimAt b at)) (suc r) (records b (next b at))
+          | zero ↦ stepsOn (checker (s .question)) b (s .question) (begin (checker (s .question)) (claimAt b at)) (suc r) (next b at)
         ]))
     claim s at r (suc c) p = p
-    claim s at r zero p = outcome-other (readSteps (checker (s .question)) b (s .question) (begin (checker (s .question)) (claimAt b at)) (suc r) (records b (next b at)))
+    claim s at r zero p = outcome-other (stepsOn (checker (s .question)) b (s .question) (begin (checker (s .question)) (claimAt b at)) (suc r) (next b at))
         (steps-other b (s .question) (records b (next b at)) (begin (checker (s .question)) (claimAt b at)) (suc r))
 
     go : (x : Reading) → ReadingOther x → OtherThanOne (outcomeOf (readBehind checker b x))

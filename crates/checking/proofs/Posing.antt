@@ -11,10 +11,10 @@ use borrow.Author.Tests.{leb-true, leb-false, eqb-true, eq-eqb, ne-eqb}
 use Rattle.calculus.specs.Limits.{ticketBytes}
 use Rattle.calculus.specs.Facts.{Fact, Branch}
 use Rattle.calculus.specs.Walk.{working}
-use Rattle.format.specs.Records.{kind, size, next, records}
+use Rattle.format.specs.Records.{kind, size, next}
 use Rattle.format.specs.Question as format
 use Rattle.format.specs.Question.{fault, fresh, ending, readOn, question, advanced}
-use Rattle.format.specs.Reading.{State, proving, taking, Ticket, readSteps, claimFault, claimAt, begin, readClaim}
+use Rattle.format.specs.Reading.{State, proving, taking, Ticket, claimFault, claimAt, begin, readClaim, stepsOn}
 use Rattle.format.specs.Checking.{checker}
 use Rattle.format.proofs.Faults.{none-applies, and-true, clash}
 use Rattle.format.proofs.Turns.{read-none, read-ended, read-stopped, read-more, read-begin}
@@ -89,7 +89,7 @@ posed b s at h short e = record { to = at; stands = h; head = claim-good b (prog
 
 module _ (b : List ℕ) (s : Progress) (at r : ℕ) (e : claimFault b (progressOf b s) at ≡ 0) where
   abbrev started : State Branch (List Fact) → ℕ → ℕ → Ticket Branch (List Fact)
-  started st k to = readSteps (checker (asked b s)) b (asked b s) st k (records b to)
+  started = stepsOn (checker (asked b s)) b (asked b s)
 
   behind : (st : State Branch (List Fact)) → begin (checker (asked b s)) (claimAt b at) ≡ st → readClaim checker b (progressOf b s) at r ≡ started st (r + 1) (at + 8)
   unfolding asked

@@ -5,8 +5,7 @@ use Prim.Native.Nat.{ℕ}
 use lib.ListN.{length, drop}
 use lib.IntN.{ℤ}
 use Rattle.calculus.specs.Facts.{Fact, Branch}
-use Rattle.format.specs.Records.{records}
-use Rattle.format.specs.Reading.{State, readSteps}
+use Rattle.format.specs.Reading.{State, stepsOn}
 use Rattle.format.specs.Checking as format
 use Rattle.format.specs.Checking.{checker, outcomeOf}
 use Rattle.format.specs.Demands.{written, Checked}
@@ -24,7 +23,7 @@ told (format.Strings s) = Strings
 
 -- what reading comes to in a state behind the claim, from record r at a position on
 abbrev pub outcomeFrom : List ℕ → Progress → State Branch (List Fact) → ℕ → ℕ → format.Outcome
-outcomeFrom b s st r at = outcomeOf (readSteps (checker (asked b s)) b (asked b s) st r (records b at))
+outcomeFrom b s st r at = outcomeOf (stepsOn (checker (asked b s)) b (asked b s) st r at)
 
 -- a part of checking comes to an outcome: it tells it, and of the answer buffer changes the answer's bytes only
 pub record Decided (o : format.Outcome) (answer answer' : List ℕ) (r : Outcome) : Type 0 where

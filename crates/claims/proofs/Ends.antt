@@ -11,10 +11,10 @@ use borrow.Author.Tests.{leb-true, leb-false, le-leb, lt-leb}
 use Rattle.calculus.specs.Facts.{Question, Fact, Branch}
 use Rattle.calculus.specs.Walk.{closed}
 use Rattle.format.specs.Records.{size, kind, next, whole, need}
-use Rattle.format.specs.Reading.{State, proving, taking, modelled, modelAt, modelFault, lastFault, bodyFault, fault, advanced, Faulty, Done}
+use Rattle.format.specs.Reading.{State, proving, taking, modelled, modelAt, modelFault, lastFault, bodyFault, fault, advanced, Faulty, Done, stepsOn}
 use Rattle.format.specs.Checking.{leafFault, checker}
 use Rattle.format.proofs.Faults.{none-applies}
-use Rattle.format.proofs.StepTurns.{stepsOn, steps-none, steps-faulty, steps-done, steps-more}
+use Rattle.format.proofs.StepTurns.{steps-none, steps-faulty, steps-done, steps-more}
 use Rattle.claims.specs.Numbers.{lastNumber, endNumber}
 
 -- ---- the model's record, whole

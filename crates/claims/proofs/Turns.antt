@@ -11,9 +11,9 @@ use Rattle.calculus.specs.Facts.{Question, Fact, Branch}
 use Rattle.calculus.specs.Walk.{Waiting, working, enter}
 use Rattle.format.specs.Records.{size, kind, next}
 use Rattle.format.specs.StepForms.{child}
-use Rattle.format.specs.Reading.{State, proving, taking, modelled, modelAt, fault, advanced, Ticket, Faulty}
+use Rattle.format.specs.Reading.{State, proving, taking, modelled, modelAt, fault, advanced, Ticket, Faulty, stepsOn}
 use Rattle.format.specs.Checking.{checker}
-use Rattle.format.proofs.StepTurns.{stepsOn, steps-none, steps-faulty, steps-more}
+use Rattle.format.proofs.StepTurns.{steps-none, steps-faulty, steps-more}
 use Rattle.steps.specs.Offered.{offered, offeredChild}
 use Rattle.derivation.specs.State.{childrenOn}
 use Rattle.claims.proofs.Numbers.{walk-kind, path-kind}

@@ -6,8 +6,8 @@ use lib.ListN.{length}
 use lib.IntN.{ℤ}
 use Rattle.calculus.specs.Facts.{Question, Fact, Branch}
 use Rattle.calculus.specs.Walk.{closed}
-use Rattle.format.specs.Records.{kind, next, records}
-use Rattle.format.specs.Reading.{proving, taking, Ticket, Faulty, readSteps}
+use Rattle.format.specs.Records.{kind, next}
+use Rattle.format.specs.Reading.{proving, taking, Ticket, Faulty, stepsOn}
 use Rattle.format.specs.Checking.{checker}
 use Rattle.rows.specs.Rows.{branchOf}
 use Rattle.rows.specs.Work.{Fine}
@@ -21,14 +21,14 @@ use Rattle.claims.specs.declared.Followed.{Followed}
 -- refused, or every branch is closed and reading goes on at a position and record
 unfoldable pub walkedOf : List ℕ → Question → Walked → Ticket Branch (List Fact)
 walkedOf b u (walked.the-variants.Refused c r) = Faulty c r
-walkedOf b u (walked.the-variants.Closed at r) = readSteps (checker u) b u (proving closed) r (records b at)
+walkedOf b u (walked.the-variants.Closed at r) = stepsOn (checker u) b u (proving closed) r at
 
 -- ---- claim 2
 
 -- refused, or reading goes on at the model's record, on the branch of the first count rows
 unfoldable pub followedOf : List ℕ → Question → List ℤ → Followed → Ticket Branch (List Fact)
 followedOf b u w (followed.the-variants.Refused c r) = Faulty c r
-followedOf b u w (followed.the-variants.Model at r count) = readSteps (checker u) b u (taking (branchOf w count)) r (records b at)
+followedOf b u w (followed.the-variants.Model at r count) = stepsOn (checker u) b u (taking (branchOf w count)) r at
 
 -- the model's record is all there, and the rows are in order
 pub record Modelled (b : List ℕ) (w : List ℤ) (at r count : ℕ) : Type 0 where

@@ -8,11 +8,12 @@ ghost use lib.Dec.{eqb};
 ghost use Rattle.lists.specs.Lists.{anyBelow};
 ghost use Rattle.calculus.specs.Limits.{alphabetLimit, variableLimit, factLimit};
 ghost use Rattle.calculus.specs.Classes as classes;
-ghost use Rattle.calculus.specs.Classes.{upFrom, joinNodes, joinFact, sameClass, lowest, apartMeet};
+ghost use Rattle.calculus.specs.Classes.{nodeCount, upFrom, joinNodes, joinFact, sameClass, lowest, apartMeet};
 ghost use Rattle.calculus.specs.Rules.{logUp};
 ghost use Rattle.calculus.specs.SaturationTest.{lowestVar};
 ghost use Rattle.rows.specs.Rows.{rowLength, factOf, branchOf};
 ghost use Rattle.classes.specs.Classes.{literalOf, literalMeets, clash};
+use limits::NODE_COUNT;
 use rows::kind_of;
 use rows::operand;
 use rows::row_at;
@@ -24,8 +25,8 @@ pub enum Lowest {
 }
 
 // Every node is in a class of its own.
-fn first_labels() -> [u8; 32]
-    ensures { λ r. ⌜ r ≡ upFrom 0 32 ⌝ }
+fn first_labels() -> [u8; NODE_COUNT]
+    ensures { λ r. ⌜ r ≡ upFrom 0 nodeCount ⌝ }
 {
     [
         0,
@@ -74,12 +75,12 @@ fn relabelled(old: u8, new: u8, label: u8) -> u8
 }
 
 // Every label `old` becomes `new`.
-fn relabel(old: u8, new: u8, labels: [u8; 32]) -> [u8; 32]
+fn relabel(old: u8, new: u8, labels: [u8; NODE_COUNT]) -> [u8; NODE_COUNT]
     ensures { λ r. ⌜ r ≡ classes.relabel old new labels ⌝ }
 {
     let mut out = labels;
     let mut i = 0;
-    while i < 32 {
+    while i < NODE_COUNT {
         let label = labels[i];
         let to = relabelled(old, new, label);
         out[i] = to;
@@ -89,8 +90,8 @@ fn relabel(old: u8, new: u8, labels: [u8; 32]) -> [u8; 32]
 }
 
 // The classes of two nodes become one.
-fn join(labels: [u8; 32], i: usize, j: usize) -> [u8; 32]
-    requires { ⌜ (i < 32) × (j < 32) ⌝ }
+fn join(labels: [u8; NODE_COUNT], i: usize, j: usize) -> [u8; NODE_COUNT]
+    requires { ⌜ (i < nodeCount) × (j < nodeCount) ⌝ }
     ensures { λ r. ⌜ r ≡ joinNodes labels i j ⌝ }
 {
     let new = labels[i];
@@ -99,7 +100,7 @@ fn join(labels: [u8; 32], i: usize, j: usize) -> [u8; 32]
 }
 
 // The labels once the fact of a row stands: variable ≈ variable is of kind 3, variable ≈ literal of kind 5.
-fn join_row(row: &[i64], labels: [u8; 32]) -> [u8; 32]
+fn join_row(row: &[i64], labels: [u8; NODE_COUNT]) -> [u8; NODE_COUNT]
     requires { ⌜ length (now row) ≡ rowLength ⌝ }
     ensures { λ r. ⌜ r ≡ joinFact labels (factOf (now (row .entry))) ⌝ }
 {
@@ -118,7 +119,7 @@ fn join_row(row: &[i64], labels: [u8; 32]) -> [u8; 32]
 }
 
 // The labels of a branch of `count` facts.
-pub fn labels(work: &[i64], count: usize) -> [u8; 32]
+pub fn labels(work: &[i64], count: usize) -> [u8; NODE_COUNT]
     requires { ⌜ (count ≤ factLimit) × (rowLength * count ≤ length (now work)) ⌝ }
     ensures { λ r. ⌜ r ≡ classes.labels (branchOf (now (work .entry)) count) ⌝ }
 {
@@ -133,8 +134,8 @@ pub fn labels(work: &[i64], count: usize) -> [u8; 32]
 }
 
 // Are two nodes in one class?
-pub fn same_class(labels: [u8; 32], i: usize, j: usize) -> bool
-    requires { ⌜ (i < 32) × (j < 32) ⌝ }
+pub fn same_class(labels: [u8; NODE_COUNT], i: usize, j: usize) -> bool
+    requires { ⌜ (i < nodeCount) × (j < nodeCount) ⌝ }
     ensures { λ r. ⌜ r ≡ sameClass labels i j ⌝ }
 {
     let a = labels[i];
@@ -143,7 +144,7 @@ pub fn same_class(labels: [u8; 32], i: usize, j: usize) -> bool
 }
 
 // The lowest of the first m literals in the class of variable x: "the lowest literal number counts".
-pub fn class_literal(labels: [u8; 32], m: usize, x: usize) -> Lowest
+pub fn class_literal(labels: [u8; NODE_COUNT], m: usize, x: usize) -> Lowest
     requires { ⌜ (m ≤ variableLimit) × (x < variableLimit) ⌝ }
     ensures { λ r. ⌜ literalOf r ≡ lowest labels x 0 m ⌝ }
 {
@@ -160,7 +161,7 @@ pub fn class_literal(labels: [u8; 32], m: usize, x: usize) -> Lowest
 }
 
 // The lowest variable in the class of variable x.
-pub fn lowest_var(labels: [u8; 32], x: usize) -> usize
+pub fn lowest_var(labels: [u8; NODE_COUNT], x: usize) -> usize
     requires { ⌜ x < variableLimit ⌝ }
     ensures { λ r. ⌜ r ≡ lowestVar labels x ⌝ }
 {
@@ -177,7 +178,7 @@ pub fn lowest_var(labels: [u8; 32], x: usize) -> usize
 }
 
 // Does literal i share a class with a lower one?
-fn literal_meets(labels: [u8; 32], i: usize) -> bool
+fn literal_meets(labels: [u8; NODE_COUNT], i: usize) -> bool
     requires { ⌜ i < variableLimit ⌝ }
     ensures { λ r. ⌜ r ≡ literalMeets labels i ⌝ }
 {
@@ -192,7 +193,7 @@ fn literal_meets(labels: [u8; 32], i: usize) -> bool
 }
 
 // "two different literals share a class", of the first m.
-fn literals_meet(labels: [u8; 32], m: usize) -> bool
+fn literals_meet(labels: [u8; NODE_COUNT], m: usize) -> bool
     requires { ⌜ m ≤ variableLimit ⌝ }
     ensures { λ r. ⌜ r ≡ anyBelow m (literalMeets labels) ⌝ }
 {
@@ -207,7 +208,7 @@ fn literals_meet(labels: [u8; 32], m: usize) -> bool
 }
 
 // Is a row a fact a ≉ b, of kind 4, with both sides in one class?
-fn apart_meets(row: &[i64], labels: [u8; 32]) -> bool
+fn apart_meets(row: &[i64], labels: [u8; NODE_COUNT]) -> bool
     requires { ⌜ length (now row) ≡ rowLength ⌝ }
     ensures { λ r. ⌜ r ≡ apartMeet labels (factOf (now (row .entry)) ∷ []) ⌝ }
 {
@@ -220,7 +221,7 @@ fn apart_meets(row: &[i64], labels: [u8; 32]) -> bool
 }
 
 // "a ≉ fact has both sides in one", among the first `count` facts.
-fn apart_meet(work: &[i64], count: usize, labels: [u8; 32]) -> bool
+fn apart_meet(work: &[i64], count: usize, labels: [u8; NODE_COUNT]) -> bool
     requires { ⌜ (count ≤ factLimit) × (rowLength * count ≤ length (now work)) ⌝ }
     ensures { λ r. ⌜ r ≡ apartMeet labels (branchOf (now (work .entry)) count) ⌝ }
 {
@@ -235,7 +236,7 @@ fn apart_meet(work: &[i64], count: usize, labels: [u8; 32]) -> bool
 }
 
 // Does S-Conf fit on a branch of `count` facts with these labels, where the question has m literals, the empty one included?
-pub fn conflict(work: &[i64], count: usize, labels: [u8; 32], m: usize) -> bool
+pub fn conflict(work: &[i64], count: usize, labels: [u8; NODE_COUNT], m: usize) -> bool
     requires { ⌜ (count ≤ factLimit) × (rowLength * count ≤ length (now work)) × (m ≤ variableLimit) ⌝ }
     ensures { λ r. ⌜ r ≡ clash m labels (branchOf (now (work .entry)) count) ⌝ }
 {

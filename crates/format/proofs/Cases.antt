@@ -1,5 +1,6 @@
 -- The starred cases hold: each is computed from the definitions.
 use mathlib.Core.Path.{refl}
+use mathlib.Core.List.{flatMap}
 use Rattle.lists.specs.Lists.{All}
 use Rattle.calculus.specs.Alphabet.{allCharacters}
 use Rattle.calculus.specs.Steps.{shape}
@@ -13,5 +14,5 @@ use Rattle.format.specs.Checking.{factsWithin, childrenWithin, roomForAl
 use Rattle.format.specs.Cases.{shortBytes, pairBytes, ticket, Holds, starred}
 
 pub starred-hold : All Holds starred
-unfolding allCharacters shape u32 signed u16s u32s i32s pairsAt bytesOf recordsBy records rising fillRow formFault questionFault questionAdvanced readFrom readBy multipliersWithin operandsInRange stepOf characterBytes integerBytes stringRecords encode allWithin fault advanced readSteps factsWithin childrenWithin roomForAll keeps verdict shortBytes pairBytes ticket
+unfolding allCharacters shape u32 signed u16s u32s i32s pairsAt bytesOf recordsBy records rising fillRow formFault questionFault questionAdvanced readFrom readBy multipliersWithin operandsInRange stepOf characterBytes integerBytes stringRecords encode allWithin fault advanced readSteps factsWithin childrenWithin roomForAll keeps verdict shortBytes pairBytes ticket flatMap
 starred-hold = (refl, (refl, (refl, (refl, (refl, (refl, (refl, (refl, (refl, (refl, (refl, (refl, (refl, tt)))))))))))))

@@ -1,14 +1,15 @@
 -- The answer's bytes: their lengths, and records one after another.
-use mathlib.Core.Path.{_≡_, refl, sym, ap}
-use mathlib.Core.List.{List, [], _∷_, _++_, append-nil, append-assoc}
+use mathlib.Core.Path.{_≡_, refl, ap}
+use mathlib.Core.List.{List, [], _∷_, _++_, flatMap}
 use Prim.Native.Nat.{ℕ, zero, suc, _+_, _*_, _≤_}
 use native.Mathlib.Omega.{arith}
 use lib.ListN.{length, length-append}
 use lib.IntN.{ℤ}
+use Rattle.lists.proofs.Lists.{length-flatMap, flatMap-snoc}
 use Rattle.lists.specs.Lists.{All}
 use Rattle.calculus.specs.Limits.{variableLimit, lengthLimit, answerBytes}
 use Rattle.calculus.specs.Meaning.{Assignment}
-use Rattle.format.specs.Fields.{bytesOf}
+use Rattle.format.specs.Fields.{bytesOf, unsigned}
 use Rattle.format.specs.Answer.{recordBytes, characterBytes, integerBytes, stringRecords, encode}
 
 pub length-bytes : (k v : ℕ) → length (bytesOf k v) ≡ k
@@ -19,24 +20,12 @@ length-bytes (suc k) v = ap suc (length-bytes k _)
 -- ---- items of four bytes, one after another
 
 pub length-characters : (s : List ℕ) → length (characterBytes s) ≡ 4 * length s
-unfolding characterBytes bytesOf
-length-characters [] = refl
-length-characters (c ∷ s) = omega (arith, length-characters s)
-
-pub characters-append : (s t : List ℕ) → characterBytes (s ++ t) ≡ characterBytes s ++ characterBytes t
-unfolding characterBytes bytesOf
-characters-append [] t = refl
-characters-append (c ∷ s) t = rw (characters-append s t)
+unfolding characterBytes
+length-characters s = length-flatMap (bytesOf 4) 4 (length-bytes 4) s
 
 pub length-integers : (zs : List ℤ) → length (integerBytes zs) ≡ 4 * length zs
-unfolding integerBytes bytesOf
-length-integers [] = refl
-length-integers (z ∷ zs) = omega (arith, length-integers zs)
-
-pub integers-append : (a b : List ℤ) → integerBytes (a ++ b) ≡ integerBytes a ++ integerBytes b
-unfolding integerBytes bytesOf
-integers-append [] b = refl
-integers-append (z ∷ zs) b = rw (integers-append zs b)
+unfolding integerBytes
+length-integers zs = length-flatMap (λ z. bytesOf 4 (unsigned z)) 4 (λ z. length-bytes 4 (unsigned z)) zs
 
 -- ---- records
 
@@ -45,14 +34,13 @@ length-record k body =
     rw (length-append (bytesOf 4 (length body)) (bytesOf 2 k ++ body), length-append (bytesOf 2 k) body, length-bytes 4 (length body), length-bytes 2 k) (omega arith)
 
 pub records-snoc : (ss : List (List ℕ)) (s : List ℕ) → stringRecords (ss ++ (s ∷ [])) ≡ stringRecords ss ++ recordBytes 9 (characterBytes s)
-unfolding stringRecords
-records-snoc [] s = append-nil (recordBytes 9 (characterBytes s))
-records-snoc (x ∷ ss) s = rw (records-snoc ss s) (sym (append-assoc (recordBytes 9 (characterBytes x)) (stringRecords ss) (recordBytes 9 (characterBytes s))))
+unfolding stringRecords flatMap
+records-snoc ss s = flatMap-snoc (λ s. recordBytes 9 (characterBytes s)) ss s
 
 -- ---- "at most 4,268 bytes"
 
 pub length-strings : (ss : List (List ℕ)) → All (λ s. length s ≤ lengthLimit) ss → length (stringRecords ss) ≤ (6 + 4 * lengthLimit) * length ss
-unfolding stringRecords
+unfolding stringRecords flatMap
 length-strings [] h = omega arith
 length-strings (s ∷ ss) h =
     rw (length-append (recordBytes 9 (characterBytes s)) (stringRecords ss), length-record 9 (characterBytes s), length-characters s)

@@ -5,7 +5,7 @@ use native.Mathlib.Omega.{arith}
 use mathlib.Core.Path.{_≡_, refl, sym, _∙_, ap, ap₂, subst}
 use mathlib.Core.Bool.{true, false, _&&_}
 use mathlib.Core.Option.{Option, none, some}
-use mathlib.Core.List.{List, [], _∷_, _++_, append-assoc, append-nil}
+use mathlib.Core.List.{List, [], _∷_, _++_, append-assoc, append-nil, flatMap}
 use lib.ListN.{length, getD, drop, length-append, length-drop}
 use lib.Seq.{drop-at, drop-drop, getD-drop}
 use lib.IntN.{ℤ, pos, negsuc}
@@ -59,7 +59,7 @@ signed-back (negsuc v) h =
     signed-high (4294967295 - v) (omega arith) ∙ ap negsuc e
 
 characters-back : (b : List ℕ) (at n : ℕ) (s rest : List ℕ) → n ≤ alphabetLimit → Over n s → drop at b ≡ characterBytes s ++ rest → u32s b at (length s) ≡ s
-unfolding u32s characterBytes
+unfolding u32s characterBytes flatMap
 characters-back b at n [] rest m h e = refl
 characters-back b at n (c ∷ s) rest m (h, hs) e =
     let f : drop at b ≡ bytesOf 4 c ++ (characterBytes s ++ rest) = e ∙ append-assoc (bytesOf 4 c) (characterBytes s) rest in
@@ -70,7 +70,7 @@ unsigned-small (pos v) h = omega (arith, leb-true v valueLimit h)
 unsigned-small (negsuc v) h = omega arith
 
 integers-back : (b : List ℕ) (at : ℕ) (zs : List ℤ) (rest : List ℕ) → allWithin valueLimit zs ≡ true → drop at b ≡ integerBytes zs ++ rest → i32s b at (length zs) ≡ zs
-unfolding i32s integerBytes allWithin
+unfolding i32s integerBytes allWithin flatMap
 integers-back b at [] rest h e = refl
 integers-back b at (z ∷ zs) rest h e =
     let (w, ws) = and-true (within valueLimit z) (allWithin valueLimit zs) h in
@@ -141,7 +141,7 @@ module _ (b : List ℕ) (u : Question) (zs : List ℤ) (characters : u .n ≤ al
       }
 
   strings-back : (ss : List (List ℕ)) (r at : ℕ) → All (λ s. length s ≤ lengthLimit) ss → All (Over (u .n)) ss → drop at b ≡ stringRecords ss ++ tail → Back b u ss zs r at
-  unfolding answerForm outside texts skip stringRecords
+  unfolding answerForm outside texts skip stringRecords flatMap
   strings-back [] r at h o e = tail-back r at e
   strings-back (s ∷ ss) r at (h, hs) (o, os) e =
       let body : List ℕ = characterBytes s in

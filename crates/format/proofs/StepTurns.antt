@@ -6,38 +6,34 @@ use mathlib.Core.List.{List}
 use lib.ListN.{length}
 use lib.Dec.{eqb}
 use Rattle.calculus.specs.Facts.{Question}
-use Rattle.format.specs.Records.{kind, next, records}
+use Rattle.format.specs.Records.{kind, next}
 use Rattle.format.specs.Question.{Progress}
-use Rattle.format.specs.Reading.{State, Method, fault, advanced, Ticket, Faulty, Done, readSteps, claimAt, claimFault, begin, readClaim}
+use Rattle.format.specs.Reading.{State, Method, fault, advanced, Ticket, Faulty, Done, readSteps, claimAt, claimFault, begin, readClaim, stepsOn}
 use Rattle.format.proofs.Records.{records-none, records-more}
 
 module _ {B C : Type 0} (w : Method B C) (b : List ℕ) (u : Question) where
-  -- what is left to read from the record r at a position on
-  abbrev pub stepsOn : State B C → ℕ → ℕ → Ticket B C
-  stepsOn s r at = readSteps w b u s r (records b at)
-
   -- the outcome of a turn, by the record's number and by whether it is an end
   abbrev turn : State B C → ℕ → ℕ → ℕ → Bool → Ticket B C
   turn s r at f x = elim f as (λ _. Ticket B C) [
     | suc c ↦ Faulty (suc c) r
-    | zero ↦ elim x as (λ _. Ticket B C) [ true ↦ Done u s | false ↦ stepsOn (advanced w b u s at) (suc r) (next b at) ]
+    | zero ↦ elim x as (λ _. Ticket B C) [ true ↦ Done u s | false ↦ stepsOn w b u (advanced w b u s at) (suc r) (next b at) ]
   ]
 
-  steps-turn : (s : State B C) (r at : ℕ) → at + 6 ≤ length b → stepsOn s r at ≡ turn s r at (fault w b u s at) (eqb (kind b at) 8)
+  steps-turn : (s : State B C) (r at : ℕ) → at + 6 ≤ length b → stepsOn w b u s r at ≡ turn s r at (fault w b u s at) (eqb (kind b at) 8)
   unfolding readSteps
   steps-turn s r at h = ap (readSteps w b u s r) (records-more b at h)
 
-  pub steps-none : (s : State B C) (r at : ℕ) → length b < at + 6 → stepsOn s r at ≡ Faulty 3 r
+  pub steps-none : (s : State B C) (r at : ℕ) → length b < at + 6 → stepsOn w b u s r at ≡ Faulty 3 r
   unfolding readSteps
   steps-none s r at h = ap (readSteps w b u s r) (records-none b at h)
 
-  pub steps-faulty : (s : State B C) (r at c : ℕ) → at + 6 ≤ length b → fault w b u s at ≡ suc c → stepsOn s r at ≡ Faulty (suc c) r
+  pub steps-faulty : (s : State B C) (r at c : ℕ) → at + 6 ≤ length b → fault w b u s at ≡ suc c → stepsOn w b u s r at ≡ Faulty (suc c) r
   steps-faulty s r at c h f = steps-turn s r at h ∙ ap (λ f. turn s r at f (eqb (kind b at) 8)) f
 
-  pub steps-done : (s : State B C) (r at : ℕ) → at + 6 ≤ length b → fault w b u s at ≡ 0 → eqb (kind b at) 8 ≡ true → stepsOn s r at ≡ Done u s
+  pub steps-done : (s : State B C) (r at : ℕ) → at + 6 ≤ length b → fault w b u s at ≡ 0 → eqb (kind b at) 8 ≡ true → stepsOn w b u s r at ≡ Done u s
   steps-done s r at h f e = steps-turn s r at h ∙ ap₂ (turn s r at) f e
 
-  pub steps-more : (s : State B C) (r at : ℕ) → at + 6 ≤ length b → fault w b u s at ≡ 0 → eqb (kind b at) 8 ≡ false → stepsOn s r at ≡ stepsOn (advanced w b u s at) (suc r) (next b at)
+  pub steps-more : (s : State B C) (r at : ℕ) → at + 6 ≤ length b → fault w b u s at ≡ 0 → eqb (kind b at) 8 ≡ false → stepsOn w b u s r at ≡ stepsOn w b u (advanced w b u s at) (suc r) (next b at)
   steps-more s r at h f e = steps-turn s r at h ∙ ap₂ (turn s r at) f e
 
 module _ {B C : Type 0} (method : Question → Method B C) (b : List ℕ) (s : Progress) where

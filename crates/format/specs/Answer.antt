@@ -2,7 +2,7 @@
 use Prim.Native.Nat.{ℕ, zero, suc, _+_, _*_, _%_}
 use mathlib.Core.Bool.{Bool, true, false, _&&_}
 use mathlib.Core.Option.{Option, none, some}
-use mathlib.Core.List.{List, [], _∷_, _++_}
+use mathlib.Core.List.{List, [], _++_, flatMap}
 use lib.ListN.{length}
 use lib.Dec.{leb, eqb}
 use lib.IntN.{ℤ}
@@ -20,16 +20,13 @@ abbrev pub recordBytes : ℕ → List ℕ → List ℕ
 recordBytes k body = bytesOf 4 (length body) ++ (bytesOf 2 k ++ body)
 
 unfoldable pub characterBytes : List ℕ → List ℕ
-characterBytes [] = []
-characterBytes (c ∷ s) = bytesOf 4 c ++ characterBytes s
+characterBytes s = flatMap (bytesOf 4) s
 
 unfoldable pub integerBytes : List ℤ → List ℕ
-integerBytes [] = []
-integerBytes (z ∷ zs) = bytesOf 4 (unsigned z) ++ integerBytes zs
+integerBytes zs = flatMap (λ z. bytesOf 4 (unsigned z)) zs
 
 unfoldable pub stringRecords : List (List ℕ) → List ℕ
-stringRecords [] = []
-stringRecords (s ∷ ss) = recordBytes 9 (characterBytes s) ++ stringRecords ss
+stringRecords ss = flatMap (λ s. recordBytes 9 (characterBytes s)) ss
 
 unfoldable pub encode : Assignment → List ℕ
 encode a = stringRecords (a .strs) ++ (recordBytes 10 (integerBytes (a .ints)) ++ recordBytes 8 [])

@@ -2,7 +2,7 @@
 use Prim.Native.Nat.{ℕ}
 use mathlib.Core.Path.{_≡_}
 use mathlib.Core.Option.{some}
-use mathlib.Core.List.{List, [], _∷_, _++_}
+use mathlib.Core.List.{List, [], _∷_, _++_, flatMap}
 use lib.IntN.{ℤ, pos, negsuc}
 use Rattle.calculus.specs.Limits.{workNumbers, answerBytes}
 use Rattle.calculus.specs.Rows.{minus, scale, column, number}
@@ -16,12 +16,10 @@ use Rattle.format.specs.Checking.{Outcome, Refused, NoSolution, Strings,
 -- ---- records as bytes
 
 unfoldable pub shortBytes : List ℕ → List ℕ
-shortBytes [] = []
-shortBytes (v ∷ vs) = bytesOf 2 v ++ shortBytes vs
+shortBytes vs = flatMap (bytesOf 2) vs
 
 unfoldable pub pairBytes : List (ℕ × ℤ) → List ℕ
-pairBytes [] = []
-pairBytes (t ∷ ts) = bytesOf 2 (t .0) ++ (bytesOf 4 (unsigned (t .1)) ++ pairBytes ts)
+pairBytes ts = flatMap (λ (t : ℕ × ℤ). bytesOf 2 (t .0) ++ bytesOf 4 (unsigned (t .1))) ts
 
 abbrev pub head : ℕ → ℕ → ℕ → List ℕ
 head n p q = recordBytes 1 (bytesOf 4 n ++ shortBytes (p ∷ q ∷ []))
@@ -55,8 +53,7 @@ abbrev pub end : List ℕ
 end = recordBytes 8 []
 
 unfoldable pub ticket : List (List ℕ) → List ℕ
-ticket [] = []
-ticket (r ∷ rs) = r ++ ticket rs
+ticket rs = flatMap (λ r. r) rs
 
 abbrev pub strings : List (List ℕ) → List ℤ → Outcome
 strings ss zs = Strings (encode (record { strs = ss; ints = zs }))

@@ -95,6 +95,10 @@ readSteps w b u s r (at ∷ ats) = elim (fault w b u s at) [
   | zero ↦ elim (eqb (kind b at) 8) [ true ↦ Done u s | false ↦ readSteps w b u (advanced w b u s at) (suc r) ats ]
 ]
 
+-- what is left from record r at a position on
+abbrev pub stepsOn : {B C : Type 0} → Method B C → List ℕ → Question → State B C → ℕ → ℕ → Ticket B C
+stepsOn w b u s r at = readSteps w b u s r (records b at)
+
 -- ---- the whole ticket
 
 -- "5 claim, once: u16, 1 for no solution, 2 for strings"; "an end without claim included"
@@ -112,7 +116,7 @@ begin w claim = cond (eqb claim 1) (proving (working (w .root) [])) (taking (w .
 abbrev pub readClaim : {B C : Type 0} → (Question → Method B C) → List ℕ → Progress → ℕ → ℕ → Ticket B C
 readClaim method b s at r = elim (claimFault b s at) [
   | suc c ↦ Faulty (suc c) r
-  | zero ↦ readSteps (method (s .question)) b (s .question) (begin (method (s .question)) (claimAt b at)) (suc r) (records b (next b at))
+  | zero ↦ stepsOn (method (s .question)) b (s .question) (begin (method (s .question)) (claimAt b at)) (suc r) (next b at)
 ]
 
 abbrev pub readBehind : {B C : Type 0} → (Question → Method B C) → List ℕ → Reading → Ticket B C

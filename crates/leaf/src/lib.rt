@@ -22,6 +22,7 @@ ghost use Rattle.leaf.specs.Leaf.{asked, Modelled, Ready};
 ghost use Rattle.leaf.specs.Values.{textFits, literalFits, lengthFits, codeFits, roomy, varFits, pairBy, pairFits, byValues};
 use classes::Lowest;
 use limits::LENGTH_LIMIT;
+use limits::NODE_COUNT;
 
 // The question's numbers, its literals besides the empty one counted, and the labels of the leaf's nodes.
 pub struct Leaf {
@@ -29,7 +30,7 @@ pub struct Leaf {
     pub p: usize,
     pub q: usize,
     pub literals: usize,
-    pub labels: [u8; 32],
+    pub labels: [u8; NODE_COUNT],
 }
 
 // ---- numbers
@@ -101,7 +102,7 @@ fn literal_fits(ticket: &[u8], leaf: Leaf, x: usize, len: i64, code: i64) -> boo
 }
 
 // L-Valid for variable x, whose length is given.
-fn length_fits(labels: [u8; 32], x: usize, len: i64) -> bool
+fn length_fits(labels: [u8; NODE_COUNT], x: usize, len: i64) -> bool
     requires { ⌜ x < variableLimit ⌝ }
     ensures { λ r. ⌜ r ≡ lengthFits labels x len ⌝ }
 {
@@ -127,7 +128,7 @@ fn code_fits(n: usize, len: i64, code: i64) -> bool
 }
 
 // 1 for the lowest variable of its class whose length is the given one, else 0.
-fn tally(labels: [u8; 32], y: usize, len: i64, wanted: i64) -> usize
+fn tally(labels: [u8; NODE_COUNT], y: usize, len: i64, wanted: i64) -> usize
     requires { ⌜ y < variableLimit ⌝ }
     ensures { λ r. ⌜ r ≡ cond (eqℤ len wanted && eqb (lowestVar labels y) y) 1 0 ⌝ }
     ensures { λ r. ⌜ r ≤ 1 ⌝ }

@@ -20,6 +20,15 @@ pub const VARIABLE_LIMIT: usize = 16;
 // "0 to 15 of them"
 pub const LITERAL_LIMIT: usize = 15;
 
+// The largest number of a variable, and of a literal.
+pub const INDEX_MAX: i64 = 15;
+
+// A node for each variable and for each literal, the empty one included.
+pub const NODE_COUNT: usize = 2 * VARIABLE_LIMIT;
+
+// The first literal stands behind the head, at position 14.
+pub const LITERALS_FROM: usize = 14;
+
 // "1 to 64 characters"; "14 when a length passes 64"
 pub const LENGTH_LIMIT: usize = 64;
 

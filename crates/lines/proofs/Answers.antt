@@ -17,13 +17,10 @@ use Rattle.format.specs.Question.{Reading, Stopped, Ended, question}
 use Rattle.format.specs.Answer.{answerForm, outside, assignmentOf}
 use Rattle.format.specs.Judging.{Judging, Refused, Judged, judgeAnswer, judgeBehind, judging}
 use Rattle.format.specs.Checking.{Strings, verdict}
-use Rattle.format.proofs.Faults.{and-true}
+use Rattle.format.proofs.Faults.{and-true, clash}
 use Rattle.format.proofs.Demands.{th-5}
 use Rattle.lines.specs.Lines.{stringLine, integerLines, endLine, recordLines}
 use Rattle.lines.proofs.Lines.{lines-string, lines-integers}
-
-clash : {X : Type 0} → _≡_ {A = ℕ} 0 1 → X
-clash z = absurd (omega arith)
 
 -- ---- fields before the end of the first part
 

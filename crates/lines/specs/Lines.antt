@@ -5,8 +5,9 @@ use mathlib.Core.List.{List, [], _∷_, _++_}
 use lib.ListN.{length}
 use lib.Dec.{ltb, eqb}
 use lib.IntN.{ℤ, pos, negsuc}
-use Rattle.format.specs.Fields.{u32s, i32s}
+use Rattle.format.specs.Fields.{i32s}
 use Rattle.format.specs.Records.{size, kind, whole}
+use Rattle.format.specs.Places.{textAt}
 
 -- ---- numbers
 
@@ -69,7 +70,7 @@ recordLines b k [] = endLine
 recordLines b k (at ∷ ats) = elim (whole b at) [
   | false ↦ endLine
   | true ↦ elim (eqb (kind b at) 9) [
-    | true ↦ stringLine k (u32s b (at + 6) (size b at / 4)) ++ recordLines b (suc k) ats
+    | true ↦ stringLine k (textAt b at) ++ recordLines b (suc k) ats
     | false ↦ integerLines 0 (i32s b (at + 6) (size b at / 4)) ++ endLine
   ]
 ]

@@ -6,10 +6,10 @@ use mathlib.Core.Path.{_≡_, refl, sym, _∙_, ap, ap₂, subst}
 use mathlib.Core.Logic.{_≢_, _⊎_, inl, inr}
 use mathlib.Core.Bool.{Bool, true}
 use mathlib.Core.Option.{some}
-use mathlib.Core.List.{List, [], _∷_, _++_, map}
-use lib.ListN.{length, getD, getElem?, replicate}
+use mathlib.Core.List.{List, [], _∷_, _++_, map, flatMap, append-nil, append-assoc}
+use lib.ListN.{length, getD, getElem?, replicate, length-append}
 use lib.Dec.{T}
-use Rattle.lists.specs.Lists.{All, NotIn, Distinct, all, any, onward, along}
+use Rattle.lists.specs.Lists.{All, NotIn, Distinct, all, any, eqList, onward, along}
 use Rattle.lists.proofs.Tests.{→true, true→, and→, →and, or→, →or-left, →or-right}
 use Rattle.lists.proofs.Options.{some-injective, none-some}
 
@@ -76,6 +76,19 @@ module _ {A : Type 0} {P : A → Type 0} (t : A → Bool) where
 
   pub →all-true : (xs : List A) → ((x : A) → P x → t x ≡ true) → All P xs → all t xs ≡ true
   →all-true xs f h = →true (all t xs) (→all xs (λ x p. true→ (f x p)) h)
+
+-- ---- equality by a test
+
+module _ {A : Type 0} (t : A → A → Bool) where
+  pub eq-list→ : ((x y : A) → T (t x y) → x ≡ y) → (xs ys : List A) → T (eqList t xs ys) → xs ≡ ys
+  eq-list→ f [] [] h = refl
+  eq-list→ f [] (y ∷ ys) h = absurd h
+  eq-list→ f (x ∷ xs) [] h = absurd h
+  eq-list→ f (x ∷ xs) (y ∷ ys) h = let (p, q) = and→ (t x y) (eqList t xs ys) h in ap₂ _∷_ (f x y p) (eq-list→ f xs ys q)
+
+  pub eq-list-refl : ((x : A) → T (t x x)) → (xs : List A) → T (eqList t xs xs)
+  eq-list-refl f [] = tt
+  eq-list-refl f (x ∷ xs) = →and (t x x) (eqList t xs xs) (f x) (eq-list-refl f xs)
 
 -- ---- membership
 
@@ -221,3 +234,22 @@ module _ {A B : Type 0} (go : A → A) (f : A → B) where
   pub along-snoc : (a : A) (k : ℕ) → along go f a (suc k) ≡ along go f a k ++ (f (onward go a k) ∷ [])
   along-snoc a zero = refl
   along-snoc a (suc k) = ap (λ xs. f a ∷ xs) (along-snoc (go a) k)
+
+-- ---- what is given of each element, one after another
+
+module _ {A B : Type 0} (f : A → List B) where
+  pub flatMap-append : (xs ys : List A) → flatMap f (xs ++ ys) ≡ flatMap f xs ++ flatMap f ys
+  unfolding flatMap
+  flatMap-append [] ys = refl
+  flatMap-append (x ∷ xs) ys = ap (λ zs. f x ++ zs) (flatMap-append xs ys) ∙ sym (append-assoc (f x) (flatMap f xs) (flatMap f ys))
+
+  pub flatMap-snoc : (xs : List A) (x : A) → flatMap f (xs ++ (x ∷ [])) ≡ flatMap f xs ++ f x
+  unfolding flatMap
+  flatMap-snoc xs x = flatMap-append xs (x ∷ []) ∙ ap (λ zs. flatMap f xs ++ zs) (append-nil (f x))
+
+  -- as many of each
+  pub length-flatMap : (w : ℕ) → ((x : A) → length (f x) ≡ w) → (xs : List A) → length (flatMap f xs) ≡ w * length xs
+  unfolding flatMap
+  length-flatMap w h [] = omega arith
+  length-flatMap w h (x ∷ xs) =
+      length-append (f x) (flatMap f xs) ∙ let e : w * suc (length xs) ≡ w * length xs + w = mul-suc w (length xs) in omega (arith, h x, length-flatMap w h xs)

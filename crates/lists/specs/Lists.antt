@@ -26,6 +26,13 @@ abbrev pub any : {A : Type 0} → (A → Bool) → List A → Bool
 any t [] = false
 any t (x ∷ xs) = t x || any t xs
 
+-- two lists are equal, by a test of two elements
+abbrev pub eqList : {A : Type 0} → (A → A → Bool) → List A → List A → Bool
+eqList t [] [] = true
+eqList t [] (y ∷ ys) = false
+eqList t (x ∷ xs) [] = false
+eqList t (x ∷ xs) (y ∷ ys) = t x y && eqList t xs ys
+
 -- every number below k passes the test; some number does
 abbrev pub allBelow : ℕ → (ℕ → Bool) → Bool
 allBelow zero t = true

@@ -19,6 +19,7 @@ use limits::ALPHABET_LIMIT;
 use limits::COLUMN_LIMIT;
 use limits::FACT_LIMIT;
 use limits::LITERAL_LIMIT;
+use limits::LITERALS_FROM;
 use limits::NUMBER_LIMIT;
 use limits::TEXT_BYTES;
 use limits::TICKET_BYTES;
@@ -109,12 +110,12 @@ pub fn same_text(a: &[u8], x: usize, m: usize, b: &[u8], y: usize, k: usize) -> 
     same
 }
 
-// Whether the text of a body is one of those of the first k literals, which start at position 14.
+// Whether the text of a body is one of those of the first k literals.
 fn repeats(b: &[u8], k: usize, at: usize, size: usize) -> bool
     requires { ⌜ (at + size ≤ length (now b)) × (skip (now b) k literalsFrom ≤ length (now b)) ⌝ }
     ensures { λ r. ⌜ r ≡ given (textOf (now (b .entry)) at size) (texts (now (b .entry)) k literalsFrom) ⌝ }
 {
-    let mut j = 14;
+    let mut j = LITERALS_FROM;
     let mut left = k;
     while 0 < left {
         let other = u32_at(b, j);
@@ -453,7 +454,7 @@ pub fn behind_literals(b: &[u8], l: usize) -> usize
     requires { ⌜ skip (now b) l literalsFrom ≤ length (now b) ⌝ }
     ensures { λ r. ⌜ r ≡ skip (now (b .entry)) l literalsFrom ⌝ }
 {
-    let mut j = 14;
+    let mut j = LITERALS_FROM;
     let mut left = l;
     while 0 < left {
         j = j + 6 + u32_at(b, j);

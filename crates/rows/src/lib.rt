@@ -17,6 +17,7 @@ ghost use Rattle.format.specs.Checking.{fits, factWithin, keepsFact, keeps};
 ghost use Rattle.rows.specs.Rows.{rowLength, index, factOf, rowAt, branchOf};
 ghost use Rattle.rows.specs.Work.{kindOf, Fine, Within, single, difference, statesEqual};
 use limits::COLUMN_LIMIT;
+use limits::INDEX_MAX;
 use limits::NUMBER_MAX;
 use limits::NUMBER_MIN;
 use limits::ROW_LENGTH;
@@ -90,7 +91,7 @@ pub fn operand(row: &[i64], j: usize) -> usize
     if z < 0 {
         return 0;
     }
-    if z > 15 {
+    if z > INDEX_MAX {
         return 0;
     }
     z as usize

@@ -14,6 +14,7 @@ use lib.Dec.{leb, ltb}
 use lib.ListN.{length, getD, take, drop, set, length-drop, take-append-drop}
 use lib.Seq.{sets, sets-eq, length-sets, take-suc, length-take-le, take-append-le, drop-at, drop-drop, ext-getD, getD-take, getD-drop, getD-set-same, getD-set-other}
 use lib.IntN.{ℤ, pos}
+use Rattle.answer.proofs.Written.{length-row}
 use Rattle.lists.proofs.Options.{none-some, some-injective}
 use Rattle.lists.proofs.Stores.{sets-sets}
 use Rattle.calculus.specs.Limits.{lengthLimit}
@@ -49,9 +50,6 @@ module _ (k : ℕ) (l : List ℕ) where
       go false f = absurd (none-some (sym (sized-none (leb-false k lengthLimit f)) ∙ e))
 
 -- ---- a row that is read from the front
-
-pub length-row : (characters : List ℕ) (y m : ℕ) → m ≤ lengthLimit → lengthLimit * y + lengthLimit ≤ length characters → length (row characters y m) ≡ m
-length-row characters y m h r = length-take-le m (drop (lengthLimit * y) characters) (rw length-drop (omega arith))
 
 pub row-at : (characters : List ℕ) (y m i : ℕ) → i < m → getD (row characters y m) i 0 ≡ getD characters (lengthLimit * y + i) 0
 row-at characters y m i h = getD-take m (drop (lengthLimit * y) characters) i 0 h ∙ getD-drop (lengthLimit * y) characters i 0

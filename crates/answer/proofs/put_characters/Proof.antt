@@ -6,6 +6,7 @@ use lib.ListN.{length, take}
 use lib.Seq.{sets, take-all}
 use mathlib.Core.Path.{_∙_, _≡_, refl}
 use native.Mathlib.Omega.{arith}
+use mathlib.Core.List.{flatMap}
 use Rattle.answer.proofs.Written.{characters-more}
 use Rattle.format.specs.Answer.{characterBytes}
 use Rattle.answer.proofs.put_characters.Statement.{statement}
@@ -18,7 +19,7 @@ abbrev μ-loop : tie.MeasureT-loop
 μ-loop buffer₀ at characters i₀ buffer i = length characters - i
 
 loop-holds : tie.Need-loop-holds Inv-loop μ-loop
-unfolding characterBytes
+unfolding characterBytes flatMap
 loop-holds c = (search needs, refl, refl)
 
 mul-put-u32 : tie.Need-mul-put-u32 Inv-loop μ-loop

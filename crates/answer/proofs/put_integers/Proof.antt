@@ -5,7 +5,7 @@ use denote.Ref.{now}
 use lib.IntN.{pos, ℤ}
 use lib.ListN.{getD, length, take}
 use lib.Seq.{sets}
-use mathlib.Core.List.{List}
+use mathlib.Core.List.{List, flatMap}
 use mathlib.Core.Path.{_∙_, _≡_, ap, ap₂, refl}
 use mir.Facts.{toZ-ofZ}
 use native.Mathlib.Omega.{arith}
@@ -22,7 +22,7 @@ abbrev μ-loop : tie.MeasureT-loop
 μ-loop buffer₀ at model q i₀ buffer i = q - i
 
 loop-holds : tie.Need-loop-holds Inv-loop μ-loop
-unfolding integerBytes
+unfolding integerBytes flatMap
 loop-holds c = (search needs, refl, refl)
 
 mul-z : tie.Need-mul-z Inv-loop μ-loop

@@ -4,7 +4,7 @@ use borrow.Author.Needs.{needs}
 use denote.Ref.{now}
 use lib.ListN.{getD, length, length-append}
 use lib.Seq.{sets}
-use mathlib.Core.List.{List}
+use mathlib.Core.List.{List, flatMap}
 use mathlib.Core.Path.{_∙_, _≡_, ap, ap₂, refl, sym}
 use native.Mathlib.Omega.{arith}
 use Rattle.answer.proofs.Written.{strings-more, strings-most, strings-put}
@@ -21,7 +21,7 @@ abbrev μ-loop : tie.MeasureT-loop
 μ-loop buffer₀ characters sizes p at₀ x₀ buffer at x = p - x
 
 loop-holds : tie.Need-loop-holds Inv-loop μ-loop
-unfolding tableStrings stringRecords
+unfolding tableStrings stringRecords flatMap
 loop-holds c = (search needs, refl, refl, refl)
 
 mul-size : tie.Need-mul-size Inv-loop μ-loop

@@ -9,6 +9,7 @@ use mathlib.Core.List.{List, []}
 use mathlib.Core.Path.{_∙_, _≡_, ap, sym}
 use mir.Facts.{toZ-ofZ}
 use native.Mathlib.Omega.{arith}
+use Rattle.answer.proofs.Written.{length-row}
 use Rattle.answer.specs.Table.{row}
 use Rattle.calculus.specs.Facts.{len}
 use Rattle.calculus.specs.Limits.{lengthLimit}
@@ -16,7 +17,7 @@ use Rattle.calculus.specs.Model.{modelOf}
 use Rattle.calculus.specs.SaturationTest.{lowestVar}
 use Rattle.calculus.specs.Strings.{freshFrom}
 use Rattle.leaf.specs.Leaf.{asked}
-use Rattle.strings.proofs.Table.{completed-copied, completed-fresh, completed-own, length-row, row-again, sized-none, sized-some}
+use Rattle.strings.proofs.Table.{completed-copied, completed-fresh, completed-own, row-again, sized-none, sized-some}
 use Rattle.strings.specs.Filling.{completed, givenStrings}
 use Rattle.strings.proofs.complete.Statement.{statement}
 use Rattle.strings.proofs.complete.Tie as tie
