@@ -1,16 +1,14 @@
 -- What the rules that close and those with one conclusion add, from the answers that the code gets.
 use Prim.Native.Nat.{ℕ, zero, suc, _+_, _<_}
-use native.Mathlib.Omega.{arith}
 use native.Mathlib.Numerals.{add-one}
 use mathlib.Core.Path.{_≡_, refl, sym, _∙_, ap, ap₂}
-use mathlib.Core.Logic.{_≢_}
 use mathlib.Core.Bool.{Bool, true, false, not, _&&_}
 use mathlib.Core.Option.{Option, none, some}
 use mathlib.Core.List.{List}
 use lib.IntN.{ℤ, pos, negℤ}
 use borrow.Author.Tests.{eq-eqb, ne-eqb}
 use Rattle.calculus.specs.Rows.{column, number, minus}
-use Rattle.calculus.specs.Facts.{Question, Fact, Branch, arithmetic, eq, Function, literal, apply, codeOf, valueOf}
+use Rattle.calculus.specs.Facts.{Question, Fact, Branch, arithmetic, eq, Function, literal, codeOf, valueOf}
 use Rattle.calculus.specs.Chains.{varNode}
 use Rattle.calculus.specs.Classes.{labels, sameClass, lowest, classLiteral}
 use Rattle.calculus.specs.Children.{one, sPropChild, literalChild}
@@ -27,29 +25,10 @@ use Rattle.rows.proofs.Forms.{minus-number, columns-difference}
 use Rattle.sums.specs.Sums.{factIn, sumFact}
 use Rattle.sums.proofs.Totals.{sum-children}
 use Rattle.question.specs.declared.Progress.{Progress}
-use Rattle.question.specs.Progress.{progressOf}
-use Rattle.conclusions.specs.Made.{madeOf, columnOf, literalChildren}
-
--- ---- columns
-
-pub column-length : (p q f x : ℕ) → f ≡ 0 → q + x ≡ columnOf p q f x
-unfolding columnOf
-column-length p q f x e = rw e
-
-pub column-code : (p q f x : ℕ) → (f ≡ 0 → ⊥) → q + (p + x) ≡ columnOf p q f x
-unfolding columnOf
-column-code p q zero x n = absurd (n refl)
-column-code p q (suc f) x n = refl
-
-applied : (u : Question) (f x : ℕ) → apply u (functionOf f) x ≡ column (columnOf (u .p) (u .q) f x)
-unfolding columnOf
-applied u zero x = refl
-applied u (suc f) x = refl
-
-columns-apart : (p q f x y : ℕ) → x ≢ y → columnOf p q f x ≢ columnOf p q f y
-unfolding columnOf
-columns-apart p q zero x y n e = n (omega arith)
-columns-apart p q (suc f) x y n e = n (omega arith)
+use Rattle.question.specs.Posed.{asked}
+use Rattle.question.specs.Columns.{columnAt}
+use Rattle.question.proofs.Columns.{applied, columns-differ}
+use Rattle.conclusions.specs.Made.{madeOf, literalChildren}
 
 -- ---- Sum
 
@@ -78,12 +57,12 @@ module _ (u : Question) (b : Branch) (f : Function) (x y : ℕ) where
   s-prop-fits n e = by-class true n e
 
 -- the fact by its columns
-pub s-prop-adds : (u : Question) (f x y i j : ℕ) → (x ≡ y → ⊥) → i ≡ columnOf (u .p) (u .q) f x → j ≡ columnOf (u .p) (u .q) f y → i < 48 → j < 48
+pub s-prop-adds : (u : Question) (f x y i j : ℕ) → (x ≡ y → ⊥) → i ≡ columnAt (u .p) (u .q) f x → j ≡ columnAt (u .p) (u .q) f y → i < 48 → j < 48
     → one (arithmetic eq (difference i j)) ≡ sPropChild u (functionOf f) x y
 s-prop-adds u f x y i j n ei ej hi hj =
     sym (ap (λ (e : List ℤ). one (arithmetic eq e))
     (ap₂ minus (applied u f x ∙ ap column (sym ei)) (applied u f y ∙ ap column (sym ej))
-    ∙ columns-difference i j hi hj (λ e. columns-apart (u .p) (u .q) f x y n (sym ei ∙ e ∙ ej))))
+    ∙ columns-difference i j hi hj (λ e. columns-differ (u .p) (u .q) f x y n (sym ei ∙ e ∙ ej))))
 
 -- ---- L-Intro and C-Collapse
 
@@ -97,22 +76,24 @@ value-code (suc f) t n = refl
 
 -- the lowest literal of the class, among those of the question
 module _ (b : List ℕ) (s : Progress) (br : Branch) (ls : List ℕ) (x : ℕ) (el : ls ≡ labels br) where
-  class-is : lowest ls x 0 (s .literals + 1) ≡ classLiteral (progressOf b s .question) br x
+  class-is : lowest ls x 0 (s .literals + 1) ≡ classLiteral (asked b s) br x
+  unfolding asked
   class-is =
       ap₂ (λ (l : List ℕ) (m : ℕ). lowest l x 0 m) el
       (add-one (s .literals) ∙ ap suc (sym (length-texts b (s .literals) literalsFrom)))
 
-  pub literal-none : (f : Function) → lowest ls x 0 (s .literals + 1) ≡ none → none ≡ literalChildren (progressOf b s .question) br f x
-  literal-none f e = sym (ap (λ (o : Option ℕ). then o (λ l. some (literalChild (progressOf b s .question) f x l))) (sym class-is ∙ e))
+  pub literal-none : (f : Function) → lowest ls x 0 (s .literals + 1) ≡ none → none ≡ literalChildren (asked b s) br f x
+  literal-none f e = sym (ap (λ (o : Option ℕ). then o (λ l. some (literalChild (asked b s) f x l))) (sym class-is ∙ e))
 
-  literal-some : (f : Function) (l : ℕ) → lowest ls x 0 (s .literals + 1) ≡ some l → some (literalChild (progressOf b s .question) f x l) ≡ literalChildren (progressOf b s .question) br f x
-  literal-some f l e = sym (ap (λ (o : Option ℕ). then o (λ l. some (literalChild (progressOf b s .question) f x l))) (sym class-is ∙ e))
+  literal-some : (f : Function) (l : ℕ) → lowest ls x 0 (s .literals + 1) ≡ some l → some (literalChild (asked b s) f x l) ≡ literalChildren (asked b s) br f x
+  literal-some f l e = sym (ap (λ (o : Option ℕ). then o (λ l. some (literalChild (asked b s) f x l))) (sym class-is ∙ e))
 
   -- the fact by its column and the literal's text
-  pub literal-adds : (f l i : ℕ) (t : List ℕ) → lowest ls x 0 (s .literals + 1) ≡ some l → i ≡ columnOf (s .p) (s .q) f x → i < 48 → t ≡ literal (progressOf b s .question) l
-      → some (one (arithmetic eq (single (negℤ (valueOf (functionOf f) t)) i (pos 1)))) ≡ literalChildren (progressOf b s .question) br (functionOf f) x
+  pub literal-adds : (f l i : ℕ) (t : List ℕ) → lowest ls x 0 (s .literals + 1) ≡ some l → i ≡ columnAt (s .p) (s .q) f x → i < 48 → t ≡ literal (asked b s) l
+      → some (one (arithmetic eq (single (negℤ (valueOf (functionOf f) t)) i (pos 1)))) ≡ literalChildren (asked b s) br (functionOf f) x
+  unfolding asked
   literal-adds f l i t e ei hi et =
       ap (λ (z : List ℤ). some (one (arithmetic eq z)))
       (sym (minus-number i hi (valueOf (functionOf f) t))
-      ∙ ap₂ (λ (a : List ℤ) (w : List ℕ). minus a (number (valueOf (functionOf f) w))) (ap column ei ∙ sym (applied (progressOf b s .question) f x)) et)
+      ∙ ap₂ (λ (a : List ℤ) (w : List ℕ). minus a (number (valueOf (functionOf f) w))) (ap column ei ∙ sym (applied (asked b s) f x)) et)
       ∙ literal-some (functionOf f) l e

@@ -3,27 +3,28 @@ use Prim.Native.Nat.{ℕ, _+_, _<_, _≤_}
 use native.Mathlib.Omega.{arith}
 use mathlib.Core.Path.{_≡_, refl, sym, _∙_, ap, ap₂}
 use mathlib.Core.Logic.{_⊎_, inl, inr}
-use mathlib.Core.Bool.{Bool, true, false, not, _&&_, false≢true}
+use mathlib.Core.Bool.{Bool, true, false, _&&_}
 use mathlib.Core.Option.{Option, none, some}
-use mathlib.Core.List.{List, [], _∷_}
-use lib.ListN.{length, getElem?}
-use lib.Dec.{leb, eqb}
+use mathlib.Core.List.{List, [], _∷_, map}
+use lib.ListN.{length}
+use lib.Dec.{leb}
+use lib.IntN.{ℤ}
 use borrow.Author.Tests.{le-leb, lt-leb}
 use Rattle.calculus.specs.Limits.{factLimit}
-use lib.IntN.{ℤ, negsuc}
-use Rattle.calculus.specs.Rows.{scale, eqRow, minus}
-use Rattle.calculus.specs.Facts.{Question, Fact, Branch, arithmetic, ge, eq, ne, same, apart, isLiteral, apply}
-use Rattle.calculus.specs.Chains.{varNode}
-use Rattle.calculus.specs.Classes.{labels, sameClass, classLiteral}
+use Rattle.calculus.specs.Facts.{Question, Fact, Branch}
 use Rattle.calculus.specs.Children.{one}
-use Rattle.calculus.specs.Rules.{guard, then, sumOf, divided, joined, children}
-use Rattle.format.specs.Fields.{u16}
+use Rattle.calculus.specs.Rules.{guard}
+use Rattle.calculus.proofs.Shapes.{children-shape}
 use Rattle.format.specs.Records.{need}
-use Rattle.format.specs.StepForms as forms
-use Rattle.format.specs.StepForms.{Rule, rule, stepOf, stepAt}
+use Rattle.format.specs.StepForms.{rule, lengthFits, stepAt}
 use Rattle.format.specs.Checking.{factWithin, factsWithin, childrenWithin, roomForAll, allTried, takenTried, nth, orNone}
+use Rattle.format.proofs.Faults.{clash}
 use Rattle.rows.specs.Rows.{factOf}
-use Rattle.conclusions.specs.Made.{isConcluding, madeOf}
+use Rattle.steps.specs.Conclusions.{conclusionsOf}
+use Rattle.steps.specs.declared.Conclusions.the-variants.{One}
+use Rattle.steps.specs.Offered.{offered}
+use Rattle.steps.proofs.Concluding.{one-child}
+use Rattle.conclusions.specs.Made.{madeOf}
 
 -- ---- 8 to 10 of what was made
 
@@ -56,48 +57,17 @@ module _ (br : Branch) (o : Option (List (List Fact))) (t : Bool) (row : List �
 abbrev pub Single : Option (List (List Fact)) → Type 0
 Single o = (o ≡ none) ⊎ ((f : Fact) × (o ≡ some (one f)))
 
-guarded : (t : Bool) (f : Fact) → Single (guard t (one f))
-guarded true f = inr (f, refl)
-guarded false f = inl refl
+single : (o : Option (List (List Fact))) → ((cs : List (List Fact)) → o ≡ some cs → map length cs ≡ 1 ∷ []) → Single o
+single none h = inl refl
+single (some []) h = let e = h [] refl in clash cc
+single (some ([] ∷ cs)) h = let e = h ([] ∷ cs) refl in clash cc
+single (some ((f ∷ []) ∷ [])) h = inr (f, refl)
+single (some ((f ∷ g ∷ fs) ∷ cs)) h = let e = h ((f ∷ g ∷ fs) ∷ cs) refl in clash cc
+single (some ((f ∷ []) ∷ c ∷ cs)) h = let e = h ((f ∷ []) ∷ c ∷ cs) refl in clash cc
 
-from-one : {A : Type 0} (o : Option A) (g : A → Option (List (List Fact))) → ((a : A) → Single (g a)) → Single (then o g)
-from-one none g h = inl refl
-from-one (some a) g h = h a
-
-joined-single : (f g : Fact) → Single (joined f g)
-joined-single (arithmetic ge e) (arithmetic ge g) = guarded (eqRow (scale (negsuc 0) e) g) (arithmetic eq e)
-joined-single (arithmetic ge e) (arithmetic eq g) = inl refl
-joined-single (arithmetic ge e) (arithmetic ne g) = inl refl
-joined-single (arithmetic ge e) (same x y) = inl refl
-joined-single (arithmetic ge e) (apart x y) = inl refl
-joined-single (arithmetic ge e) (isLiteral x y) = inl refl
-joined-single (arithmetic eq e) g = inl refl
-joined-single (arithmetic ne e) g = inl refl
-joined-single (same x y) g = inl refl
-joined-single (apart x y) g = inl refl
-joined-single (isLiteral x y) g = inl refl
-
-by-rule : (u : Question) (br : Branch) (b : List ℕ) (r : Rule) (at m : ℕ) → isConcluding r ≡ true → Single (children u br (stepOf b r at m))
-unfolding stepOf
-by-rule u br b forms.sum at m e = from-one (sumOf br (forms.sumPairs b at m)) _ (λ r. from-one (divided _ r) _ (λ d. inr (arithmetic ge d, refl)))
-by-rule u br b forms.branch at m e = absurd (false≢true e)
-by-rule u br b forms.apart at m e = absurd (false≢true e)
-by-rule u br b forms.aConf at m e = absurd (false≢true e)
-by-rule u br b forms.sConf at m e = absurd (false≢true e)
-by-rule u br b forms.sProp at m e =
-    guarded (not (eqb (u16 b (at + 6)) (u16 b (at + 8))) && sameClass (labels br) (varNode (u16 b (at + 6))) (varNode (u16 b (at + 8))))
-    (arithmetic eq (minus (apply u (forms.functionOf (u16 b (at + 4))) (u16 b (at + 6))) (apply u (forms.functionOf (u16 b (at + 4))) (u16 b (at + 8)))))
-by-rule u br b forms.lIntro at m e = from-one (classLiteral u br (u16 b (at + 4))) _ (λ l. inr (_, refl))
-by-rule u br b forms.lValid at m e = absurd (false≢true e)
-by-rule u br b forms.cCollapse at m e = from-one (classLiteral u br (u16 b (at + 4))) _ (λ l. inr (_, refl))
-by-rule u br b forms.cValid at m e = absurd (false≢true e)
-by-rule u br b forms.cInj at m e = absurd (false≢true e)
-by-rule u br b forms.card at m e = absurd (false≢true e)
-by-rule u br b forms.join at m e = from-one (getElem? br (u16 b (at + 4))) _ (λ f. from-one (getElem? br (u16 b (at + 6))) _ (λ g. joined-single f g))
-by-rule u br b forms.unknown at m e = absurd (false≢true e)
-
-pub one-conclusion : (u : Question) (br : Branch) (b : List ℕ) (at m : ℕ) → isConcluding (rule b at) ≡ true → Single (children u br (stepAt b at m))
-one-conclusion u br b at m e = by-rule u br b (rule b at) at m e
+pub one-conclusion : (u : Question) (br : Branch) (b : List ℕ) (at m : ℕ) → lengthFits b at m ≡ true → conclusionsOf (rule b at) ≡ One → Single (offered b u br at m)
+unfolding offered
+one-conclusion u br b at m f e = single (offered b u br at m) (λ cs q. children-shape u br (stepAt b at m) cs q ∙ one-child b (u .n) at m f e)
 
 -- "Under claim 1 all children of a split are tried": of one child the tests are the same, with any number of splits pending
 both-tried : (w r : Bool) → need 9 ((w && true) && true) (need 10 ((r && true) && true) 0) ≡ need 9 (w && true) (need 10 r 0)

@@ -5,24 +5,29 @@ ghost use mathlib.Core.List.{_++_};
 ghost use Prim.Native.Nat.{_+_, _*_, _<_, _≤_};
 ghost use lib.ListN.{length};
 ghost use lib.IntN.{negℤ};
-ghost use Rattle.calculus.specs.Limits.{variableLimit, literalLimit, columnLimit};
+ghost use Rattle.calculus.specs.Limits.{variableLimit, literalLimit};
 ghost use Rattle.calculus.specs.Rows.{zeros};
-ghost use Rattle.calculus.specs.Facts.{Question, valueOf, columnCount};
+ghost use Rattle.calculus.specs.Facts.{Question, valueOf};
 ghost use Rattle.calculus.specs.Steps.{Sum, AConf, SConf, SProp, Join};
 ghost use Rattle.calculus.specs.Rules.{children};
 ghost use Rattle.format.specs.Fields.{u32, u32s};
 ghost use Rattle.format.specs.Places.{skip, literalsFrom};
 ghost use Rattle.format.specs.StepForms as forms;
-ghost use Rattle.format.specs.StepForms.{formFor, fitsForm, sumPairs, functionOf, rule, lengthFits, operandsInRange, stepAt};
-ghost use Rattle.format.specs.Checking.{nth, orNone, takenTried};
-ghost use Rattle.question.specs.Progress.{progressOf};
+ghost use Rattle.format.specs.StepForms.{formFor, fitsForm, sumPairs, functionOf, rule, operandsInRange};
+ghost use Rattle.format.specs.Checking.{nth, takenTried};
+ghost use Rattle.question.specs.Posed.{asked};
 ghost use Rattle.rows.specs.Rows.{rowLength, branchOf};
 ghost use Rattle.rows.specs.Work.{Fine};
-ghost use Rattle.conclusions.specs.Made.{isClosing, isConcluding, closingOf, madeOf, columnOf, literalChildren};
+ghost use Rattle.steps.specs.Conclusions.{conclusionsOf};
+ghost use Rattle.steps.specs.declared.Conclusions.the-variants.{Nothing, One};
+ghost use Rattle.steps.specs.Offered.{offered, offeredChild};
+ghost use Rattle.steps.specs.Ready.{Ready};
+ghost use Rattle.conclusions.specs.Made.{closingOf, madeOf, literalChildren};
 use classes::Lowest;
 use limits::FACT_LIMIT;
 use limits::ROW_LENGTH;
 use question::Progress;
+use question::column_of;
 use records::u16_at;
 use records::u32_at;
 
@@ -48,7 +53,7 @@ fn s_conf(literals: usize, work: &[i64], count: usize) -> bool
     classes::conflict(work, count, labels, literals + 1)
 }
 
-// Does a step of A-Conf or S-Conf close the branch? Its body stands at a position and is of proper form.
+// Does a step of A-Conf or S-Conf close the branch?
 pub fn closes(
     ticket: &[u8],
     s: Progress,
@@ -57,9 +62,9 @@ pub fn closes(
     work: &[i64],
     count: usize,
 ) -> bool
-    requires { ⌜ (at + size ≤ length (now ticket)) × (lengthFits (now ticket) at size ≡ true) × (isClosing (rule (now ticket) at) ≡ true) ⌝ }
-    requires { ⌜ Fine (now work) count × (s .literals ≤ literalLimit) ⌝ }
-    ensures { λ r. ⌜ closingOf r ≡ children (progressOf (now (ticket .entry)) s .question) (branchOf (now (work .entry)) count) (stepAt (now (ticket .entry)) at size) ⌝ }
+    requires { ⌜ Ready (now ticket) s at size (now work) count ⌝ }
+    requires { ⌜ conclusionsOf (rule (now ticket) at) ≡ Nothing ⌝ }
+    ensures { λ r. ⌜ closingOf r ≡ offered (now (ticket .entry)) (asked (now (ticket .entry)) s) (branchOf (now (work .entry)) count) at size ⌝ }
 {
     if u16_at(ticket, at) == 4 {
         return a_conf(u16_at(ticket, at + 4), work, count);
@@ -78,17 +83,6 @@ fn sum(row: &mut [i64], ticket: &[u8], at: usize, size: usize, work: &[i64], cou
 {
     let divisor = u32_at(ticket, at + 4);
     sums::sum_row(row, ticket, at + 8, (size - 8) / 6, divisor, work, count)
-}
-
-// The column of function (0 len, 1 code) of variable x.
-fn column_of(p: usize, q: usize, function: usize, x: usize) -> usize
-    requires { ⌜ (p ≤ variableLimit) × (q ≤ variableLimit) × (x < p) ⌝ }
-    ensures { λ r. ⌜ (r ≡ columnOf p q function x) × (r < columnLimit) ⌝ }
-{
-    if function == 0 {
-        return q + x;
-    }
-    q + (p + x)
 }
 
 // S-Prop: "Adds f(x) − f(y) = 0", for different variables of one class.
@@ -123,7 +117,7 @@ fn s_prop(
 }
 
 // The negative of function (0 len, 1 code) of a text.
-fn less_text(ticket: &[u8], function: usize, at: usize, count: usize) -> i64
+fn negative_of_text(ticket: &[u8], function: usize, at: usize, count: usize) -> i64
     requires { ⌜ at + 4 * count ≤ length (now ticket) ⌝ }
     ensures { λ r. ⌜ r ≡ negℤ (valueOf (functionOf function) (u32s (now (ticket .entry)) at count)) ⌝ }
 {
@@ -146,7 +140,7 @@ fn of_literal(
     requires { ⌜ length (now row) ≡ rowLength ⌝ }
     requires { ⌜ Fine (now work) count × (s .p ≤ variableLimit) × (s .q ≤ variableLimit) × (x < s .p) ⌝ }
     requires { ⌜ (s .literals ≤ literalLimit) × (skip (now ticket) (s .literals) literalsFrom ≤ length (now ticket)) ⌝ }
-    ensures { λ r. ⌜ madeOf r (now (row .exit)) ≡ literalChildren (progressOf (now (ticket .entry)) s .question) (branchOf (now (work .entry)) count) (functionOf function) x ⌝ }
+    ensures { λ r. ⌜ madeOf r (now (row .exit)) ≡ literalChildren (asked (now (ticket .entry)) s) (branchOf (now (work .entry)) count) (functionOf function) x ⌝ }
 {
     let labels = classes::labels(work, count);
     let found = classes::class_literal(labels, s.literals + 1, x);
@@ -154,7 +148,7 @@ fn of_literal(
         Lowest::Nothing => false,
         Lowest::Literal(l) => {
             let text = question::literal_text(ticket, l);
-            let constant = less_text(ticket, function, text.at, text.count);
+            let constant = negative_of_text(ticket, function, text.at, text.count);
             rows::fill_single(row, 1, constant, column_of(s.p, s.q, function, x), 1);
             true
         }
@@ -181,7 +175,7 @@ fn join(row: &mut [i64], j: usize, k: usize, work: &[i64], count: usize) -> bool
     true
 }
 
-// A step of a rule with one conclusion, in a row of zeros. Its body stands at a position and is of proper form.
+// A step of a rule with one conclusion, in a row of zeros.
 fn conclusion(
     row: &mut [i64],
     ticket: &[u8],
@@ -192,11 +186,9 @@ fn conclusion(
     count: usize,
 ) -> bool
     requires { ⌜ now row ≡ zeros rowLength ⌝ }
-    requires { ⌜ (at + size ≤ length (now ticket)) × (lengthFits (now ticket) at size ≡ true) × (isConcluding (rule (now ticket) at) ≡ true) ⌝ }
-    requires { ⌜ operandsInRange (now ticket) (s .p) (columnCount (progressOf (now ticket) s .question)) (rule (now ticket) at) at size ≡ true ⌝ }
-    requires { ⌜ (s .p ≤ variableLimit) × (s .q ≤ variableLimit) × (s .literals ≤ literalLimit) × (skip (now ticket) (s .literals) literalsFrom ≤ length (now ticket)) ⌝ }
-    requires { ⌜ Fine (now work) count ⌝ }
-    ensures { λ r. ⌜ madeOf r (now (row .exit)) ≡ children (progressOf (now (ticket .entry)) s .question) (branchOf (now (work .entry)) count) (stepAt (now (ticket .entry)) at size) ⌝ }
+    requires { ⌜ Ready (now ticket) s at size (now work) count ⌝ }
+    requires { ⌜ conclusionsOf (rule (now ticket) at) ≡ One ⌝ }
+    ensures { λ r. ⌜ madeOf r (now (row .exit)) ≡ offered (now (ticket .entry)) (asked (now (ticket .entry)) s) (branchOf (now (work .entry)) count) at size ⌝ }
 {
     let number = u16_at(ticket, at);
     let first = u16_at(ticket, at + 4);
@@ -222,12 +214,10 @@ pub fn conclude(
     work: &mut [i64],
     count: usize,
 ) -> usize
-    requires { ⌜ (at + size ≤ length (now ticket)) × (lengthFits (now ticket) at size ≡ true) × (isConcluding (rule (now ticket) at) ≡ true) ⌝ }
-    requires { ⌜ operandsInRange (now ticket) (s .p) (columnCount (progressOf (now ticket) s .question)) (rule (now ticket) at) at size ≡ true ⌝ }
-    requires { ⌜ (s .p ≤ variableLimit) × (s .q ≤ variableLimit) × (s .literals ≤ literalLimit) × (skip (now ticket) (s .literals) literalsFrom ≤ length (now ticket)) ⌝ }
-    requires { ⌜ Fine (now work) count ⌝ }
-    ensures fault { λ r. ⌜ r ≡ takenTried (branchOf (now (work .entry)) count) (nth (children (progressOf (now (ticket .entry)) s .question) (branchOf (now (work .entry)) count) (stepAt (now (ticket .entry)) at size)) 1) ⌝ }
-    ensures added { λ r. ⌜ (r ≡ 0 → branchOf (now (work .exit)) (count + 1) ≡ branchOf (now (work .entry)) count ++ orNone (nth (children (progressOf (now (ticket .entry)) s .question) (branchOf (now (work .entry)) count) (stepAt (now (ticket .entry)) at size)) 1)) ⌝ }
+    requires { ⌜ Ready (now ticket) s at size (now work) count ⌝ }
+    requires { ⌜ conclusionsOf (rule (now ticket) at) ≡ One ⌝ }
+    ensures fault { λ r. ⌜ r ≡ takenTried (branchOf (now (work .entry)) count) (nth (offered (now (ticket .entry)) (asked (now (ticket .entry)) s) (branchOf (now (work .entry)) count) at size) 1) ⌝ }
+    ensures added { λ r. ⌜ (r ≡ 0 → branchOf (now (work .exit)) (count + 1) ≡ branchOf (now (work .entry)) count ++ offeredChild (now (ticket .entry)) (asked (now (ticket .entry)) s) (branchOf (now (work .entry)) count) at size 1) ⌝ }
     ensures fine { λ r. ⌜ (r ≡ 0 → Fine (now (work .exit)) (count + 1)) ⌝ }
 {
     let mut row = [0i64; ROW_LENGTH];

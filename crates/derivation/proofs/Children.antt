@@ -5,9 +5,8 @@ use mathlib.Core.Path.{_≡_, refl, sym, _∙_, ap, ap₂}
 use mathlib.Core.Bool.{Bool, true}
 use mathlib.Core.Option.{some}
 use mathlib.Core.List.{List, [], _∷_}
-use lib.ListN.{length, drop, getElem?}
+use lib.ListN.{length, drop}
 use borrow.Author.Tests.{leb-true, le-leb}
-use Rattle.lists.specs.Lists.{all}
 use Rattle.lists.proofs.Options.{none-some}
 use Rattle.lists.proofs.Every.{every-at}
 use Rattle.calculus.specs.Limits.{factLimit}
@@ -15,19 +14,11 @@ use Rattle.calculus.specs.Facts.{Question, Fact, Branch}
 use Rattle.calculus.specs.Children.{childAt}
 use Rattle.format.specs.Records.{need}
 use Rattle.format.specs.Checking.{orNone, factsWithin, childrenWithin, room, roomForAll, nth, takenTried}
+use Rattle.steps.proofs.Offered.{child-there, fitted, nth-within}
 use Rattle.derivation.specs.State.{offeredIn, childrenOn, childOn}
 use Rattle.derivation.specs.Ok.{Splits}
 
 -- ---- child k of a list, from 1
-
-there : {A : Type 0} (cs : List (List A)) (k : ℕ) → k < length cs → getElem? cs k ≡ some (orNone (getElem? cs k))
-there [] k h = absurd (omega arith)
-there (c ∷ cs) zero h = refl
-there (c ∷ cs) (suc k) h = there cs k (omega arith)
-
-at-there : {A : Type 0} (cs : List (List A)) (k : ℕ) → 1 ≤ k → k ≤ length cs → childAt cs k ≡ some (orNone (childAt cs k))
-at-there cs zero l h = absurd (omega arith)
-at-there cs (suc k) l h = there cs k (omega arith)
 
 -- the next child, and those after it
 pub next-child : {A : Type 0} (cs : List (List A)) (k : ℕ) → k < length cs → drop k cs ≡ orNone (childAt cs (suc k)) ∷ drop (suc k) cs
@@ -35,9 +26,11 @@ next-child [] k h = absurd (omega arith)
 next-child (c ∷ cs) zero h = refl
 next-child (c ∷ cs) (suc k) h = next-child cs k (omega arith)
 
-at-passes : (test : List Fact → Bool) (cs : List (List Fact)) (k : ℕ) (c : List Fact) → all test cs ≡ true → childAt cs k ≡ some c → test c ≡ true
-at-passes test cs zero c e h = absurd (none-some h)
-at-passes test cs (suc k) c e h = every-at test cs k c e h
+-- one of those that all find room
+room-at : (m : ℕ) (cs : List (List Fact)) (k : ℕ) (c : List Fact) → roomForAll m cs ≡ true → childAt cs k ≡ some c → room m c ≡ true
+unfolding roomForAll
+room-at m cs zero c e h = absurd (none-some h)
+room-at m cs (suc j) c e h = every-at (room m) cs j c e h
 
 -- ---- the children of a split
 
@@ -49,23 +42,21 @@ module _ {b : List ℕ} {u : Question} {br : Branch} {at n : ℕ} (sp : Splits b
   child-of k = ap (λ o. orNone (nth o k)) (sp .fit)
 
   child-at : (k : ℕ) → 1 ≤ k → k ≤ n → childAt (sp .its-children) k ≡ some (childOn b u br at k)
-  child-at k l h = at-there (sp .its-children) k l (omega (arith, sp .number)) ∙ ap some (sym (child-of k))
+  child-at k l h = fitted (childAt (sp .its-children) k) (child-there (sp .its-children) k l (omega (arith, sp .number))) ∙ ap some (sym (child-of k))
 
   -- child k is there
   pub taken-there : (k : ℕ) → 1 ≤ k → k ≤ n → nth (offeredIn b u br at) k ≡ some (childOn b u br at k)
   taken-there k l h = ap (λ o. nth o k) (sp .fit) ∙ child-at k l h
 
   -- its numbers are within the limit, and it finds room
-  pub child-within : (k : ℕ) → 1 ≤ k → k ≤ n → factsWithin (childOn b u br at k) ≡ true
-  unfolding childrenWithin
-  child-within k l h = at-passes factsWithin (sp .its-children) k (childOn b u br at k) (sp .within) (child-at k l h)
+  pub child-within : (k : ℕ) → factsWithin (childOn b u br at k) ≡ true
+  child-within k = nth-within (offeredIn b u br at) k (ap childrenWithin its-all ∙ sp .within)
 
   pub child-room : (k : ℕ) → 1 ≤ k → k ≤ n → length br + length (childOn b u br at k) ≤ factLimit
-  unfolding roomForAll
-  child-room k l h = leb-true _ factLimit (at-passes (room (length br)) (sp .its-children) k (childOn b u br at k) (sp .room) (child-at k l h))
+  child-room k l h = leb-true _ factLimit (room-at (length br) (sp .its-children) k (childOn b u br at k) (sp .room) (child-at k l h))
 
   -- so none of the numbers 8 to 10 applies to it
   pub none-of-these : (k : ℕ) → 1 ≤ k → k ≤ n → takenTried br (nth (offeredIn b u br at) k) ≡ 0
   none-of-these k l h =
       ap (takenTried br) (taken-there k l h)
-      ∙ ap₂ (λ (t r : Bool). need 9 t (need 10 r 0)) (child-within k l h) (le-leb (length br + length (childOn b u br at k)) factLimit (child-room k l h))
+      ∙ ap₂ (λ (t r : Bool). need 9 t (need 10 r 0)) (child-within k) (le-leb (length br + length (childOn b u br at k)) factLimit (child-room k l h))

@@ -2,27 +2,25 @@
 use Prim.Native.Nat.{ℕ, _+_, _≤_}
 use native.Mathlib.Omega.{arith}
 use mathlib.Core.Path.{_≡_, sym, _∙_, subst}
-use mathlib.Core.Bool.{true}
 use mathlib.Core.List.{List}
 use lib.ListN.{length}
 use lib.IntN.{ℤ}
-use Rattle.calculus.specs.Limits.{variableLimit, literalLimit, factLimit, pendingLimit}
+use Rattle.calculus.specs.Limits.{factLimit, pendingLimit}
 use Rattle.format.specs.Records.{size}
 use Rattle.format.specs.StepForms.{rule}
-use Rattle.format.specs.Places.{skip, literalsFrom}
 use Rattle.format.specs.Checking.{nth, takenTried}
 use Rattle.rows.specs.Rows.{branchOf}
 use Rattle.rows.specs.Work.{Fine}
 use Rattle.rows.proofs.Branches.{length-branch}
 use Rattle.question.specs.declared.Progress.{Progress}
 use Rattle.question.specs.Posed.{asked, Posed}
-use Rattle.question.proofs.Standing.{literals-within}
-use Rattle.steps.specs.Forms.{Formed}
+use Rattle.steps.specs.Conclusions.{conclusionsOf}
+use Rattle.steps.specs.declared.Conclusions.the-variants.{Several}
 use Rattle.steps.specs.Offered.{offered}
+use Rattle.steps.specs.Ready.{Ready}
 use Rattle.branch.specs.declared.Branch as code
 use Rattle.branch.specs.Stack.{stack}
 use Rattle.branch.proofs.Stacks.{length-stack}
-use Rattle.splits.specs.Splits.{isSplit}
 use Rattle.derivation.specs.State.{waitings}
 use Rattle.derivation.specs.Ok.{Splits, Holds}
 use Rattle.derivation.proofs.Children.{none-of-these}
@@ -46,16 +44,11 @@ module _ {b : List ℕ} {s : Progress} {w : List ℤ} {c : code.Branch} (h : Hol
   pub waiting : length (waitings b (asked b s) (branchOf w (c .count)) (stack c)) ≡ c .depth
   waiting = length-waitings b (asked b s) (branchOf w (c .count)) (stack c) ∙ length-stack c
 
--- the limits of a question that stands
-pub limits : (b : List ℕ) (s : Progress) → Posed b s → (s .p ≤ variableLimit) × (s .q ≤ variableLimit) × (s .literals ≤ literalLimit) × (skip b (s .literals) literalsFrom ≤ length b)
-limits b s p =
-    (p .stands .few-strings, p .stands .few-integers, p .stands .few-literals, literals-within b s (p .to) (s .literals) (p .stands) (p .head) (omega arith))
-
 -- what is asked for where child k of the step in a body of m bytes is put behind count facts
 abbrev pub Puts : List ℕ → Progress → ℕ → ℕ → List ℤ → ℕ → ℕ → Type 0
-Puts b s at m w count k =
-    Posed b s × ((Formed b (asked b s) at m × (isSplit (rule b at) ≡ true)) × (Fine w count × (takenTried (branchOf w count) (nth (offered b (asked b s) (branchOf w count) at m) k) ≡ 0)))
+Puts b s at m w count k = Ready b s at m w count × ((conclusionsOf (rule b at) ≡ Several) × (takenTried (branchOf w count) (nth (offered b (asked b s) (branchOf w count) at m) k) ≡ 0))
 
-pub puts : (b : List ℕ) (s : Progress) (w : List ℤ) (at n k m count : ℕ) → Posed b s → Splits b (asked b s) (branchOf w count) at n → isSplit (rule b (at + 6)) ≡ true → Fine w count → 1 ≤ k → k ≤ n
+pub puts : (b : List ℕ) (s : Progress) (w : List ℤ) (at n k m count : ℕ) → Posed b s → Splits b (asked b s) (branchOf w count) at n → conclusionsOf (rule b (at + 6)) ≡ Several → Fine w count → 1 ≤ k → k ≤ n
     → m ≡ size b at → Puts b s (at + 6) m w count k
-puts b s w at n k m count p sp r f l h em = subst (λ (i : ℕ). Puts b s (at + 6) i w count k) (sym em) (p, ((sp .formed, r), (f, none-of-these sp k l h)))
+puts b s w at n k m count p sp r f l h em =
+    subst (λ (i : ℕ). Puts b s (at + 6) i w count k) (sym em) (record { posed = p; formed = sp .formed; fine = f }, (r, none-of-these sp k l h))

@@ -13,7 +13,8 @@ use Rattle.calculus.specs.Limits.{factLimit, pendingLimit}
 use Rattle.calculus.specs.Facts.{Question, Fact, Branch}
 use Rattle.format.specs.StepForms.{rule}
 use Rattle.format.specs.Checking.{factWithin, factsWithin}
-use Rattle.splits.specs.Splits.{isSplit}
+use Rattle.steps.specs.Conclusions.{conclusionsOf}
+use Rattle.steps.specs.declared.Conclusions.the-variants.{Several}
 use Rattle.branch.specs.declared.Split.{Split}
 use Rattle.branch.specs.Stack.{split, begunOf}
 use Rattle.derivation.specs.State.{childOn, waitingOn, waitings}
@@ -65,7 +66,7 @@ module _ (b : List ℕ) (u : Question) (br : Branch) (ss : List Split) (at n : �
   few-first h = omega (arith, length-append br (childOn b u br at 1), child-room sp 1 (omega arith) h)
 
   small-first : 1 ≤ n → factsWithin (br ++ childOn b u br at 1) ≡ true
-  small-first h = within-append br (childOn b u br at 1) (ok .small) (child-within sp 1 (omega arith) h)
+  small-first h = within-append br (childOn b u br at 1) (ok .small) (child-within sp 1)
 
   -- its only child
   pub ok-one : 1 ≤ n → Ok b u (br ++ childOn b u br at 1) ss
@@ -77,7 +78,7 @@ module _ (b : List ℕ) (u : Question) (br : Branch) (ss : List Split) (at n : �
   }
 
   -- the split is pending
-  pub ok-split : isSplit (rule b (at + 6)) ≡ true → 2 ≤ n → length ss < pendingLimit → Ok b u (br ++ childOn b u br at 1) (split (length br) at 2 n ∷ ss)
+  pub ok-split : conclusionsOf (rule b (at + 6)) ≡ Several → 2 ≤ n → length ss < pendingLimit → Ok b u (br ++ childOn b u br at 1) (split (length br) at 2 n ∷ ss)
   unfolding AllPend
   ok-split r h g =
       let c : List Fact = childOn b u br at 1 in
@@ -98,52 +99,53 @@ module _ (b : List ℕ) (u : Question) (br : Branch) (ss : List Split) (at n : �
 
 -- ---- the next child of the last pending split is begun
 
+-- the branch cut back to its mark, and the facts of that child
+abbrev pub cutTo : Branch → Split → Branch
+cutTo br s = take (s .mark) br
+
+abbrev pub begunOn : List ℕ → Question → Branch → Split → List Fact
+begunOn b u br s = childOn b u (cutTo br s) (s .at) (s .child)
+
 module _ (b : List ℕ) (u : Question) (br : Branch) (s : Split) (ss : List Split) (ok : Ok b u br (s ∷ ss)) where
   pub its-pends : Pends b u br s
   unfolding AllPend
   its-pends = ok .pend .0
 
-  others-pend : AllPend b u (take (s .mark) br) ss
+  others-pend : AllPend b u (cutTo br s) ss
   unfolding AllPend
   others-pend = ok .pend .1
 
-  pub length-cut : length (take (s .mark) br) ≡ s .mark
+  pub length-cut : length (cutTo br s) ≡ s .mark
   length-cut = length-take-le (s .mark) br (its-pends .behind)
 
-  abbrev cut : Branch
-  cut = take (s .mark) br
+  few-begun : length (cutTo br s ++ begunOn b u br s) ≤ factLimit
+  few-begun = omega (arith, length-append (cutTo br s) (begunOn b u br s), child-room (its-pends .splits) (s .child) (its-pends .some-begun) (its-pends .some-left))
 
-  abbrev begun : List Fact
-  begun = childOn b u cut (s .at) (s .child)
+  small-begun : factsWithin (cutTo br s ++ begunOn b u br s) ≡ true
+  small-begun = within-append (cutTo br s) (begunOn b u br s) (within-take br (s .mark) (ok .small)) (child-within (its-pends .splits) (s .child))
 
-  few-begun : length (cut ++ begun) ≤ factLimit
-  few-begun = omega (arith, length-append cut begun, child-room (its-pends .splits) (s .child) (its-pends .some-begun) (its-pends .some-left))
+  cut-again : take (s .mark) (cutTo br s ++ begunOn b u br s) ≡ cutTo br s
+  cut-again = take-at (cutTo br s) (begunOn b u br s) (s .mark) length-cut
 
-  small-begun : factsWithin (cut ++ begun) ≡ true
-  small-begun = within-append cut begun (within-take br (s .mark) (ok .small)) (child-within (its-pends .splits) (s .child) (its-pends .some-begun) (its-pends .some-left))
-
-  cut-again : take (s .mark) (cut ++ begun) ≡ cut
-  cut-again = take-at cut begun (s .mark) length-cut
-
-  pend-begun : (t : Bool) → ltb (s .child) (s .last) ≡ t → AllPend b u (cut ++ begun) (cond t (split (s .mark) (s .at) (s .child + 1) (s .last) ∷ ss) ss)
+  pend-begun : (t : Bool) → ltb (s .child) (s .last) ≡ t → AllPend b u (cutTo br s ++ begunOn b u br s) (cond t (split (s .mark) (s .at) (s .child + 1) (s .last) ∷ ss) ss)
   unfolding AllPend
   pend-begun true e =
       let more : s .child < s .last = ltb-true (s .child) (s .last) e in
-      let here : Pends b u (cut ++ begun) (split (s .mark) (s .at) (s .child + 1) (s .last)) = record {
-        behind = omega (arith, length-append cut begun, length-cut);
+      let here : Pends b u (cutTo br s ++ begunOn b u br s) (split (s .mark) (s .at) (s .child + 1) (s .last)) = record {
+        behind = omega (arith, length-append (cutTo br s) (begunOn b u br s), length-cut);
         several = its-pends .several;
         splits = subst (λ (l : Branch). Splits b u l (s .at) (s .last)) (sym cut-again) (its-pends .splits);
         some-begun = omega arith;
         some-left = omega arith;
       } in
       (here, subst (λ (l : Branch). AllPend b u l ss) (sym cut-again) others-pend)
-  pend-begun false e = pend-grown b u cut begun ss others-pend
+  pend-begun false e = pend-grown b u (cutTo br s) (begunOn b u br s) ss others-pend
 
   few-left : (t : Bool) → length (cond t (split (s .mark) (s .at) (s .child + 1) (s .last) ∷ ss) ss) ≤ suc (length ss)
   few-left true = omega arith
   few-left false = omega arith
 
-  pub ok-begun : Ok b u (cut ++ begun) (begunOf (s ∷ ss))
+  pub ok-begun : Ok b u (cutTo br s ++ begunOn b u br s) (begunOf (s ∷ ss))
   unfolding begunOf
   ok-begun = record {
     few = few-begun;

@@ -4,7 +4,7 @@ use native.Mathlib.Omega.{arith}
 use mathlib.Core.Path.{_≡_, refl, sym, _∙_, ap, subst}
 use mathlib.Core.Logic.{inl, inr}
 use mathlib.Core.Bool.{Bool, true, false, _||_}
-use mathlib.Core.Option.{Option, none, some}
+use mathlib.Core.Option.{Option, some}
 use mathlib.Core.List.{List, [], _++_}
 use lib.ListN.{length, length-map}
 use lib.Dec.{leb, ltb}
@@ -16,14 +16,17 @@ use Rattle.calculus.specs.Facts.{Question, Fact, Branch}
 use Rattle.calculus.specs.Steps.{shape}
 use Rattle.calculus.proofs.Shapes.{children-shape}
 use Rattle.format.specs.Records.{size}
-use Rattle.format.specs.StepForms.{rule, stepAt}
-use Rattle.format.specs.Checking.{fits, childrenWithin, roomForAll, roomToPend, allTried, takenTried, nth}
+use Rattle.format.specs.StepForms.{rule, lengthFits, stepAt}
+use Rattle.format.specs.Checking.{fits, orNone, childrenWithin, roomForAll, roomToPend, allTried, takenTried, nth}
 use Rattle.format.proofs.Faults.{none-applies, and-true, not-both}
 use Rattle.rows.specs.Rows.{branchOf}
 use Rattle.rows.specs.Work.{Fine}
 use Rattle.steps.specs.Forms.{Formed}
 use Rattle.steps.specs.Offered.{offered, offeredChild}
-use Rattle.conclusions.specs.Made.{isConcluding, closingOf}
+use Rattle.steps.specs.Conclusions.{conclusionsOf}
+use Rattle.steps.specs.declared.Conclusions.the-variants.{One}
+use Rattle.steps.proofs.Offered.{fitted}
+use Rattle.conclusions.specs.Made.{closingOf}
 use Rattle.conclusions.proofs.Tried.{Single, one-conclusion, tried-once}
 use Rattle.derivation.specs.State.{offeredIn}
 use Rattle.derivation.specs.Ok.{Splits}
@@ -52,9 +55,8 @@ module _ (b : List ℕ) (u : Question) (br : Branch) (at m : ℕ) (em : m ≡ si
   no-children e = sym (e ∙ ap (λ (i : ℕ). offered b u br (at + 6) i) em)
 
   -- a rule with one conclusion: "all children" are the one
-  pub one-tried : isConcluding (rule b (at + 6)) ≡ true → (f : ℕ) → f ≡ takenTried br (nth given 1) → (pending : ℕ) → f ≡ allTried br pending given
-  unfolding offered
-  one-tried c f e pending = e ∙ sym (tried-once br pending given (one-conclusion u br b (at + 6) m c))
+  pub one-tried : lengthFits b (at + 6) m ≡ true → conclusionsOf (rule b (at + 6)) ≡ One → (f : ℕ) → f ≡ takenTried br (nth given 1) → (pending : ℕ) → f ≡ allTried br pending given
+  one-tried l c f e pending = e ∙ sym (tried-once br pending given (one-conclusion u br b (at + 6) m l c))
 
   -- its first child stands behind the branch
   pub first-begins : (n : ℕ) → Splits b u br at n → (w : List ℤ) (k : ℕ) → branchOf w k ≡ br ++ offeredChild b u br (at + 6) m 1 → Fine w k → Begins b u br at n w k
@@ -65,10 +67,6 @@ module _ (b : List ℕ) (u : Question) (br : Branch) (at m : ℕ) (em : m ≡ si
   }
 
 -- ---- a step to which none of 8 to 10 applies
-
-fitting : {A : Type 0} (o : Option A) → fits o ≡ true → (a : A) × (o ≡ some a)
-fitting none e = absurd (not-both false e refl)
-fitting (some a) e = (a, refl)
 
 more-pending : (t : Bool) (pending : ℕ) → (t || ltb pending pendingLimit) ≡ true → t ≡ false → pending < pendingLimit
 more-pending true pending p n = absurd (not-both true refl n)
@@ -97,12 +95,11 @@ module _ (b : List ℕ) (u : Question) (br : Branch) (at m pending : ℕ) (em : 
   }
 
   found : (cs : List (List Fact)) × (its ≡ some cs)
-  found = fitting its (none-applies 7 (fits its) _ e .0)
+  found = (orNone its, fitted its (none-applies 7 (fits its) _ e .0))
 
   -- one conclusion
-  pub one-child : isConcluding (rule b (at + 6)) ≡ true → Splits b u br at 1
-  unfolding offered
-  one-child c = go (one-conclusion u br b (at + 6) m c)
+  pub one-child : conclusionsOf (rule b (at + 6)) ≡ One → Splits b u br at 1
+  one-child c = go (one-conclusion u br b (at + 6) m (f .fits) c)
     where
       go : Single its → Splits b u br at 1
       go (inl n) = absurd (some-none (sym (found .1) ∙ n))

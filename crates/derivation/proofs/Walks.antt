@@ -5,7 +5,7 @@ use native.Mathlib.Numerals.{add-one}
 use mathlib.Core.Path.{_≡_, refl, sym, _∙_, ap, ap₂}
 use mathlib.Core.Bool.{Bool, true, false, cond}
 use mathlib.Core.List.{List, [], _∷_, _++_}
-use lib.ListN.{length, take, drop, drop-of-length-le}
+use lib.ListN.{length, drop, drop-of-length-le}
 use lib.Seq.{take-append-seam, take-at}
 use lib.Dec.{ltb}
 use borrow.Author.Tests.{ltb-true, ltb-false}
@@ -18,7 +18,7 @@ use Rattle.branch.specs.Stack.{split, begunOf}
 use Rattle.derivation.specs.State.{childrenOn, childOn, waitingOn, waitings, walkOf}
 use Rattle.derivation.specs.Ok.{Splits, AllPend, Ok}
 use Rattle.derivation.proofs.Children.{next-child, its-all, child-of}
-use Rattle.derivation.proofs.Pending.{waitings-grown, its-pends, length-cut}
+use Rattle.derivation.proofs.Pending.{cutTo, begunOn, waitings-grown, its-pends, length-cut}
 
 -- ---- the first child of a split is begun
 
@@ -62,19 +62,13 @@ module _ (b : List ℕ) (u : Question) (br : Branch) (ss : List Split) (at n : �
 -- ---- the next child of the last pending split is begun
 
 module _ (b : List ℕ) (u : Question) (br : Branch) (s : Split) (ss : List Split) (ok : Ok b u br (s ∷ ss)) where
-  abbrev cut : Branch
-  cut = take (s .mark) br
-
-  abbrev begun : List Fact
-  begun = childOn b u cut (s .at) (s .child)
-
-  its-splits : Splits b u cut (s .at) (s .last)
+  its-splits : Splits b u (cutTo br s) (s .at) (s .last)
   its-splits = its-pends b u br s ss ok .splits
 
   abbrev left : List (List Fact)
-  left = drop (s .child) (childrenOn b u cut (s .at))
+  left = drop (s .child) (childrenOn b u (cutTo br s) (s .at))
 
-  left-more : s .child < length (its-splits .its-children) → left ≡ childOn b u cut (s .at) (s .child + 1) ∷ drop (s .child + 1) (childrenOn b u cut (s .at))
+  left-more : s .child < length (its-splits .its-children) → left ≡ childOn b u (cutTo br s) (s .at) (s .child + 1) ∷ drop (s .child + 1) (childrenOn b u (cutTo br s) (s .at))
   left-more h =
       ap (drop (s .child)) (its-all its-splits)
       ∙ next-child (its-splits .its-children) (s .child) h
@@ -85,17 +79,17 @@ module _ (b : List ℕ) (u : Question) (br : Branch) (s : Split) (ss : List Spli
   left-none h = ap (drop (s .child)) (its-all its-splits) ∙ drop-of-length-le (its-splits .its-children) h
 
   begun-left : (t : Bool) → ltb (s .child) (s .last) ≡ t
-      → waitings b u (cut ++ begun) (cond t (split (s .mark) (s .at) (s .child + 1) (s .last) ∷ ss) ss) ≡ wait cut left (waitings b u cut ss)
+      → waitings b u (cutTo br s ++ begunOn b u br s) (cond t (split (s .mark) (s .at) (s .child + 1) (s .last) ∷ ss) ss) ≡ wait (cutTo br s) left (waitings b u (cutTo br s) ss)
   unfolding waitings AllPend
   begun-left true e =
       let more : s .child < length (its-splits .its-children) = omega (arith, ltb-true (s .child) (s .last) e, its-splits .number) in
-      let next : left ≡ childOn b u cut (s .at) (s .child + 1) ∷ drop (s .child + 1) (childrenOn b u cut (s .at)) = left-more more in
-      ap (λ (l : Branch). waitingOn b u l (split (s .mark) (s .at) (s .child + 1) (s .last)) ∷ waitings b u l ss) (take-at cut begun (s .mark) (length-cut b u br s ss ok))
-      ∙ sym (ap (λ (cs : List (List Fact)). wait cut cs (waitings b u cut ss)) next)
+      let next : left ≡ childOn b u (cutTo br s) (s .at) (s .child + 1) ∷ drop (s .child + 1) (childrenOn b u (cutTo br s) (s .at)) = left-more more in
+      ap (λ (l : Branch). waitingOn b u l (split (s .mark) (s .at) (s .child + 1) (s .last)) ∷ waitings b u l ss) (take-at (cutTo br s) (begunOn b u br s) (s .mark) (length-cut b u br s ss ok))
+      ∙ sym (ap (λ (cs : List (List Fact)). wait (cutTo br s) cs (waitings b u (cutTo br s) ss)) next)
   begun-left false e =
       let none : left ≡ [] = left-none (omega (arith, ltb-false (s .child) (s .last) e, its-splits .number)) in
-      waitings-grown b u cut begun ss (ok .pend .1) ∙ sym (ap (λ (cs : List (List Fact)). wait cut cs (waitings b u cut ss)) none)
+      waitings-grown b u (cutTo br s) (begunOn b u br s) ss (ok .pend .1) ∙ sym (ap (λ (cs : List (List Fact)). wait (cutTo br s) cs (waitings b u (cutTo br s) ss)) none)
 
-  pub cut-back : walkOf b u (cut ++ begun) (begunOf (s ∷ ss)) ≡ cutBack _++_ (waitings b u br (s ∷ ss))
+  pub cut-back : walkOf b u (cutTo br s ++ begunOn b u br s) (begunOf (s ∷ ss)) ≡ cutBack _++_ (waitings b u br (s ∷ ss))
   unfolding waitings begunOf
-  cut-back = ap (working (cut ++ begun)) (begun-left (ltb (s .child) (s .last)) refl)
+  cut-back = ap (working (cutTo br s ++ begunOn b u br s)) (begun-left (ltb (s .child) (s .last)) refl)

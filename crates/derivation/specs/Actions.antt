@@ -1,7 +1,6 @@
 -- What the code says of a step.
 use Prim.Native.Nat.{ℕ, _+_, _≤_, _<_}
 use mathlib.Core.Path.{_≡_}
-use mathlib.Core.Bool.{true}
 use mathlib.Core.Option.{some}
 use mathlib.Core.List.{List, [], _++_}
 use lib.IntN.{ℤ}
@@ -10,7 +9,8 @@ use Rattle.calculus.specs.Facts.{Question, Branch}
 use Rattle.format.specs.StepForms.{rule}
 use Rattle.rows.specs.Rows.{branchOf}
 use Rattle.rows.specs.Work.{Fine}
-use Rattle.splits.specs.Splits.{isSplit}
+use Rattle.steps.specs.Conclusions.{conclusionsOf}
+use Rattle.steps.specs.declared.Conclusions.the-variants.{Several}
 use Rattle.derivation.specs.State.{offeredIn, childOn}
 use Rattle.derivation.specs.Ok.{Splits}
 use Rattle.derivation.specs.declared.Action as action
@@ -31,7 +31,7 @@ pub record Begins (b : List ℕ) (u : Question) (br : Branch) (at n : ℕ) (w : 
 
 -- it is a split of n children, two or more, and there is room for one more to be pending
 pub record Branches (b : List ℕ) (at n pending : ℕ) : Type 0 where
-  pub several : isSplit (rule b (at + 6)) ≡ true
+  pub several : conclusionsOf (rule b (at + 6)) ≡ Several
   pub two : 2 ≤ n
   pub few : n < 256
   pub room : pending < pendingLimit

@@ -15,7 +15,8 @@ use Rattle.rows.specs.Rows.{branchOf}
 use Rattle.question.specs.declared.Progress.{Progress}
 use Rattle.question.specs.Posed.{asked, Posed}
 use Rattle.steps.specs.Forms.{Formed}
-use Rattle.splits.specs.Splits.{isSplit}
+use Rattle.steps.specs.Conclusions.{conclusionsOf}
+use Rattle.steps.specs.declared.Conclusions.the-variants.{Several}
 use Rattle.branch.specs.declared.Split.{Split}
 use Rattle.branch.specs.declared.Branch as code
 use Rattle.branch.specs.Stack.{stack}
@@ -33,7 +34,7 @@ pub record Splits (b : List ℕ) (u : Question) (br : Branch) (at n : ℕ) : Typ
 -- a split, by a rule with several conclusions, is pending on a branch that has grown from its mark
 pub record Pends (b : List ℕ) (u : Question) (br : Branch) (s : Split) : Type 0 where
   pub behind : s .mark ≤ length br
-  pub several : isSplit (rule b (s .at + 6)) ≡ true
+  pub several : conclusionsOf (rule b (s .at + 6)) ≡ Several
   pub splits : Splits b u (take (s .mark) br) (s .at) (s .last)
   pub some-begun : 1 ≤ s .child
   pub some-left : s .child ≤ s .last

@@ -1,6 +1,5 @@
 // The derivation: what a step under claim 1 comes to.
 ghost use mathlib.Core.Path.{_≡_};
-ghost use mathlib.Core.Bool.{true};
 ghost use mathlib.Core.List.{_++_};
 ghost use Prim.Native.Nat.{ℕ, _+_, _<_};
 ghost use Rattle.calculus.specs.Walk.{cutBack};
@@ -8,12 +7,11 @@ ghost use Rattle.format.specs.Records.{size as sizeOf};
 ghost use Rattle.format.specs.StepForms.{rule};
 ghost use Rattle.format.specs.Checking.{allTried};
 ghost use Rattle.rows.specs.Rows.{branchOf};
-ghost use Rattle.rows.specs.Work.{Fine};
-ghost use Rattle.question.specs.Posed.{asked, Posed};
-ghost use Rattle.steps.specs.Forms.{Formed};
+ghost use Rattle.question.specs.Posed.{asked};
+ghost use Rattle.steps.specs.Conclusions.{conclusionsOf};
+ghost use Rattle.steps.specs.declared.Conclusions.the-variants.{Nothing, One, Several};
+ghost use Rattle.steps.specs.Ready.{Ready};
 ghost use Rattle.branch.specs.Stack.{stack};
-ghost use Rattle.conclusions.specs.Made.{isClosing, isConcluding};
-ghost use Rattle.splits.specs.Splits.{isSplit};
 ghost use Rattle.derivation.specs.State.{offeredIn, waitings, stateOf};
 ghost use Rattle.derivation.specs.Ok.{Holds};
 ghost use Rattle.derivation.specs.Actions.{numberOf, Acts};
@@ -21,8 +19,9 @@ use branch::Branch;
 use question::Progress;
 use records::u16_at;
 use records::u32_at;
-use rules::put_child;
 use rules::split_fault;
+use splits::put_child;
+use steps::Conclusions;
 
 // What a step comes to. Refused: the number. Closes: the branch is closed. Extends: the number of facts on the branch then. Splits: the number
 // of facts on the branch of its first child, and that of its children.
@@ -44,9 +43,8 @@ fn take_closing(
     work: &[i64],
     count: usize,
 ) -> Action
-    requires { ⌜ Posed (now ticket) s ⌝ }
-    requires { ⌜ (size ≡ sizeOf (now ticket) at) × Formed (now ticket) (asked (now ticket) s) (at + 6) size × (isClosing (rule (now ticket) (at + 6)) ≡ true) ⌝ }
-    requires { ⌜ Fine (now work) count ⌝ }
+    requires { ⌜ Ready (now ticket) s (at + 6) size (now work) count × (size ≡ sizeOf (now ticket) at) ⌝ }
+    requires { ⌜ conclusionsOf (rule (now ticket) (at + 6)) ≡ Nothing ⌝ }
     ensures number { λ r. ⌜ ((pending : ℕ) → numberOf r ≡ allTried (branchOf (now (work .entry)) count) pending (offeredIn (now (ticket .entry)) (asked (now (ticket .entry)) s) (branchOf (now (work .entry)) count) at)) ⌝ }
     ensures acts { λ r. ⌜ ((pending : ℕ) → Acts (now (ticket .entry)) (asked (now (ticket .entry)) s) at pending (now (work .entry)) count (now (work .entry)) r) ⌝ }
 {
@@ -65,9 +63,8 @@ fn take_conclusion(
     work: &mut [i64],
     count: usize,
 ) -> Action
-    requires { ⌜ Posed (now ticket) s ⌝ }
-    requires { ⌜ (size ≡ sizeOf (now ticket) at) × Formed (now ticket) (asked (now ticket) s) (at + 6) size × (isConcluding (rule (now ticket) (at + 6)) ≡ true) ⌝ }
-    requires { ⌜ Fine (now work) count ⌝ }
+    requires { ⌜ Ready (now ticket) s (at + 6) size (now work) count × (size ≡ sizeOf (now ticket) at) ⌝ }
+    requires { ⌜ conclusionsOf (rule (now ticket) (at + 6)) ≡ One ⌝ }
     ensures number { λ r. ⌜ ((pending : ℕ) → numberOf r ≡ allTried (branchOf (now (work .entry)) count) pending (offeredIn (now (ticket .entry)) (asked (now (ticket .entry)) s) (branchOf (now (work .entry)) count) at)) ⌝ }
     ensures acts { λ r. ⌜ ((pending : ℕ) → Acts (now (ticket .entry)) (asked (now (ticket .entry)) s) at pending (now (work .entry)) count (now (work .exit)) r) ⌝ }
 {
@@ -88,9 +85,8 @@ fn take_split(
     count: usize,
     pending: usize,
 ) -> Action
-    requires { ⌜ Posed (now ticket) s ⌝ }
-    requires { ⌜ (size ≡ sizeOf (now ticket) at) × Formed (now ticket) (asked (now ticket) s) (at + 6) size × (isSplit (rule (now ticket) (at + 6)) ≡ true) ⌝ }
-    requires { ⌜ Fine (now work) count ⌝ }
+    requires { ⌜ Ready (now ticket) s (at + 6) size (now work) count × (size ≡ sizeOf (now ticket) at) ⌝ }
+    requires { ⌜ conclusionsOf (rule (now ticket) (at + 6)) ≡ Several ⌝ }
     ensures number { λ r. ⌜ numberOf r ≡ allTried (branchOf (now (work .entry)) count) pending (offeredIn (now (ticket .entry)) (asked (now (ticket .entry)) s) (branchOf (now (work .entry)) count) at) ⌝ }
     ensures acts { λ r. ⌜ Acts (now (ticket .entry)) (asked (now (ticket .entry)) s) at pending (now (work .entry)) count (now (work .exit)) r ⌝ }
 {
@@ -106,7 +102,7 @@ fn take_split(
     Action::Splits(begun, last)
 }
 
-// The step in the record at a position, whose body is of proper form.
+// The step in the record at a position.
 pub fn take_step(
     ticket: &[u8],
     s: Progress,
@@ -116,20 +112,15 @@ pub fn take_step(
     count: usize,
     pending: usize,
 ) -> Action
-    requires { ⌜ Posed (now ticket) s ⌝ }
-    requires { ⌜ (size ≡ sizeOf (now ticket) at) × Formed (now ticket) (asked (now ticket) s) (at + 6) size ⌝ }
-    requires { ⌜ Fine (now work) count ⌝ }
+    requires { ⌜ Ready (now ticket) s (at + 6) size (now work) count × (size ≡ sizeOf (now ticket) at) ⌝ }
     ensures number { λ r. ⌜ numberOf r ≡ allTried (branchOf (now (work .entry)) count) pending (offeredIn (now (ticket .entry)) (asked (now (ticket .entry)) s) (branchOf (now (work .entry)) count) at) ⌝ }
     ensures acts { λ r. ⌜ Acts (now (ticket .entry)) (asked (now (ticket .entry)) s) at pending (now (work .entry)) count (now (work .exit)) r ⌝ }
 {
-    let number = u16_at(ticket, at + 6);
-    if rules::is_closing(number) {
-        return take_closing(ticket, s, at, size, work, count);
+    match steps::conclusions_of(u16_at(ticket, at + 6)) {
+        Conclusions::Nothing => take_closing(ticket, s, at, size, work, count),
+        Conclusions::One => take_conclusion(ticket, s, at, size, work, count),
+        Conclusions::Several => take_split(ticket, s, at, size, work, count, pending),
     }
-    if rules::is_concluding(number) {
-        return take_conclusion(ticket, s, at, size, work, count);
-    }
-    take_split(ticket, s, at, size, work, count, pending)
 }
 
 // ---- a closed branch

@@ -1,3 +1,5 @@
 pub mod Loops
 pub mod Texts
 pub mod Standing
+pub mod Columns
+pub mod Posed

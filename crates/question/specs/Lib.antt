@@ -1,3 +1,4 @@
 pub mod Progress
 pub mod Standing
 pub mod Posed
+pub mod Columns

@@ -4,13 +4,17 @@ use mathlib.Core.List.{List}
 use lib.ListN.{length}
 use Rattle.calculus.specs.Limits.{ticketBytes}
 use Rattle.question.specs.declared.Progress.{Progress}
-use Rattle.calculus.specs.Facts.{Question}
+use Rattle.calculus.specs.Facts.{Question, blank}
 use Rattle.question.specs.Progress.{progressOf}
 use Rattle.question.specs.Standing.{Stands}
 
 -- the question of a ticket's bytes, by the numbers read of it
 unfoldable pub asked : List ℕ → Progress → Question
 asked b s = progressOf b s .question
+
+-- a question by its numbers alone, without literals and constraints
+abbrev pub numbered : Progress → Question
+numbered s = blank (s .n) (s .p) (s .q)
 
 -- it stands, with its head, in a ticket that is not too long
 pub record Posed (b : List ℕ) (s : Progress) : Type 0 where

@@ -5,7 +5,7 @@ ghost use mathlib.Core.List.{[], _∷_};
 ghost use Prim.Native.Nat.{ℕ, _+_, _*_, _<_, _≤_};
 ghost use lib.ListN.{length, getD};
 ghost use lib.IntN.{natAbs};
-ghost use Rattle.calculus.specs.Limits.{variableLimit};
+ghost use Rattle.calculus.specs.Limits.{variableLimit, columnLimit};
 ghost use Rattle.calculus.specs.Alphabet.{allCharacters};
 ghost use Rattle.calculus.specs.Facts.{codeOf};
 ghost use Rattle.calculus.specs.Strings.{eqString, given};
@@ -15,6 +15,7 @@ ghost use Rattle.format.specs.Question.{headFault, textOf, literalFault, string
 ghost use Rattle.format.specs.Places.{skip, texts, literalsFrom};
 ghost use Rattle.question.specs.Progress.{progressOf, readingOf};
 ghost use Rattle.question.specs.Standing.{Stands};
+ghost use Rattle.question.specs.Columns.{columnAt};
 use limits::ALPHABET_LIMIT;
 use limits::COLUMN_LIMIT;
 use limits::FACT_LIMIT;
@@ -495,4 +496,17 @@ pub fn text_code(b: &[u8], at: usize, count: usize) -> i64
         return c as i64;
     }
     -1
+}
+
+// ---- columns
+
+// "Columns: the q integer variables, then len of each string variable, then code of each": that of function (0 len, 1 code) of variable x.
+pub fn column_of(p: usize, q: usize, function: usize, x: usize) -> usize
+    requires { ⌜ (p ≤ variableLimit) × (q ≤ variableLimit) × (x < variableLimit) ⌝ }
+    ensures { λ r. ⌜ (r ≡ columnAt p q function x) × (r < columnLimit) ⌝ }
+{
+    if function == 0 {
+        return q + x;
+    }
+    q + (p + x)
 }

@@ -1,5 +1,5 @@
 -- Room for the children of a split, by its shape.
-use Prim.Native.Nat.{ℕ, zero, suc, _+_, _-_, _/_, _≤_, _<_}
+use Prim.Native.Nat.{ℕ, _+_, _≤_, _<_}
 use native.Mathlib.Omega.{arith}
 use mathlib.Core.Path.{_≡_, refl, sym, _∙_, ap, ap₂, subst}
 use mathlib.Core.Logic.{_⊎_, inl, inr}
@@ -11,14 +11,14 @@ use borrow.Author.Tests.{le-leb, lt-leb, leb-true}
 use Rattle.lists.specs.Lists.{All}
 use Rattle.calculus.specs.Limits.{factLimit, pendingLimit}
 use Rattle.calculus.specs.Facts.{Fact}
-use Rattle.calculus.specs.Steps.{shape, pairCount}
+use Rattle.calculus.specs.Steps.{shape}
 use Rattle.format.specs.Fields.{u16}
-use Rattle.format.specs.StepForms.{Rule, sum, branch, apart, aConf, sConf, sProp, lIntro, lValid, cCollapse, cValid, cInj, card, join, unknown, ruleOf, formFor, fitsForm, rule, lengthFits, stepOf, stepAt}
+use Rattle.format.specs.StepForms.{rule, lengthFits, stepAt}
 use Rattle.format.specs.Checking.{roomForAll, roomToPend}
-use Rattle.format.proofs.Faults.{not-both}
-use Rattle.format.proofs.Decoded.{at-least}
-use Rattle.steps.proofs.Children.{one-each, card-count}
-use Rattle.splits.specs.Splits.{isSplit}
+use Rattle.steps.specs.Conclusions.{conclusionsOf}
+use Rattle.steps.specs.declared.Conclusions.the-variants.{Several}
+use Rattle.steps.proofs.Concluding.{some-child}
+use Rattle.steps.proofs.Children.{one-each, c-valid-shape}
 
 -- ---- room for the facts of every child
 
@@ -45,53 +45,21 @@ two-three count (c ∷ d ∷ []) e =
     go true g = let l : count + 3 ≤ factLimit = leb-true _ _ g in rw (g, le-leb (count + 2) factLimit (omega arith))
     go false g = rw g (sym (and-false (leb (count + 2) factLimit)))
 
--- ---- the shape of a split
-
-some-pair : (k : ℕ) → 2 ≤ k → 1 ≤ pairCount k
-some-pair zero h = absurd (omega arith)
-some-pair (suc zero) h = absurd (omega arith)
-some-pair (suc (suc k)) h = omega arith
+-- ---- by the shape of a split
 
 module _ (b : List ℕ) (n at m : ℕ) where
-  -- it has a child
-  pub some-child : lengthFits b at m ≡ true → isSplit (rule b at) ≡ true → 1 ≤ length (shape n (stepAt b at m))
-  unfolding shape stepOf
-  some-child f e = go (rule b at) f e
-    where
-      go : (r : Rule) → fitsForm (formFor r) m ≡ true → isSplit r ≡ true → 1 ≤ length (shape n (stepOf b r at m))
-      go sum f e = omega arith
-      go branch f e = omega arith
-      go apart f e = omega arith
-      go aConf f e = absurd (not-both false e refl)
-      go sConf f e = absurd (not-both false e refl)
-      go sProp f e = omega arith
-      go lIntro f e = omega arith
-      go lValid f e = omega arith
-      go cCollapse f e = omega arith
-      go cValid f e = omega arith
-      go cInj f e = omega arith
-      go card f e =
-          let long = at-least (formFor card) m f in
-          omega (arith, card-count b n at m, some-pair ((m - 4) / 2) (omega arith))
-      go join f e = omega arith
-      go unknown f e = absurd (not-both false e refl)
-
-  c-valid-shape : 10 ≡ u16 b at → shape n (stepAt b at m) ≡ 2 ∷ 3 ∷ []
-  unfolding shape stepOf
-  c-valid-shape e = sym (ap (λ i. shape n (stepOf b (ruleOf i) at m)) e)
-
   module _ (count : ℕ) (cs : List (List Fact)) (e : map length cs ≡ shape n (stepAt b at m)) where
     -- C-Valid
     pub room-three : 10 ≡ u16 b at → leb (count + 3) factLimit ≡ roomForAll count cs
-    room-three t = two-three count cs (e ∙ c-valid-shape t)
+    room-three t = two-three count cs (e ∙ c-valid-shape b n at m t)
 
     -- any other rule
-    pub room-one : (10 ≡ u16 b at → ⊥) → lengthFits b at m ≡ true → isSplit (rule b at) ≡ true → leb (count + 1) factLimit ≡ roomForAll count cs
+    pub room-one : (10 ≡ u16 b at → ⊥) → lengthFits b at m ≡ true → conclusionsOf (rule b at) ≡ Several → leb (count + 1) factLimit ≡ roomForAll count cs
     room-one x f s = go (one-each b n at m (u16 b at))
       where
         go : (u16 b at ≡ 10) ⊎ All (λ x. x ≡ 1) (shape n (stepAt b at m)) → leb (count + 1) factLimit ≡ roomForAll count cs
         go (inl t) = absurd (x (sym t))
-        go (inr a) = ones count cs (subst (All (λ x. x ≡ 1)) (sym e) a) (omega (arith, some-child f s, length-map cs length, ap length e))
+        go (inr a) = ones count cs (subst (All (λ x. x ≡ 1)) (sym e) a) (omega (arith, some-child b n at m f s, length-map cs length, ap length e))
 
   -- ---- room among the pending splits
 

@@ -1,4 +1,4 @@
-// Steps of every rule: the numbers 8 to 10 of a split under claim 1 and of the child taken under claim 2, and a child's facts behind those of the branch.
+// Steps of every rule: the numbers 8 to 10 of a split under claim 1 and of the child taken under claim 2, whose facts go behind those of the branch.
 ghost use mathlib.Core.Path.{_≡_};
 ghost use mathlib.Core.Bool.{true};
 ghost use mathlib.Core.List.{List, _++_, map};
@@ -7,52 +7,26 @@ ghost use lib.ListN.{length};
 ghost use Rattle.calculus.specs.Limits.{factLimit};
 ghost use Rattle.calculus.specs.Facts.{Fact};
 ghost use Rattle.calculus.specs.Steps.{shape};
-ghost use Rattle.format.specs.StepForms.{ruleOf, rule, child, lengthFits, stepAt, childInRange};
+ghost use Rattle.format.specs.StepForms.{rule, child, lengthFits, stepAt, childInRange};
 ghost use Rattle.format.specs.Checking.{roomForAll, roomToPend, allTried, takenTried, nth};
-ghost use Rattle.question.specs.Posed.{asked, Posed};
+ghost use Rattle.question.specs.Posed.{asked};
 ghost use Rattle.rows.specs.Rows.{branchOf};
 ghost use Rattle.rows.specs.Work.{Fine};
-ghost use Rattle.steps.specs.Forms.{Formed};
+ghost use Rattle.steps.specs.Conclusions.{conclusionsOf};
+ghost use Rattle.steps.specs.declared.Conclusions.the-variants.{One, Several};
 ghost use Rattle.steps.specs.Offered.{offered, offeredChild};
-ghost use Rattle.splits.specs.Splits.{isSplit};
-ghost use Rattle.conclusions.specs.Made.{isClosing, isConcluding};
+ghost use Rattle.steps.specs.Ready.{Ready};
 use limits::FACT_LIMIT;
 use limits::PENDING_LIMIT;
 use question::Progress;
 use records::u16_at;
-
-// ---- rules by number
-
-// Does the rule of a number close a branch?
-pub fn is_closing(number: usize) -> bool
-    ensures { λ r. ⌜ r ≡ isClosing (ruleOf number) ⌝ }
-{
-    match number {
-        4 => true,
-        5 => true,
-        _ => false,
-    }
-}
-
-// Has the rule of a number one conclusion?
-pub fn is_concluding(number: usize) -> bool
-    ensures { λ r. ⌜ r ≡ isConcluding (ruleOf number) ⌝ }
-{
-    match number {
-        1 => true,
-        6 => true,
-        7 => true,
-        9 => true,
-        13 => true,
-        _ => false,
-    }
-}
+use steps::Conclusions;
 
 // ---- a split under claim 1
 
 // "10 when facts .. would pass theirs", of all children of a split: C-Valid's last child adds three facts, a child of any other rule one.
 fn room_for_all(ticket: &[u8], at: usize, size: usize, count: usize) -> bool
-    requires { ⌜ (at + size ≤ length (now ticket)) × (lengthFits (now ticket) at size ≡ true) × (isSplit (rule (now ticket) at) ≡ true) × (count ≤ factLimit) ⌝ }
+    requires { ⌜ (at + size ≤ length (now ticket)) × (lengthFits (now ticket) at size ≡ true) × (conclusionsOf (rule (now ticket) at) ≡ Several) × (count ≤ factLimit) ⌝ }
     ensures { λ r. ⌜ ((n : ℕ) (cs : List (List Fact)) → map length cs ≡ shape n (stepAt (now (ticket .entry)) at size) → r ≡ roomForAll count cs) ⌝ }
 {
     if u16_at(ticket, at) == 10 {
@@ -82,9 +56,8 @@ pub fn split_fault(
     count: usize,
     pending: usize,
 ) -> usize
-    requires { ⌜ Posed (now ticket) s ⌝ }
-    requires { ⌜ Formed (now ticket) (asked (now ticket) s) at size × (isSplit (rule (now ticket) at) ≡ true) ⌝ }
-    requires { ⌜ Fine (now work) count ⌝ }
+    requires { ⌜ Ready (now ticket) s at size (now work) count ⌝ }
+    requires { ⌜ conclusionsOf (rule (now ticket) at) ≡ Several ⌝ }
     ensures { λ r. ⌜ r ≡ allTried (branchOf (now (work .entry)) count) pending (offered (now (ticket .entry)) (asked (now (ticket .entry)) s) (branchOf (now (work .entry)) count) at size) ⌝ }
 {
     if !splits::fits(ticket, s, at, size, work, count) {
@@ -100,26 +73,6 @@ pub fn split_fault(
         return 10;
     }
     0
-}
-
-// Child k of a split, which was tried, behind the facts of the branch; the number of facts then.
-pub fn put_child(
-    ticket: &[u8],
-    s: Progress,
-    at: usize,
-    size: usize,
-    work: &mut [i64],
-    count: usize,
-    k: usize,
-) -> usize
-    requires { ⌜ Posed (now ticket) s ⌝ }
-    requires { ⌜ Formed (now ticket) (asked (now ticket) s) at size × (isSplit (rule (now ticket) at) ≡ true) ⌝ }
-    requires { ⌜ Fine (now work) count ⌝ }
-    requires { ⌜ takenTried (branchOf (now work) count) (nth (offered (now ticket) (asked (now ticket) s) (branchOf (now work) count) at size) k) ≡ 0 ⌝ }
-    ensures added { λ r. ⌜ branchOf (now (work .exit)) r ≡ branchOf (now (work .entry)) count ++ offeredChild (now (ticket .entry)) (asked (now (ticket .entry)) s) (branchOf (now (work .entry)) count) at size k ⌝ }
-    ensures fine { λ r. ⌜ Fine (now (work .exit)) r ⌝ }
-{
-    splits::put_child(ticket, s, at, size, work, count, k)
 }
 
 // ---- the child taken under claim 2
@@ -140,10 +93,9 @@ fn taken_fault(
     count: usize,
     k: usize,
 ) -> usize
-    requires { ⌜ Posed (now ticket) s ⌝ }
-    requires { ⌜ Formed (now ticket) (asked (now ticket) s) at size × (isSplit (rule (now ticket) at) ≡ true) ⌝ }
+    requires { ⌜ Ready (now ticket) s at size (now work) count ⌝ }
+    requires { ⌜ conclusionsOf (rule (now ticket) at) ≡ Several ⌝ }
     requires { ⌜ childInRange (s .n) (stepAt (now ticket) at size) k ≡ true ⌝ }
-    requires { ⌜ Fine (now work) count ⌝ }
     ensures { λ r. ⌜ r ≡ takenTried (branchOf (now (work .entry)) count) (nth (offered (now (ticket .entry)) (asked (now (ticket .entry)) s) (branchOf (now (work .entry)) count) at size) k) ⌝ }
 {
     if !splits::fits(ticket, s, at, size, work, count) {
@@ -159,7 +111,7 @@ fn taken_fault(
 }
 
 // The child taken of a split.
-fn take_split(
+fn take_split_child(
     ticket: &[u8],
     s: Progress,
     at: usize,
@@ -167,10 +119,9 @@ fn take_split(
     work: &mut [i64],
     count: usize,
 ) -> Taken
-    requires { ⌜ Posed (now ticket) s ⌝ }
-    requires { ⌜ Formed (now ticket) (asked (now ticket) s) at size × (isSplit (rule (now ticket) at) ≡ true) ⌝ }
+    requires { ⌜ Ready (now ticket) s at size (now work) count ⌝ }
+    requires { ⌜ conclusionsOf (rule (now ticket) at) ≡ Several ⌝ }
     requires { ⌜ childInRange (s .n) (stepAt (now ticket) at size) (child (now ticket) at) ≡ true ⌝ }
-    requires { ⌜ Fine (now work) count ⌝ }
     ensures fault { λ r. ⌜ r .fault ≡ takenTried (branchOf (now (work .entry)) count) (nth (offered (now (ticket .entry)) (asked (now (ticket .entry)) s) (branchOf (now (work .entry)) count) at size) (child (now (ticket .entry)) at)) ⌝ }
     ensures added { λ r. ⌜ (r .fault ≡ 0 → branchOf (now (work .exit)) (r .count) ≡ branchOf (now (work .entry)) count ++ offeredChild (now (ticket .entry)) (asked (now (ticket .entry)) s) (branchOf (now (work .entry)) count) at size (child (now (ticket .entry)) at)) ⌝ }
     ensures fine { λ r. ⌜ (r .fault ≡ 0 → Fine (now (work .exit)) (r .count)) ⌝ }
@@ -182,12 +133,12 @@ fn take_split(
     }
     Taken {
         fault: 0,
-        count: put_child(ticket, s, at, size, work, count, k),
+        count: splits::put_child(ticket, s, at, size, work, count, k),
     }
 }
 
 // The child taken of a rule with one conclusion: "it is 1 for a rule with one conclusion or none".
-fn take_conclusion(
+fn take_only_child(
     ticket: &[u8],
     s: Progress,
     at: usize,
@@ -195,10 +146,9 @@ fn take_conclusion(
     work: &mut [i64],
     count: usize,
 ) -> Taken
-    requires { ⌜ Posed (now ticket) s ⌝ }
-    requires { ⌜ Formed (now ticket) (asked (now ticket) s) at size × (isConcluding (rule (now ticket) at) ≡ true) ⌝ }
+    requires { ⌜ Ready (now ticket) s at size (now work) count ⌝ }
+    requires { ⌜ conclusionsOf (rule (now ticket) at) ≡ One ⌝ }
     requires { ⌜ childInRange (s .n) (stepAt (now ticket) at size) (child (now ticket) at) ≡ true ⌝ }
-    requires { ⌜ Fine (now work) count ⌝ }
     ensures fault { λ r. ⌜ r .fault ≡ takenTried (branchOf (now (work .entry)) count) (nth (offered (now (ticket .entry)) (asked (now (ticket .entry)) s) (branchOf (now (work .entry)) count) at size) (child (now (ticket .entry)) at)) ⌝ }
     ensures added { λ r. ⌜ (r .fault ≡ 0 → branchOf (now (work .exit)) (r .count) ≡ branchOf (now (work .entry)) count ++ offeredChild (now (ticket .entry)) (asked (now (ticket .entry)) s) (branchOf (now (work .entry)) count) at size (child (now (ticket .entry)) at)) ⌝ }
     ensures fine { λ r. ⌜ (r .fault ≡ 0 → Fine (now (work .exit)) (r .count)) ⌝ }
@@ -219,20 +169,15 @@ pub fn take_child(
     work: &mut [i64],
     count: usize,
 ) -> Taken
-    requires { ⌜ Posed (now ticket) s ⌝ }
-    requires { ⌜ Formed (now ticket) (asked (now ticket) s) at size ⌝ }
+    requires { ⌜ Ready (now ticket) s at size (now work) count ⌝ }
     requires { ⌜ childInRange (s .n) (stepAt (now ticket) at size) (child (now ticket) at) ≡ true ⌝ }
-    requires { ⌜ Fine (now work) count ⌝ }
     ensures fault { λ r. ⌜ r .fault ≡ takenTried (branchOf (now (work .entry)) count) (nth (offered (now (ticket .entry)) (asked (now (ticket .entry)) s) (branchOf (now (work .entry)) count) at size) (child (now (ticket .entry)) at)) ⌝ }
     ensures added { λ r. ⌜ (r .fault ≡ 0 → branchOf (now (work .exit)) (r .count) ≡ branchOf (now (work .entry)) count ++ offeredChild (now (ticket .entry)) (asked (now (ticket .entry)) s) (branchOf (now (work .entry)) count) at size (child (now (ticket .entry)) at)) ⌝ }
     ensures fine { λ r. ⌜ (r .fault ≡ 0 → Fine (now (work .exit)) (r .count)) ⌝ }
 {
-    let number = u16_at(ticket, at);
-    if is_closing(number) {
-        return Taken { fault: 8, count };
+    match steps::conclusions_of(u16_at(ticket, at)) {
+        Conclusions::Nothing => Taken { fault: 8, count },
+        Conclusions::One => take_only_child(ticket, s, at, size, work, count),
+        Conclusions::Several => take_split_child(ticket, s, at, size, work, count),
     }
-    if is_concluding(number) {
-        return take_conclusion(ticket, s, at, size, work, count);
-    }
-    take_split(ticket, s, at, size, work, count)
 }

@@ -7,15 +7,15 @@ use mathlib.Core.Bool.{Bool, true, false, _&&_}
 use mathlib.Core.Option.{some}
 use mathlib.Core.List.{List, [], _∷_, _++_, append-assoc}
 use borrow.Author.Tests.{le-leb, lt-leb, eq-eqb, ne-eqb}
-use lib.ListN.{length, getD, set, drop, getElem?}
+use lib.ListN.{length, set, drop, getElem?}
 use lib.Dec.{eqb, leb}
 use lib.IntN.{ℤ, pos, negsuc, negℤ, natAbs}
 use Rattle.calculus.specs.Limits.{numberLimit}
 use Rattle.calculus.specs.Rows.{number}
 use Rattle.calculus.specs.Facts.{Fact, same, apart, isLiteral, arithmetic, ge, eq, ne}
-use Rattle.calculus.specs.Children.{apartChildren, cValidChildren, boundChild}
+use Rattle.calculus.specs.Children.{childAt, apartChildren, cValidChildren, boundChild}
 use Rattle.calculus.specs.Rules.{then, parted, logUp, lastChild}
-use Rattle.format.specs.Checking.{fits, factWithin}
+use Rattle.format.specs.Checking.{fits, orNone, factWithin}
 use Rattle.format.specs.Fields.{allWithin}
 use Rattle.format.proofs.Faults.{not-both}
 use Rattle.rows.specs.Rows.{factOf, rowAt, branchOf}
@@ -24,26 +24,20 @@ use Rattle.rows.proofs.Forms.{column-single, minus-number, number-minus, less-c
 use Rattle.rows.proofs.Branches.{branch-at, branch-beyond}
 use Rattle.rows.proofs.Tags.{row-relation}
 use Rattle.question.specs.declared.Progress.{Progress}
+use Rattle.question.specs.Columns.{columnAt}
+use Rattle.question.specs.Posed.{numbered}
 use Rattle.constraints.proofs.Ranges.{within-set}
-use Rattle.splits.specs.Splits.{numbered, childOf}
 
 -- ---- a child by its number
 
-pub child-one : (c : List Fact) (cs : List (List Fact)) (k : ℕ) → k ≡ 1 → c ≡ childOf (some (c ∷ cs)) k
-unfolding childOf
-child-one c cs k e = ap (λ n. getD (c ∷ cs) (n - 1) []) (sym e)
+pub child-one : (c : List Fact) (cs : List (List Fact)) (k : ℕ) → k ≡ 1 → c ≡ orNone (childAt (c ∷ cs) k)
+child-one c cs k e = ap (λ n. orNone (childAt (c ∷ cs) n)) (sym e)
 
-pub child-two : (c d : List Fact) (cs : List (List Fact)) (k : ℕ) → k ≡ 2 → d ≡ childOf (some (c ∷ d ∷ cs)) k
-unfolding childOf
-child-two c d cs k e = ap (λ n. getD (c ∷ d ∷ cs) (n - 1) []) (sym e)
+pub child-two : (c d : List Fact) (cs : List (List Fact)) (k : ℕ) → k ≡ 2 → d ≡ orNone (childAt (c ∷ d ∷ cs) k)
+child-two c d cs k e = ap (λ n. orNone (childAt (c ∷ d ∷ cs) n)) (sym e)
 
-pub child-three : (c d e : List Fact) (cs : List (List Fact)) (k : ℕ) → k ≡ 3 → e ≡ childOf (some (c ∷ d ∷ e ∷ cs)) k
-unfolding childOf
-child-three c d e cs k q = ap (λ n. getD (c ∷ d ∷ e ∷ cs) (n - 1) []) (sym q)
-
-pub child-at : (cs : List (List Fact)) (k : ℕ) → childOf (some cs) k ≡ getD cs (k - 1) []
-unfolding childOf
-child-at cs k = refl
+pub child-three : (c d e : List Fact) (cs : List (List Fact)) (k : ℕ) → k ≡ 3 → e ≡ orNone (childAt (c ∷ d ∷ e ∷ cs) k)
+child-three c d e cs k q = ap (λ n. orNone (childAt (c ∷ d ∷ e ∷ cs) n)) (sym q)
 
 -- ---- Apart
 
@@ -96,26 +90,25 @@ ge-form row e h =
 
 -- ---- C-Valid
 
-module _ (s : Progress) (x : ℕ) (hl : s .q + x < 48) (hc : s .q + (s .p + x) < 48) where
-  pub first-is : cValidChildren (numbered s) x
-      ≡ (arithmetic ne (single (negsuc 0) (s .q + x) (pos 1)) ∷ arithmetic eq (single (pos 1) (s .q + (s .p + x)) (pos 1)) ∷ [])
-      ∷ (arithmetic eq (single (negsuc 0) (s .q + x) (pos 1)) ∷ arithmetic ge (single (pos 0) (s .q + (s .p + x)) (pos 1)) ∷ arithmetic ge (single (pos (s .n - 1)) (s .q + (s .p + x)) (negsuc 0)) ∷ [])
+module _ (s : Progress) (x len code : ℕ) (el : len ≡ columnAt (s .p) (s .q) 0 x) (ec : code ≡ columnAt (s .p) (s .q) 1 x) (hl : len < 48) (hc : code < 48) where
+  pub c-valid-children : cValidChildren (numbered s) x
+      ≡ (arithmetic ne (single (negsuc 0) len (pos 1)) ∷ arithmetic eq (single (pos 1) code (pos 1)) ∷ [])
+      ∷ (arithmetic eq (single (negsuc 0) len (pos 1)) ∷ arithmetic ge (single (pos 0) code (pos 1)) ∷ arithmetic ge (single (pos (s .n - 1)) code (negsuc 0)) ∷ [])
       ∷ []
-  first-is =
-      rw (less-column (s .q + x) hl, minus-number (s .q + (s .p + x)) hc (negsuc 0), number-minus (s .q + (s .p + x)) hc (pos (s .n - 1)), column-single (s .q + (s .p + x)) hc)
+  unfolding columnAt
+  c-valid-children = rw (sym el, sym ec, less-column len hl, minus-number code hc (negsuc 0), number-minus code hc (pos (s .n - 1)), column-single code hc)
 
   pub c-valid-one : (k : ℕ) → k ≡ 1
-      → arithmetic ne (single (negsuc 0) (s .q + x) (pos 1)) ∷ arithmetic eq (single (pos 1) (s .q + (s .p + x)) (pos 1)) ∷ [] ≡ childOf (some (cValidChildren (numbered s) x)) k
-  c-valid-one k e = child-one _ _ k e ∙ sym (ap (λ (cs : List (List Fact)). childOf (some cs) k) first-is)
+      → arithmetic ne (single (negsuc 0) len (pos 1)) ∷ arithmetic eq (single (pos 1) code (pos 1)) ∷ [] ≡ orNone (childAt (cValidChildren (numbered s) x) k)
+  c-valid-one k e = child-one _ _ k e ∙ sym (ap (λ (cs : List (List Fact)). orNone (childAt cs k)) c-valid-children)
 
   pub c-valid-two : (k : ℕ) → k ≡ 2
-      → arithmetic eq (single (negsuc 0) (s .q + x) (pos 1)) ∷ arithmetic ge (single (pos 0) (s .q + (s .p + x)) (pos 1)) ∷ arithmetic ge (single (pos (s .n - 1)) (s .q + (s .p + x)) (negsuc 0)) ∷ []
-      ≡ childOf (some (cValidChildren (numbered s) x)) k
-  c-valid-two k e = child-two _ _ _ k e ∙ sym (ap (λ (cs : List (List Fact)). childOf (some cs) k) first-is)
+      → arithmetic eq (single (negsuc 0) len (pos 1)) ∷ arithmetic ge (single (pos 0) code (pos 1)) ∷ arithmetic ge (single (pos (s .n - 1)) code (negsuc 0)) ∷ []
+      ≡ orNone (childAt (cValidChildren (numbered s) x) k)
+  c-valid-two k e = child-two _ _ _ k e ∙ sym (ap (λ (cs : List (List Fact)). orNone (childAt cs k)) c-valid-children)
 
 -- its first child adds two facts, its second three
-pub c-valid-size : (s : Progress) (x k : ℕ) → 1 ≤ k → k ≤ 2 → length (childOf (some (cValidChildren (numbered s) x)) k) ≡ k + 1
-unfolding childOf
+pub c-valid-size : (s : Progress) (x k : ℕ) → 1 ≤ k → k ≤ 2 → length (orNone (childAt (cValidChildren (numbered s) x) k)) ≡ k + 1
 c-valid-size s x zero h g = absurd (omega arith)
 c-valid-size s x (suc zero) h g = refl
 c-valid-size s x (suc (suc zero)) h g = refl

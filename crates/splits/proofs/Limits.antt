@@ -5,28 +5,35 @@ use native.Mathlib.Decide.{ℕ-discrete, decLt}
 use mathlib.Core.Path.{_≡_, refl, sym, _∙_, ap, ap₂, subst}
 use mathlib.Core.Bool.{Bool, true, false, _&&_}
 use mathlib.Core.Option.{Option, some}
-use mathlib.Core.List.{List, [], _∷_}
-use lib.ListN.{length, getD}
+use mathlib.Core.List.{List, [], _∷_, _++_}
+use lib.ListN.{length, getD, length-append}
 use lib.Dec.{leb}
 use lib.IntN.{ℤ, pos, negsuc, negℤ, natAbs, _+ℤ_, _*ℤ_}
+use Rattle.lists.proofs.Every.{every-append}
 use Rattle.integers.proofs.Laws.{abs-neg, minus-one-*ℤ}
-use Rattle.calculus.specs.Limits.{numberLimit}
+use Rattle.calculus.specs.Limits.{numberLimit, factLimit}
 use Rattle.calculus.specs.Rows.{scale, less, below}
 use Rattle.calculus.specs.Facts.{Fact, isLiteral, arithmetic, ge}
 use Rattle.calculus.specs.Children.{lValidChildren, cValidChildren, cInjChildren, pairsWith, pairs}
-use Rattle.calculus.specs.Rules.{logUp, lastChild, children}
+use Rattle.calculus.specs.Rules.{logUp, lastChild}
 use Rattle.format.specs.Fields.{u16, u16s, within, allWithin}
-use Rattle.format.specs.StepForms.{rule, stepOf}
-use Rattle.format.specs.Checking.{fits, orNone, factWithin, factsWithin, childrenWithin}
+use Rattle.format.specs.StepForms.{rule}
+use Rattle.format.specs.Checking.{fits, orNone, nth, factWithin, factsWithin, childrenWithin}
 use Rattle.format.proofs.Faults.{and-true}
 use Rattle.rows.specs.Rows.{branchOf}
+use Rattle.rows.specs.Work.{Fine}
+use Rattle.rows.proofs.Branches.{length-branch}
 use Rattle.rows.proofs.Forms.{less-form, below-form, less-column, minus-number, columns-difference}
 use Rattle.question.specs.declared.Progress.{Progress}
-use Rattle.question.specs.Posed.{asked}
-use Rattle.splits.specs.Splits.{Ready, numbered, childOf}
+use Rattle.question.specs.Columns.{columnAt}
+use Rattle.question.specs.Posed.{numbered}
+use Rattle.steps.specs.Conclusions.{conclusionsOf}
+use Rattle.steps.specs.declared.Conclusions.the-variants.{Several}
+use Rattle.steps.specs.Ready.{Ready}
+use Rattle.steps.proofs.Bodies.{given, variable, card-left, branch-left}
 use Rattle.splits.proofs.Variables.{below-first}
-use Rattle.splits.proofs.Forms.{first-is, last-is, last-none, within-single, within-difference}
-use Rattle.splits.proofs.Operands.{card-left, branch-number, l-valid-operands, c-valid-operands, c-inj-operands, card-operands, branch-child, apart-child, l-valid-child, c-valid-child, c-inj-differ, c-inj-child, card-child}
+use Rattle.splits.proofs.Forms.{c-valid-children, last-is, last-none, within-single, within-difference}
+use Rattle.splits.proofs.Operands.{c-inj-operands, card-operands, branch-child, apart-child, l-valid-child, c-valid-child, c-inj-differ, c-inj-child, card-child}
 
 -- ---- one child of all
 
@@ -38,20 +45,10 @@ pub one-within : (f : Fact) → factWithin f ≡ factsWithin (f ∷ [])
 unfolding factsWithin
 one-within f = and-one (factWithin f)
 
-at-within : (cs : List (List Fact)) (j : ℕ) → childrenWithin cs ≡ true → factsWithin (getD cs j []) ≡ true
-unfolding childrenWithin factsWithin
-at-within [] j e = refl
-at-within (c ∷ cs) zero e = and-true (factsWithin c) (childrenWithin cs) e .0
-at-within (c ∷ cs) (suc j) e = at-within cs j (and-true (factsWithin c) (childrenWithin cs) e .1)
-
-pub child-within : (o : Option (List (List Fact))) (k : ℕ) → childrenWithin (orNone o) ≡ true → factsWithin (childOf o k) ≡ true
-unfolding childOf
-child-within o k e = at-within (orNone o) (k - 1) e
-
-pub two-within : (o : Option (List (List Fact))) (c d : List Fact) → o ≡ some (c ∷ d ∷ []) → childrenWithin (orNone o) ≡ (factsWithin (childOf o 1) && factsWithin (childOf o 2))
-unfolding childOf childrenWithin
+pub two-within : (o : Option (List (List Fact))) (c d : List Fact) → o ≡ some (c ∷ d ∷ []) → childrenWithin (orNone o) ≡ (factsWithin (orNone (nth o 1)) && factsWithin (orNone (nth o 2)))
+unfolding childrenWithin
 two-within o c d e =
-    subst (λ p. childrenWithin (orNone p) ≡ (factsWithin (getD (orNone p) (1 - 1) []) && factsWithin (getD (orNone p) (2 - 1) []))) (sym e)
+    subst (λ (p : Option (List (List Fact))). childrenWithin (orNone p) ≡ (factsWithin (orNone (nth p 1)) && factsWithin (orNone (nth p 2)))) (sym e)
     (ap (λ t. factsWithin c && t) (sym (and-one (factsWithin d))))
 
 -- ---- Branch and Apart: only the constant of e − 1 and of −e − 1 can pass the limit
@@ -89,9 +86,9 @@ module _ (s : Progress) (x : ℕ) (hl : s .q + x < 48) where
       ∙ ap (λ t. (t && true) && true) (within-single (negsuc 0) (s .q + x) (pos 1) (omega arith) (omega arith))
 
   c-valid-within : s .q + (s .p + x) < 48 → s .n ≤ 196608 → childrenWithin (cValidChildren (numbered s) x) ≡ true
-  unfolding childrenWithin factsWithin
+  unfolding childrenWithin factsWithin columnAt
   c-valid-within hc hn =
-      ap childrenWithin (first-is s x hl hc)
+      ap childrenWithin (c-valid-children s x (s .q + x) (s .q + (s .p + x)) refl refl hl hc)
       ∙ rw (
         within-single (negsuc 0) (s .q + x) (pos 1) (omega arith) (omega arith),
         within-single (pos 1) (s .q + (s .p + x)) (pos 1) (omega arith) (omega arith),
@@ -140,45 +137,58 @@ last-within s x m h g = go (decLt 1 (s .n))
 
 -- ---- by the rule's number
 
-module _ (b : List ℕ) (s : Progress) (at m : ℕ) (w : List ℤ) (count : ℕ) (h : Ready b s at m w count)
-    (f : fits (children (asked b s) (branchOf w count) (stepOf b (rule b at) at m)) ≡ true) where
-  of : (cs : List (List Fact)) → children (asked b s) (branchOf w count) (stepOf b (rule b at) at m) ≡ some cs → childrenWithin cs ≡ true
-      → childrenWithin (orNone (children (asked b s) (branchOf w count) (stepOf b (rule b at) at m))) ≡ true
+module _ {b : List ℕ} {s : Progress} {at m : ℕ} {w : List ℤ} {count : ℕ} (h : Ready b s at m w count) (several : conclusionsOf (rule b at) ≡ Several) (f : fits (given h) ≡ true) where
+  of : (cs : List (List Fact)) → given h ≡ some cs → childrenWithin cs ≡ true
+      → childrenWithin (orNone (given h)) ≡ true
   of cs e t = ap (λ (o : Option (List (List Fact))). childrenWithin (orNone o)) e ∙ t
 
-  pub others-within : 3 < u16 b at → childrenWithin (orNone (children (asked b s) (branchOf w count) (stepOf b (rule b at) at m))) ≡ true
+  pub others-within : 3 < u16 b at → childrenWithin (orNone (given h)) ≡ true
   others-within g = go (ℕ-discrete (u16 b at) 8) (ℕ-discrete (u16 b at) 10) (ℕ-discrete (u16 b at) 11)
     where
-      go : Dec (u16 b at ≡ 8) → Dec (u16 b at ≡ 10) → Dec (u16 b at ≡ 11) → childrenWithin (orNone (children (asked b s) (branchOf w count) (stepOf b (rule b at) at m))) ≡ true
+      go : Dec (u16 b at ≡ 8) → Dec (u16 b at ≡ 10) → Dec (u16 b at ≡ 11) → childrenWithin (orNone (given h)) ≡ true
       go (yes e) d d' =
-          let few = h .few-strings in
-          let fewer = h .few-integers in
-          let l : u16 b (at + 4) < s .p = l-valid-operands b s at m w count h (sym e) .1 in
-          of _ (l-valid-child b s at m w count h f (sym e)) (l-valid-within s (u16 b (at + 4)) (omega arith))
+          let few = h .posed .stands .few-strings in
+          let fewer = h .posed .stands .few-integers in
+          let l : u16 b (at + 4) < s .p = variable h 8 (omega arith) (omega arith) (sym e) .1 in
+          of _ (l-valid-child h (sym e)) (l-valid-within s (u16 b (at + 4)) (omega arith))
       go (no n8) (yes e) d' =
-          let few = h .few-strings in
-          let fewer = h .few-integers in
-          let l : u16 b (at + 4) < s .p = c-valid-operands b s at m w count h (sym e) .1 in
-          of _ (c-valid-child b s at m w count h f (sym e)) (c-valid-within s (u16 b (at + 4)) (omega arith) (omega arith) (h .few-characters))
+          let few = h .posed .stands .few-strings in
+          let fewer = h .posed .stands .few-integers in
+          let l : u16 b (at + 4) < s .p = variable h 10 (omega arith) (omega arith) (sym e) .1 in
+          of _ (c-valid-child h (sym e)) (c-valid-within s (u16 b (at + 4)) (omega arith) (omega arith) (h .posed .stands .few-characters))
       go (no n8) (no n10) (yes e) =
-          let few = h .few-strings in
-          let fewer = h .few-integers in
-          let l : u16 b (at + 4) < s .p = c-inj-operands b s at m w count h (sym e) .1 in
-          let r : u16 b (at + 6) < s .p = c-inj-operands b s at m w count h (sym e) .2 in
-          of _ (c-inj-child b s at m w count h f (sym e)) (c-inj-within s (u16 b (at + 4)) (u16 b (at + 6)) (omega arith) (omega arith) (c-inj-differ b s at m w count h f (sym e)))
+          let few = h .posed .stands .few-strings in
+          let fewer = h .posed .stands .few-integers in
+          let l : u16 b (at + 4) < s .p = c-inj-operands h (sym e) .1 in
+          let r : u16 b (at + 6) < s .p = c-inj-operands h (sym e) .2 in
+          of _ (c-inj-child h f (sym e)) (c-inj-within s (u16 b (at + 4)) (u16 b (at + 6)) (omega arith) (omega arith) (c-inj-differ h f (sym e)))
       go (no n8) (no n10) (no n11) =
-          let e = card-left (u16 b at) (h .splits) (λ q. omega arith) (λ q. omega arith) n8 n10 n11 in
-          let o = card-operands b s at m w count h (sym e) in
+          let e = card-left h (u16 b at) refl several (λ q. omega arith) (λ q. omega arith) n8 n10 n11 in
+          let o = card-operands h e in
           let two : 2 ≤ (m - 4) / 2 = o .0 in
           let most : (m - 4) / 2 ≤ 16 = o .1 in
-          let few = h .few-strings in
-          let fewer = h .few-integers in
+          let few = h .posed .stands .few-strings in
+          let fewer = h .posed .stands .few-integers in
           let l : u16 b (at + 4) < s .p = below-first b (s .p) (at + 4) ((m - 4) / 2) (omega arith) (o .3) in
-          of _ (card-child b s at m w count h f (sym e)) (pairs-within (u16s b (at + 4) ((m - 4) / 2)) (lastChild (numbered s) (u16 b (at + 4)) ((m - 4) / 2)) ∙ last-within s (u16 b (at + 4)) ((m - 4) / 2) (omega arith) most)
+          of _ (card-child h f e) (pairs-within (u16s b (at + 4) ((m - 4) / 2)) (lastChild (numbered s) (u16 b (at + 4)) ((m - 4) / 2)) ∙ last-within s (u16 b (at + 4)) ((m - 4) / 2) (omega arith) most)
 
-  pub two-children : u16 b at ≤ 3 → (c : List Fact) × (d : List Fact) × (children (asked b s) (branchOf w count) (stepOf b (rule b at) at m) ≡ some (c ∷ d ∷ []))
+  pub two-children : u16 b at ≤ 3 → (c : List Fact) × (d : List Fact) × (given h ≡ some (c ∷ d ∷ []))
   two-children g = go (ℕ-discrete (u16 b at) 3)
     where
-      go : Dec (u16 b at ≡ 3) → (c : List Fact) × (d : List Fact) × (children (asked b s) (branchOf w count) (stepOf b (rule b at) at m) ≡ some (c ∷ d ∷ []))
-      go (yes e) = (_, _, apart-child b s at m w count h f (sym e))
-      go (no n) = (_, _, branch-child b s at m w count h f (branch-number b s at m w count h (u16 b at) refl g n))
+      go : Dec (u16 b at ≡ 3) → (c : List Fact) × (d : List Fact) × (given h ≡ some (c ∷ d ∷ []))
+      go (yes e) = (_, _, apart-child h f (sym e))
+      go (no n) = (_, _, branch-child h (branch-left h (u16 b at) refl several g n))
+
+-- ---- a child within the limits
+
+-- a child's facts are put behind those of the branch
+pub fine-added : (w v : List ℤ) (count r : ℕ) (c : List Fact) → Fine w count → length v ≡ length w → branchOf v r ≡ branchOf w count ++ c → length (branchOf w count) + length c ≤ factLimit → factsWithin c ≡ true → Fine v r
+unfolding factsWithin
+fine-added w v count r c fine l e h t =
+    let n : r ≡ length (branchOf w count) + length c = sym (length-branch v r) ∙ ap length e ∙ length-append (branchOf w count) c in
+    let room = fine .room in
+    record {
+      few = omega arith;
+      room = omega arith;
+      small = ap factsWithin e ∙ every-append factWithin (branchOf w count) c ∙ ap₂ _&&_ (fine .small) t;
+    }

@@ -2,25 +2,28 @@
 ghost use mathlib.Core.Path.{_≡_};
 ghost use mathlib.Core.Logic.{_≢_};
 ghost use mathlib.Core.Bool.{true};
-ghost use mathlib.Core.Option.{some};
 ghost use mathlib.Core.List.{[], _∷_, _++_};
 ghost use Prim.Native.Nat.{_+_, _*_, _≤_, _<_};
 ghost use lib.ListN.{length, getElem?, drop};
 ghost use lib.IntN.{pos, negsuc};
 ghost use Rattle.calculus.specs.Limits.{alphabetLimit, variableLimit, columnLimit, factLimit, workNumbers};
 ghost use Rattle.calculus.specs.Facts.{arithmetic, ge, eq, ne};
-ghost use Rattle.calculus.specs.Children.{splitChildren, apartChildren, lValidChildren, cValidChildren, cInjChildren, pairs};
-ghost use Rattle.calculus.specs.Rules.{then, parted, elem, distinct, neighbours, lastChild, cardChildren, children};
+ghost use Rattle.calculus.specs.Children.{childAt, splitChildren, apartChildren, lValidChildren, cValidChildren, cInjChildren, pairs};
+ghost use Rattle.calculus.specs.Rules.{then, parted, elem, distinct, neighbours, lastChild, cardChildren};
 ghost use Rattle.format.specs.Fields.{u16, u16s};
 ghost use Rattle.format.specs.Question.{formRange, formOf};
-ghost use Rattle.format.specs.StepForms.{variables, stepAt};
-ghost use Rattle.format.specs.Checking.{fits as fitting, orNone, factWithin, factsWithin, childrenWithin};
+ghost use Rattle.format.specs.StepForms.{rule, variables};
+ghost use Rattle.format.specs.Checking.{fits as fitting, orNone, factWithin, factsWithin, childrenWithin, takenTried, nth};
 ghost use Rattle.rows.specs.Rows.{rowLength, factOf, rowAt, branchOf};
-ghost use Rattle.rows.specs.Work.{kindOf, single};
-ghost use Rattle.question.specs.Posed.{asked};
-ghost use Rattle.splits.specs.Splits.{Ready, Numbered, numbered, childOf};
+ghost use Rattle.rows.specs.Work.{Fine, kindOf, single};
+ghost use Rattle.question.specs.Posed.{asked, numbered};
+ghost use Rattle.steps.specs.Conclusions.{conclusionsOf};
+ghost use Rattle.steps.specs.declared.Conclusions.the-variants.{Several};
+ghost use Rattle.steps.specs.Offered.{offered, offeredChild};
+ghost use Rattle.steps.specs.Ready.{Ready};
 use limits::ROW_LENGTH;
 use question::Progress;
+use question::column_of;
 use records::u16_at;
 
 // ---- whether a step fits
@@ -90,7 +93,12 @@ fn lengths_agree(
     while 0 < left {
         let x = u16_at(b, i);
         let y = u16_at(b, i + 2);
-        if !rows::states_equal(work, count, s.q + x, s.q + y) {
+        if !rows::states_equal(
+            work,
+            count,
+            column_of(s.p, s.q, 0, x),
+            column_of(s.p, s.q, 0, y),
+        ) {
             return false;
         }
         i += 2;
@@ -115,7 +123,8 @@ fn card_fits(b: &[u8], s: Progress, at: usize, m: usize, work: &[i64], count: us
 // Whether a step fits.
 pub fn fits(ticket: &[u8], s: Progress, at: usize, size: usize, work: &[i64], count: usize) -> bool
     requires { ⌜ Ready (now ticket) s at size (now work) count ⌝ }
-    ensures { λ r. ⌜ r ≡ fitting (children (asked (now (ticket .entry)) s) (branchOf (now (work .entry)) count) (stepAt (now (ticket .entry)) at size)) ⌝ }
+    requires { ⌜ conclusionsOf (rule (now ticket) at) ≡ Several ⌝ }
+    ensures { λ r. ⌜ r ≡ fitting (offered (now (ticket .entry)) (asked (now (ticket .entry)) s) (branchOf (now (work .entry)) count) at size) ⌝ }
 {
     let number = u16_at(ticket, at);
     match number {
@@ -134,7 +143,7 @@ pub fn fits(ticket: &[u8], s: Progress, at: usize, size: usize, work: &[i64], co
 fn fill_branch(row: &mut [i64], b: &[u8], at: usize, pairs: usize, k: usize)
     requires { ⌜ (length (now row) ≡ rowLength) × (at + 4 + 6 * pairs ≤ length (now b)) × (1 ≤ k) × (k ≤ 2) ⌝ }
     requires { ⌜ formRange (now b) columnLimit at pairs ≡ true ⌝ }
-    ensures { λ _. ⌜ factOf (now (row .exit)) ∷ [] ≡ childOf (some (splitChildren (formOf (now (b .entry)) at pairs))) k ⌝ }
+    ensures { λ _. ⌜ factOf (now (row .exit)) ∷ [] ≡ orNone (childAt (splitChildren (formOf (now (b .entry)) at pairs)) k) ⌝ }
 {
     constraints::fill_form(row, b, 0, at, pairs);
     if k == 1 {
@@ -146,7 +155,7 @@ fn fill_branch(row: &mut [i64], b: &[u8], at: usize, pairs: usize, k: usize)
 fn put_branch(work: &mut [i64], count: usize, b: &[u8], at: usize, pairs: usize, k: usize)
     requires { ⌜ (count < factLimit) × (workNumbers ≤ length (now work)) × (at + 4 + 6 * pairs ≤ length (now b)) × (1 ≤ k) × (k ≤ 2) ⌝ }
     requires { ⌜ formRange (now b) columnLimit at pairs ≡ true ⌝ }
-    ensures { λ _. ⌜ branchOf (now (work .exit)) (count + 1) ≡ branchOf (now (work .entry)) count ++ childOf (some (splitChildren (formOf (now (b .entry)) at pairs))) k ⌝ }
+    ensures { λ _. ⌜ branchOf (now (work .exit)) (count + 1) ≡ branchOf (now (work .entry)) count ++ orNone (childAt (splitChildren (formOf (now (b .entry)) at pairs)) k) ⌝ }
 {
     let from = ROW_LENGTH * count;
     let to = from + ROW_LENGTH;
@@ -157,7 +166,7 @@ fn put_branch(work: &mut [i64], count: usize, b: &[u8], at: usize, pairs: usize,
 fn fill_apart(out: &mut [i64], work: &[i64], fact: usize, k: usize)
     requires { ⌜ (length (now out) ≡ rowLength) × (fact < factLimit) × (workNumbers ≤ length (now work)) × (1 ≤ k) × (k ≤ 2) ⌝ }
     requires { ⌜ (kindOf (factOf (rowAt (now work) fact)) ≡ 2) × (factWithin (factOf (rowAt (now work) fact)) ≡ true) ⌝ }
-    ensures { λ _. ⌜ factOf (now (out .exit)) ∷ [] ≡ childOf (some (apartChildren (drop 1 (rowAt (now (work .entry)) fact)))) k ⌝ }
+    ensures { λ _. ⌜ factOf (now (out .exit)) ∷ [] ≡ orNone (childAt (apartChildren (drop 1 (rowAt (now (work .entry)) fact))) k) ⌝ }
 {
     let row = rows::row_at(work, fact);
     if k == 1 {
@@ -171,7 +180,7 @@ fn fill_apart(out: &mut [i64], work: &[i64], fact: usize, k: usize)
 fn put_apart(work: &mut [i64], count: usize, fact: usize, k: usize)
     requires { ⌜ (count < factLimit) × (fact < factLimit) × (workNumbers ≤ length (now work)) × (1 ≤ k) × (k ≤ 2) ⌝ }
     requires { ⌜ (kindOf (factOf (rowAt (now work) fact)) ≡ 2) × (factWithin (factOf (rowAt (now work) fact)) ≡ true) ⌝ }
-    ensures { λ _. ⌜ branchOf (now (work .exit)) (count + 1) ≡ branchOf (now (work .entry)) count ++ childOf (some (apartChildren (drop 1 (rowAt (now (work .entry)) fact)))) k ⌝ }
+    ensures { λ _. ⌜ branchOf (now (work .exit)) (count + 1) ≡ branchOf (now (work .entry)) count ++ orNone (childAt (apartChildren (drop 1 (rowAt (now (work .entry)) fact))) k) ⌝ }
 {
     let mut row = [0i64; ROW_LENGTH];
     fill_apart(&mut row, work, fact, k);
@@ -181,29 +190,29 @@ fn put_apart(work: &mut [i64], count: usize, fact: usize, k: usize)
 // L-Valid: "Children x ≈ literal 0; len(x) − 1 ≥ 0".
 fn put_l_valid(work: &mut [i64], count: usize, s: Progress, x: usize, k: usize)
     requires { ⌜ (count < factLimit) × (workNumbers ≤ length (now work)) ⌝ }
-    requires { ⌜ (x < variableLimit) × (s .q ≤ variableLimit) × (1 ≤ k) × (k ≤ 2) ⌝ }
-    ensures { λ _. ⌜ branchOf (now (work .exit)) (count + 1) ≡ branchOf (now (work .entry)) count ++ childOf (some (lValidChildren (numbered s) x)) k ⌝ }
+    requires { ⌜ (x < variableLimit) × (s .p ≤ variableLimit) × (s .q ≤ variableLimit) × (1 ≤ k) × (k ≤ 2) ⌝ }
+    ensures { λ _. ⌜ branchOf (now (work .exit)) (count + 1) ≡ branchOf (now (work .entry)) count ++ orNone (childAt (lValidChildren (numbered s) x) k) ⌝ }
 {
     if k == 1 {
         rows::put_string(work, count, 2, x, 0);
         return;
     }
-    rows::put_single(work, count, 0, -1, s.q + x, 1);
+    rows::put_single(work, count, 0, -1, column_of(s.p, s.q, 0, x), 1);
 }
 
 // C-Inj: "Children code(x) = −1; code(x) − code(y) ≠ 0; x ≈ y".
 fn put_c_inj(work: &mut [i64], count: usize, s: Progress, x: usize, y: usize, k: usize)
     requires { ⌜ (count < factLimit) × (workNumbers ≤ length (now work)) ⌝ }
     requires { ⌜ (x < variableLimit) × (y < variableLimit) × (x ≢ y) × (s .p ≤ variableLimit) × (s .q ≤ variableLimit) × (1 ≤ k) × (k ≤ 3) ⌝ }
-    ensures { λ _. ⌜ branchOf (now (work .exit)) (count + 1) ≡ branchOf (now (work .entry)) count ++ childOf (some (cInjChildren (numbered s) x y)) k ⌝ }
+    ensures { λ _. ⌜ branchOf (now (work .exit)) (count + 1) ≡ branchOf (now (work .entry)) count ++ orNone (childAt (cInjChildren (numbered s) x y) k) ⌝ }
 {
-    let first = s.q + (s.p + x);
+    let first = column_of(s.p, s.q, 1, x);
     if k == 1 {
         rows::put_single(work, count, 1, 1, first, 1);
         return;
     }
     if k == 2 {
-        rows::put_difference(work, count, 2, first, s.q + (s.p + y));
+        rows::put_difference(work, count, 2, first, column_of(s.p, s.q, 1, y));
         return;
     }
     rows::put_string(work, count, 0, x, y);
@@ -212,11 +221,11 @@ fn put_c_inj(work: &mut [i64], count: usize, s: Progress, x: usize, y: usize, k:
 // Card: "last, len(x_1) ≥ L", of m variables.
 fn put_bound(work: &mut [i64], count: usize, s: Progress, x: usize, m: usize)
     requires { ⌜ (count < factLimit) × (workNumbers ≤ length (now work)) ⌝ }
-    requires { ⌜ (x < variableLimit) × (m ≤ variableLimit) × (2 ≤ s .n) × (s .n ≤ alphabetLimit) × (s .q ≤ variableLimit) ⌝ }
-    ensures { λ _. ⌜ branchOf (now (work .exit)) (count + 1) ≡ branchOf (now (work .entry)) count ++ childOf (some (lastChild (numbered s) x m)) 1 ⌝ }
+    requires { ⌜ (x < variableLimit) × (m ≤ variableLimit) × (2 ≤ s .n) × (s .n ≤ alphabetLimit) × (s .p ≤ variableLimit) × (s .q ≤ variableLimit) ⌝ }
+    ensures { λ _. ⌜ branchOf (now (work .exit)) (count + 1) ≡ branchOf (now (work .entry)) count ++ orNone (childAt (lastChild (numbered s) x m) 1) ⌝ }
 {
     let bound = classes::log_up(s.n, m) as i64;
-    rows::put_single(work, count, 0, 0 - bound, s.q + x, 1);
+    rows::put_single(work, count, 0, 0 - bound, column_of(s.p, s.q, 0, x), 1);
 }
 
 // Card: "Children, for each pair i < j in lexicographic order, x_i ≈ x_j; last, len(x_1) ≥ L", of the m variables from a position.
@@ -225,7 +234,7 @@ fn put_card(work: &mut [i64], count: usize, b: &[u8], s: Progress, at: usize, m:
     requires { ⌜ (2 ≤ m) × (m ≤ variableLimit) × (at + 2 * m ≤ length (now b)) × (variables (s .p) (u16s (now b) at m) ≡ true) ⌝ }
     requires { ⌜ (s .p ≤ variableLimit) × (s .q ≤ variableLimit) × (1 ≤ s .n) × (s .n ≤ alphabetLimit) ⌝ }
     requires { ⌜ (1 ≤ k) × (k ≤ length (pairs (u16s (now b) at m) (lastChild (numbered s) (u16 (now b) at) m))) ⌝ }
-    ensures { λ _. ⌜ branchOf (now (work .exit)) (count + 1) ≡ branchOf (now (work .entry)) count ++ childOf (some (pairs (u16s (now (b .entry)) at m) (lastChild (numbered s) (u16 (now (b .entry)) at) m))) k ⌝ }
+    ensures { λ _. ⌜ branchOf (now (work .exit)) (count + 1) ≡ branchOf (now (work .entry)) count ++ orNone (childAt (pairs (u16s (now (b .entry)) at m) (lastChild (numbered s) (u16 (now (b .entry)) at) m)) k) ⌝ }
 {
     let mut i = at;
     let mut others = m - 1;
@@ -255,9 +264,10 @@ fn put_fact(
     k: usize,
 )
     requires { ⌜ Ready (now ticket) s at size (now work) count ⌝ }
+    requires { ⌜ conclusionsOf (rule (now ticket) at) ≡ Several ⌝ }
     requires { ⌜ (u16 (now ticket) at ≢ 10) × (count < factLimit) ⌝ }
-    requires { ⌜ Numbered (children (asked (now ticket) s) (branchOf (now work) count) (stepAt (now ticket) at size)) k ⌝ }
-    ensures { λ _. ⌜ branchOf (now (work .exit)) (count + 1) ≡ branchOf (now (work .entry)) count ++ childOf (children (asked (now (ticket .entry)) s) (branchOf (now (work .entry)) count) (stepAt (now (ticket .entry)) at size)) k ⌝ }
+    requires { ⌜ fitting (nth (offered (now ticket) (asked (now ticket) s) (branchOf (now work) count) at size) k) ≡ true ⌝ }
+    ensures { λ _. ⌜ branchOf (now (work .exit)) (count + 1) ≡ branchOf (now (work .entry)) count ++ offeredChild (now (ticket .entry)) (asked (now (ticket .entry)) s) (branchOf (now (work .entry)) count) at size k ⌝ }
 {
     let number = u16_at(ticket, at);
     match number {
@@ -301,10 +311,10 @@ fn put_coded(work: &mut [i64], count: usize, len: usize, code: usize, last: usiz
 fn put_c_valid(work: &mut [i64], count: usize, s: Progress, x: usize, k: usize) -> usize
     requires { ⌜ (count + k + 1 ≤ factLimit) × (workNumbers ≤ length (now work)) × (1 ≤ k) × (k ≤ 2) × (x < variableLimit) ⌝ }
     requires { ⌜ (s .p ≤ variableLimit) × (s .q ≤ variableLimit) × (1 ≤ s .n) × (s .n ≤ alphabetLimit) ⌝ }
-    ensures { λ r. ⌜ branchOf (now (work .exit)) r ≡ branchOf (now (work .entry)) count ++ childOf (some (cValidChildren (numbered s) x)) k ⌝ }
+    ensures { λ r. ⌜ branchOf (now (work .exit)) r ≡ branchOf (now (work .entry)) count ++ orNone (childAt (cValidChildren (numbered s) x) k) ⌝ }
 {
-    let len = s.q + x;
-    let code = s.q + (s.p + x);
+    let len = column_of(s.p, s.q, 0, x);
+    let code = column_of(s.p, s.q, 1, x);
     if k == 1 {
         put_codeless(work, count, len, code);
         return count + 2;
@@ -313,7 +323,7 @@ fn put_c_valid(work: &mut [i64], count: usize, s: Progress, x: usize, k: usize) 
     count + 3
 }
 
-// Child k behind the facts of the branch; the number of facts then.
+// Child k, which was tried, behind the facts of the branch; the number of facts then.
 pub fn put_child(
     ticket: &[u8],
     s: Progress,
@@ -324,9 +334,10 @@ pub fn put_child(
     k: usize,
 ) -> usize
     requires { ⌜ Ready (now ticket) s at size (now work) count ⌝ }
-    requires { ⌜ Numbered (children (asked (now ticket) s) (branchOf (now work) count) (stepAt (now ticket) at size)) k ⌝ }
-    requires { ⌜ count + length (childOf (children (asked (now ticket) s) (branchOf (now work) count) (stepAt (now ticket) at size)) k) ≤ factLimit ⌝ }
-    ensures { λ r. ⌜ branchOf (now (work .exit)) r ≡ branchOf (now (work .entry)) count ++ childOf (children (asked (now (ticket .entry)) s) (branchOf (now (work .entry)) count) (stepAt (now (ticket .entry)) at size)) k ⌝ }
+    requires { ⌜ conclusionsOf (rule (now ticket) at) ≡ Several ⌝ }
+    requires { ⌜ takenTried (branchOf (now work) count) (nth (offered (now ticket) (asked (now ticket) s) (branchOf (now work) count) at size) k) ≡ 0 ⌝ }
+    ensures added { λ r. ⌜ branchOf (now (work .exit)) r ≡ branchOf (now (work .entry)) count ++ offeredChild (now (ticket .entry)) (asked (now (ticket .entry)) s) (branchOf (now (work .entry)) count) at size k ⌝ }
+    ensures fine { λ r. ⌜ Fine (now (work .exit)) r ⌝ }
 {
     let number = u16_at(ticket, at);
     if number == 10 {
@@ -342,7 +353,7 @@ pub fn put_child(
 fn apart_within(work: &[i64], fact: usize, k: usize) -> bool
     requires { ⌜ (fact < factLimit) × (workNumbers ≤ length (now work)) × (1 ≤ k) × (k ≤ 2) ⌝ }
     requires { ⌜ (kindOf (factOf (rowAt (now work) fact)) ≡ 2) × (factWithin (factOf (rowAt (now work) fact)) ≡ true) ⌝ }
-    ensures { λ r. ⌜ r ≡ factsWithin (childOf (some (apartChildren (drop 1 (rowAt (now (work .entry)) fact)))) k) ⌝ }
+    ensures { λ r. ⌜ r ≡ factsWithin (orNone (childAt (apartChildren (drop 1 (rowAt (now (work .entry)) fact))) k)) ⌝ }
 {
     let row = rows::row_at(work, fact);
     let c = row[1];
@@ -364,8 +375,9 @@ pub fn child_within(
     k: usize,
 ) -> bool
     requires { ⌜ Ready (now ticket) s at size (now work) count ⌝ }
-    requires { ⌜ Numbered (children (asked (now ticket) s) (branchOf (now work) count) (stepAt (now ticket) at size)) k ⌝ }
-    ensures { λ r. ⌜ r ≡ factsWithin (childOf (children (asked (now (ticket .entry)) s) (branchOf (now (work .entry)) count) (stepAt (now (ticket .entry)) at size)) k) ⌝ }
+    requires { ⌜ conclusionsOf (rule (now ticket) at) ≡ Several ⌝ }
+    requires { ⌜ fitting (nth (offered (now ticket) (asked (now ticket) s) (branchOf (now work) count) at size) k) ≡ true ⌝ }
+    ensures { λ r. ⌜ r ≡ factsWithin (offeredChild (now (ticket .entry)) (asked (now (ticket .entry)) s) (branchOf (now (work .entry)) count) at size k) ⌝ }
 {
     let number = u16_at(ticket, at);
     if 3 < number {
@@ -390,8 +402,9 @@ pub fn children_within(
     count: usize,
 ) -> bool
     requires { ⌜ Ready (now ticket) s at size (now work) count ⌝ }
-    requires { ⌜ fitting (children (asked (now ticket) s) (branchOf (now work) count) (stepAt (now ticket) at size)) ≡ true ⌝ }
-    ensures { λ r. ⌜ r ≡ childrenWithin (orNone (children (asked (now (ticket .entry)) s) (branchOf (now (work .entry)) count) (stepAt (now (ticket .entry)) at size))) ⌝ }
+    requires { ⌜ conclusionsOf (rule (now ticket) at) ≡ Several ⌝ }
+    requires { ⌜ fitting (offered (now ticket) (asked (now ticket) s) (branchOf (now work) count) at size) ≡ true ⌝ }
+    ensures { λ r. ⌜ r ≡ childrenWithin (orNone (offered (now (ticket .entry)) (asked (now (ticket .entry)) s) (branchOf (now (work .entry)) count) at size)) ⌝ }
 {
     let number = u16_at(ticket, at);
     if 3 < number {

@@ -125,6 +125,11 @@ one-each b n at m k = go (decLt k 14)
         (omega arith) h
     go (no h) = inr (subst (λ (r : Rule). All (λ x. x ≡ 1) (shape n (stepOf b r at m))) (sym (unnamed k (omega arith))) tt)
 
+-- C-Valid's first child adds two facts, its second three
+pub c-valid-shape : (b : List ℕ) (n at m : ℕ) → 10 ≡ u16 b at → shape n (stepAt b at m) ≡ 2 ∷ 3 ∷ []
+unfolding shape stepOf
+c-valid-shape b n at m e = sym (ap (λ i. shape n (stepOf b (ruleOf i) at m)) e)
+
 one-at : (ls : List ℕ) (i : ℕ) → All (λ x. x ≡ 1) ls → i < length ls → 1 ≡ getD ls i 0
 one-at [] i h g = absurd (omega arith)
 one-at (x ∷ ls) zero h g = sym (h .0)
@@ -138,10 +143,8 @@ module _ (b : List ℕ) (n at m k : ℕ) (j : ℕ) (e : j ≡ u16 b at) where
       go (inl f) = absurd (x (e ∙ f))
       go (inr a) = one-at (shape n (stepAt b at m)) (k - 1) a (omega arith)
 
-  -- C-Valid's first child adds two facts, its second three
   by-c-valid : j ≡ 10 → shape n (stepAt b at m) ≡ 2 ∷ 3 ∷ []
-  unfolding shape stepOf
-  by-c-valid f = sym (ap (λ i. shape n (stepOf b (ruleOf i) at m)) (sym f ∙ e))
+  by-c-valid f = c-valid-shape b n at m (sym f ∙ e)
 
   pub adds-two : j ≡ 10 → k ≡ 1 → 2 ≡ getD (shape n (stepAt b at m)) (k - 1) 0
   adds-two f g = rw (by-c-valid f, g)

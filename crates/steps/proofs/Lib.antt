@@ -2,3 +2,6 @@ pub mod Table
 pub mod Loops
 pub mod Children
 pub mod Faults
+pub mod Concluding
+pub mod Bodies
+pub mod Offered

@@ -11,8 +11,9 @@ ghost use Rattle.calculus.specs.Steps.{pairCount, lastCount, shape};
 ghost use Rattle.format.specs.Fields.{u16s, pairsAt};
 ghost use Rattle.format.specs.StepForms.{sum, sProp, ruleOf, formFor, fitsForm, rule, child, lengthFits, multipliersWithin, variables, operandsInRange, stepAt, childInRange};
 ghost use Rattle.format.specs.Reading.{stepFault};
-ghost use Rattle.question.specs.Progress.{progressOf};
+ghost use Rattle.question.specs.Posed.{asked};
 ghost use Rattle.steps.specs.Forms.{formOf};
+ghost use Rattle.steps.specs.Conclusions.{conclusionsOf};
 use limits::COLUMN_LIMIT;
 use limits::NUMBER_LIMIT;
 use limits::SUMMAND_LIMIT;
@@ -177,6 +178,35 @@ fn operands_in_range(b: &[u8], p: usize, c: usize, at: usize, size: usize) -> bo
     }
 }
 
+// ---- how many conclusions a rule has
+
+// "a rule with one conclusion or none", or one that splits a branch. A rule without a conclusion closes the branch.
+pub enum Conclusions {
+    Nothing,
+    One,
+    Several,
+}
+
+// By rule number.
+pub fn conclusions_of(number: usize) -> Conclusions
+    ensures { λ r. ⌜ r ≡ conclusionsOf (ruleOf number) ⌝ }
+{
+    match number {
+        1 => Conclusions::One,
+        2 => Conclusions::Several,
+        3 => Conclusions::Several,
+        6 => Conclusions::One,
+        7 => Conclusions::One,
+        8 => Conclusions::Several,
+        9 => Conclusions::One,
+        10 => Conclusions::Several,
+        11 => Conclusions::Several,
+        12 => Conclusions::Several,
+        13 => Conclusions::One,
+        _ => Conclusions::Nothing,
+    }
+}
+
 // ---- the number of children, by the form alone
 
 // Card: "for each pair i < j" of its m variables, and the last; "With n = 1 the last child is left out".
@@ -233,7 +263,7 @@ fn child_in_range(b: &[u8], n: usize, at: usize, size: usize) -> bool
 // All but the child field.
 fn operands_fault(b: &[u8], s: Progress, at: usize, size: usize) -> usize
     requires { ⌜ (at + size ≤ length (now b)) × (s .p ≤ variableLimit) × (s .q ≤ variableLimit) ⌝ }
-    ensures { λ r. ⌜ r ≡ stepFault (now (b .entry)) (progressOf (now (b .entry)) s .question) true 0 at size ⌝ }
+    ensures { λ r. ⌜ r ≡ stepFault (now (b .entry)) (asked (now (b .entry)) s) true 0 at size ⌝ }
 {
     if !length_fits(b, at, size) {
         return 5;
@@ -248,7 +278,7 @@ fn operands_fault(b: &[u8], s: Progress, at: usize, size: usize) -> usize
 // Claim 1: "the child field is 0".
 pub fn step_fault_one(b: &[u8], s: Progress, at: usize, size: usize) -> usize
     requires { ⌜ (at + size ≤ length (now b)) × (s .p ≤ variableLimit) × (s .q ≤ variableLimit) ⌝ }
-    ensures { λ r. ⌜ r ≡ stepFault (now (b .entry)) (progressOf (now (b .entry)) s .question) (eqb (child (now (b .entry)) at) 0) 0 at size ⌝ }
+    ensures { λ r. ⌜ r ≡ stepFault (now (b .entry)) (asked (now (b .entry)) s) (eqb (child (now (b .entry)) at) 0) 0 at size ⌝ }
 {
     let f = operands_fault(b, s, at, size);
     if f != 0 {
@@ -260,7 +290,7 @@ pub fn step_fault_one(b: &[u8], s: Progress, at: usize, size: usize) -> usize
 // Claim 2: the child taken.
 pub fn step_fault_two(b: &[u8], s: Progress, at: usize, size: usize) -> usize
     requires { ⌜ (at + size ≤ length (now b)) × (s .p ≤ variableLimit) × (s .q ≤ variableLimit) ⌝ }
-    ensures { λ r. ⌜ r ≡ stepFault (now (b .entry)) (progressOf (now (b .entry)) s .question) (childInRange (s .n) (stepAt (now (b .entry)) at size) (child (now (b .entry)) at)) 0 at size ⌝ }
+    ensures { λ r. ⌜ r ≡ stepFault (now (b .entry)) (asked (now (b .entry)) s) (childInRange (s .n) (stepAt (now (b .entry)) at size) (child (now (b .entry)) at)) 0 at size ⌝ }
 {
     let f = operands_fault(b, s, at, size);
     if f != 0 {

@@ -51,7 +51,8 @@ take-child-requires c κs =
     let u = asked b (s .args .s) in
     let p = s .pre .1 .1 in
     let e = sym (c .before .if2 .left) ∙ c .before .before .step-fault-two .ensures in
-    (s .pre .0, (its-form b u (s .args .at) (s .args .kind) (s .args .size) (p .0, p .1, p .2) _ e, (its-child b u (s .args .at) (s .args .kind) (s .args .size) (p .0, p .1, p .2) e, s .pre .1 .0)))
+    let formed = its-form b u (s .args .at) (s .args .kind) (s .args .size) (p .0, p .1, p .2) _ e in
+    (record { posed = s .pre .0; formed = formed; fine = s .pre .1 .0 }, its-child b u (s .args .at) (s .args .kind) (s .args .size) (p .0, p .1, p .2) e)
 
 same-length : tie.Need-same-length
 same-length c = search needs

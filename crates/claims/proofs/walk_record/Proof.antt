@@ -37,7 +37,7 @@ step-fault-one-requires : tie.Need-step-fault-one-requires
 step-fault-one-requires c κs = search needs
 
 returns-2 : tie.Need-returns-2
-unfolding asked Acts
+unfolding Acts
 returns-2 c =
     let s = c .before .before .before .before .before in
     let a = s .args in
@@ -46,19 +46,18 @@ returns-2 c =
     (λ ss q. record-form b u (a .at) (a .kind) (a .size) (s .pre .1 .1) (branchOf (now (a .work)) (a .count)) ss (sym (c .before .before .if1 .left) ∙ c .before .before .before .open-fault .ensures) _ (c .before .step-fault-one .ensures) (c .if2 .taken), c .if2 .taken)
 
 take-step-requires : tie.Need-take-step-requires
-unfolding asked
 take-step-requires c κs =
     let s = c .before .before .before .before .before .before in
     let a = s .args in
     let b = now (a .ticket) in
     let u = asked b (a .s) in
-    (s .pre .0, ((s .pre .1 .1 .1, its-form b u (a .at) (a .kind) (a .size) (s .pre .1 .1) (eqb (child b (a .at + 6)) 0) (sym (c .before .if2 .left) ∙ c .before .before .step-fault-one .ensures)), s .pre .1 .0))
+    let formed = its-form b u (a .at) (a .kind) (a .size) (s .pre .1 .1) (eqb (child b (a .at + 6)) 0) (sym (c .before .if2 .left) ∙ c .before .before .step-fault-one .ensures) in
+    (record { posed = s .pre .0; formed = formed; fine = s .pre .1 .0 }, s .pre .1 .1 .1)
 
 same-length : tie.Need-same-length
 same-length c = search needs
 
 returns-3 : tie.Need-returns-3
-unfolding asked
 returns-3 c =
     let s = c .before .before .before .before .before .before .before .before in
     let a = s .args in

@@ -2,26 +2,22 @@
 use Prim.Native.Nat.{_≤_, ℕ}
 use borrow.Author.Needs.{needs}
 use denote.Ref.{now}
-use mathlib.Core.Path.{_∙_, _≡_, ap, refl, sym}
+use mathlib.Core.Path.{_∙_, ap, sym}
 use native.Mathlib.Omega.{arith}
 use Rattle.calculus.specs.Rules.{children}
-use Rattle.calculus.specs.Steps.{Step}
-use Rattle.conclusions.proofs.Forms.{a-conf-step, at-least, four-bytes, last-closing, s-conf-step}
-use Rattle.conclusions.specs.Made.{isClosing}
+use Rattle.calculus.specs.Steps.{AConf}
 use Rattle.format.proofs.Places.{length-texts}
-use Rattle.format.specs.Fields.{u16}
 use Rattle.format.specs.Places.{literalsFrom}
-use Rattle.format.specs.StepForms.{ruleOf}
-use Rattle.question.specs.Progress.{progressOf}
+use Rattle.format.specs.StepForms.{stepOf}
+use Rattle.question.specs.Posed.{asked}
 use Rattle.rows.specs.Rows.{branchOf}
+use Rattle.steps.proofs.Bodies.{four-bytes, long, s-conf-left}
+use Rattle.steps.proofs.Offered.{offered-by}
 use Rattle.conclusions.proofs.closes.Statement.{statement}
 use Rattle.conclusions.proofs.closes.Tie as tie
 
 u16-at-requires : tie.Need-u16-at-requires
-u16-at-requires c κs =
-    let s = c .before in
-    let b = now (s .args .ticket) in
-    omega (arith, s .pre .0 .0, four-bytes (u16 b (s .args .at)), at-least b (s .args .at) (s .args .size) (u16 b (s .args .at)) refl (s .pre .0 .1))
+u16-at-requires c κs = omega (arith, four-bytes (c .before .pre .0))
 
 add-u16-at : tie.Need-add-u16-at
 add-u16-at c = search needs
@@ -29,33 +25,40 @@ add-u16-at c = search needs
 u16-at-requires-2 : tie.Need-u16-at-requires-2
 u16-at-requires-2 c κs =
     let s = c .before .before .before in
-    let long : 6 ≤ s .args .size = at-least (now (s .args .ticket)) (s .args .at) (s .args .size) 4 (sym (c .before .u16-at .ensures .0) ∙ c .if1 .taken) (s .pre .0 .1) in
-    omega (arith, s .pre .0 .0)
+    let long : 6 ≤ s .args .size = long (s .pre .0) 4 (sym (c .if1 .taken) ∙ c .before .u16-at .ensures .0) in
+    omega (arith, s .pre .0 .formed .within)
 
 a-conf-requires : tie.Need-a-conf-requires
-a-conf-requires c κs = search needs
+a-conf-requires c κs = c .before .before .before .before .pre .0 .fine
 
 returns : tie.Need-returns
+unfolding stepOf
 returns c =
-    let s = c .before .before .before .before .before in
-    let a = s .args in
+    let a = c .before .before .before .before .before .args in
     let b = now (a .ticket) in
-    let u = progressOf b (a .s) .question in
+    let u = asked b (a .s) in
+    let br = branchOf (now (a .work)) (a .count) in
     c .a-conf .ensures u
-    ∙ ap (λ (st : Step). children u (branchOf (now (a .work)) (a .count)) st) (a-conf-step b (a .at) (a .size) _ (c .before .u16-at2 .ensures .0) (sym (c .before .before .if1 .taken) ∙ c .before .before .before .u16-at .ensures .0))
+    ∙ ap (λ (k : ℕ). children u br (AConf k)) (c .before .u16-at2 .ensures .0)
+    ∙ sym (offered-by b u br (a .at) (a .size) 4 (sym (c .before .before .if1 .taken) ∙ c .before .before .before .u16-at .ensures .0))
 
 s-conf-requires : tie.Need-s-conf-requires
-s-conf-requires c κs = search needs
+s-conf-requires c κs =
+    let h = c .before .before .before .pre .0 in
+    (h .fine, h .posed .stands .few-literals)
 
 returns-2 : tie.Need-returns-2
+unfolding stepOf asked
 returns-2 c =
     let s = c .before .before .before .before in
     let a = s .args in
     let b = now (a .ticket) in
-    let u = progressOf b (a .s) .question in
-    let five : c .before .before .u16-at .result ≡ 5 = last-closing (c .before .before .u16-at .result) (ap (λ (j : ℕ). isClosing (ruleOf j)) (c .before .before .u16-at .ensures .0) ∙ s .pre .0 .2) (c .before .if1 .left) in
+    let u = asked b (a .s) in
+    let k = c .before .before .u16-at .result in
+    let e = c .before .before .u16-at .ensures .0 in
+    let five = s-conf-left (s .pre .0) k e (s .pre .1) (c .before .if1 .left) in
     c .s-conf .ensures u (length-texts b (a .s .literals) literalsFrom)
-    ∙ ap (λ (st : Step). children u (branchOf (now (a .work)) (a .count)) st) (s-conf-step b (a .at) (a .size) (sym five ∙ c .before .before .u16-at .ensures .0))
+    ∙ sym (offered-by b u (branchOf (now (a .work)) (a .count)) (a .at) (a .size) 5 five)
 
 pub closes-spec : {M : Type 1} → statement M
 closes-spec =

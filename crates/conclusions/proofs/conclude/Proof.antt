@@ -4,27 +4,18 @@ use borrow.Author.Tests.{not-false, not-true}
 use denote.Ref.{now}
 use lib.IntN.{ℤ}
 use mathlib.Core.List.{List, _++_}
-use mathlib.Core.Option.{Option}
 use mathlib.Core.Path.{_∙_, ap, sym}
 use native.Mathlib.Omega.{arith}
-use Rattle.calculus.specs.Facts.{Branch, Fact}
-use Rattle.calculus.specs.Rules.{children}
+use Rattle.calculus.specs.Facts.{Fact}
 use Rattle.conclusions.proofs.Tried.{eight, its-fact, nine, none-of-these, ten}
-use Rattle.format.specs.StepForms.{stepAt}
-use Rattle.question.specs.Progress.{progressOf}
 use Rattle.rows.proofs.Branches.{length-branch}
 use Rattle.rows.proofs.Small.{fine-put}
-use Rattle.rows.specs.Rows.{branchOf, factOf}
+use Rattle.rows.specs.Rows.{factOf}
+use Rattle.steps.proofs.Bodies.{before, given}
 use Rattle.conclusions.proofs.conclude.Statement.{statement}
 use Rattle.conclusions.proofs.conclude.Tie as tie
 
--- the branch, what the step gives, and the row
-abbrev before : (c : tie.After-conclusion) → Branch
-before c = branchOf (now (c .before .before .before .before .args .work)) (c .before .before .before .before .args .count)
-
-abbrev given : (c : tie.After-conclusion) → Option (List (List Fact))
-given c = children (progressOf (now (c .before .before .before .before .args .ticket)) (c .before .before .before .before .args .s) .question) (branchOf (now (c .before .before .before .before .args .work)) (c .before .before .before .before .args .count)) (stepAt (now (c .before .before .before .before .args .ticket)) (c .before .before .before .before .args .at) (c .before .before .before .before .args .size))
-
+-- the row that was filled
 abbrev row : (c : tie.After-conclusion) → List ℤ
 row c = c .conclusion .last .0
 
@@ -39,8 +30,9 @@ same-length c = search needs
 
 returns : tie.Need-returns
 returns c =
-    let p = c .before .before in (
-      eight (before p) (given p) (p .conclusion .result) (row p) (p .conclusion .ensures) (not-true _ (c .if1 .taken)),
+    let p = c .before .before in
+    let h = p .before .before .before .before .pre .0 in (
+      eight (before h) (given h) (p .conclusion .result) (row p) (p .conclusion .ensures) (not-true _ (c .if1 .taken)),
       ((λ z. absurd (omega arith)), (λ z. absurd (omega arith))),
     )
 
@@ -55,8 +47,9 @@ same-length-2 c = search needs
 
 returns-2 : tie.Need-returns-2
 returns-2 c =
-    let p = c .before .before .before .before .before in (
-      nine (before p) (given p) (p .conclusion .result) (row p) (p .conclusion .ensures) (not-false _ (c .before .before .before .if1 .left)) (sym (c .before .fact-within .ensures) ∙ not-true _ (c .if2 .taken)),
+    let p = c .before .before .before .before .before in
+    let h = p .before .before .before .before .pre .0 in (
+      nine (before h) (given h) (p .conclusion .result) (row p) (p .conclusion .ensures) (not-false _ (c .before .before .before .if1 .left)) (sym (c .before .fact-within .ensures) ∙ not-true _ (c .if2 .taken)),
       ((λ z. absurd (omega arith)), (λ z. absurd (omega arith))),
     )
 
@@ -66,8 +59,9 @@ same-length-3 c = search needs
 returns-3 : tie.Need-returns-3
 returns-3 c =
     let p = c .before .before .before .before .before .before in
+    let h = p .before .before .before .before .pre .0 in
     let n = length-branch (now (c .before .before .before .before .before .before .before .before .before .before .args .work)) (c .before .before .before .before .before .before .before .before .before .before .args .count) in (
-      ten (before p) (given p) (p .conclusion .result) (row p) (p .conclusion .ensures) (not-false _ (c .before .before .before .before .if1 .left)) (sym (c .before .before .fact-within .ensures) ∙ not-false _ (c .before .if2 .left)) (rw n (c .if3 .taken)),
+      ten (before h) (given h) (p .conclusion .result) (row p) (p .conclusion .ensures) (not-false _ (c .before .before .before .before .if1 .left)) (sym (c .before .before .fact-within .ensures) ∙ not-false _ (c .before .if2 .left)) (rw n (c .if3 .taken)),
       ((λ z. absurd (omega arith)), (λ z. absurd (omega arith))),
     )
 
@@ -84,14 +78,15 @@ returns-4 : tie.Need-returns-4
 returns-4 c =
     let s = c .before .before .before .before .before .before .before .before .before .before .before .before .before .before in
     let p = c .before .before .before .before .before .before .before .before .before .before in
+    let h = p .before .before .before .before .pre .0 in
     let w = now (s .args .work) in
     let n = length-branch w (s .args .count) in
     let fit = not-false (p .conclusion .result) (c .before .before .before .before .before .before .before .before .if1 .left) in
     let small = sym (c .before .before .before .before .before .before .fact-within .ensures) ∙ not-false _ (c .before .before .before .before .before .if2 .left) in (
-      none-of-these (before p) (given p) (p .conclusion .result) (row p) (p .conclusion .ensures) fit small (rw n (omega (arith, c .before .before .before .before .if3 .left))),
+      none-of-these (before h) (given h) (p .conclusion .result) (row p) (p .conclusion .ensures) fit small (rw n (omega (arith, c .before .before .before .before .if3 .left))),
       (
-        (λ z. c .before .put-row .ensures ∙ ap (λ (l : List Fact). before p ++ l) (its-fact (before p) (given p) (p .conclusion .result) (row p) (p .conclusion .ensures) fit)),
-        (λ z. fine-put w _ (s .args .count) (factOf (row p)) (s .pre .1 .1 .1) (omega (arith, c .before .before .before .before .if3 .left)) (search needs) (c .before .put-row .ensures) small),
+        (λ z. c .before .put-row .ensures ∙ ap (λ (l : List Fact). before h ++ l) (its-fact (before h) (given h) (p .conclusion .result) (row p) (p .conclusion .ensures) fit)),
+        (λ z. fine-put w _ (s .args .count) (factOf (row p)) (h .fine) (omega (arith, c .before .before .before .before .if3 .left)) (search needs) (c .before .put-row .ensures) small),
       ),
     )
 

@@ -18,6 +18,7 @@ use Rattle.format.proofs.Places.{skip-up}
 use Rattle.format.specs.Fields.{u32s}
 use Rattle.format.specs.Places.{literalsFrom}
 use Rattle.format.specs.StepForms.{functionOf}
+use Rattle.question.specs.Posed.{asked}
 use Rattle.rows.specs.Rows.{branchOf}
 use Rattle.rows.specs.Work.{single}
 use Rattle.conclusions.proofs.of_literal.Statement.{statement}
@@ -51,8 +52,8 @@ literal-text-requires c κs =
     let s = c .before .before .before .before .before .before .before in
     omega (arith, s .pre .1 .1 .1, skip-up (now (s .args .ticket)) (c .before .found .given .0 .0) (s .args .s .literals) literalsFrom (few c))
 
-less-text-requires : tie.Need-less-text-requires
-less-text-requires c κs = search needs
+negative-of-text-requires : tie.Need-negative-of-text-requires
+negative-of-text-requires c κs = search needs
 
 column-of-requires : tie.Need-column-of-requires
 column-of-requires c κs = search needs
@@ -70,12 +71,12 @@ same-length : tie.Need-same-length
 same-length c = search needs
 
 returns-2 : tie.Need-returns-2
-unfolding madeOf
+unfolding madeOf asked
 returns-2 c =
     let a = c .before .before .before .before .before .before .before .before .before .before .before .before .before .args in
     let b = now (a .ticket) in
     ap (λ (f : Fact). some (one f)) (c .before .fill-single .ensures
-    ∙ ap (λ (z : ℤ). arithmetic eq (single z (c .before .before .column-of .result) (pos 1))) (toZ-ofZ (record { sfits = c .before .before .before .before .less-text .ok }) ∙ c .before .before .before .before .less-text .ensures))
+    ∙ ap (λ (z : ℤ). arithmetic eq (single z (c .before .before .column-of .result) (pos 1))) (toZ-ofZ (record { sfits = c .before .before .before .before .negative-of-text .ok }) ∙ c .before .before .before .before .negative-of-text .ensures))
     ∙ literal-adds b (a .s) (branchOf (now (a .work)) (a .count)) (c .before .before .before .before .before .before .before .before .before .before .before .labels .result) (a .x) (c .before .before .before .before .before .before .before .before .before .before .before .labels .ensures) (a .function) (c .before .before .before .before .before .before .before .found .given .0 .0) (c .before .before .column-of .result)
     (u32s b (c .before .before .before .before .before .literal-text .result .at) (c .before .before .before .before .before .literal-text .result .count)) (found-is (c .before .before .before .before .before .before)) (c .before .before .column-of .ensures .0) (c .before .before .column-of .ensures .1)
     (c .before .before .before .before .before .literal-text .ensures .1 (a .s .literals) (few (c .before .before .before .before .before .before)))
@@ -90,7 +91,7 @@ of-literal-spec =
     enum-told
     enum-known-found
     literal-text-requires
-    less-text-requires
+    negative-of-text-requires
     column-of-requires
     fill-single-requires
     returns

@@ -12,7 +12,8 @@ use Rattle.calculus.specs.Children.{one}
 use Rattle.calculus.specs.Classes.{labels, sameClass}
 use Rattle.calculus.specs.Facts.{Fact, Question, eq}
 use Rattle.conclusions.proofs.Laws.{s-prop-adds, s-prop-apart, s-prop-fits, s-prop-same}
-use Rattle.conclusions.specs.Made.{columnOf, madeOf}
+use Rattle.conclusions.specs.Made.{madeOf}
+use Rattle.question.specs.Columns.{columnAt}
 use Rattle.format.specs.StepForms.{functionOf}
 use Rattle.rows.specs.Rows.{branchOf}
 use Rattle.conclusions.proofs.s_prop.Statement.{statement}
@@ -68,8 +69,8 @@ returns-3 c =
     λ (u : Question) (ep : u .p ≡ a .p) (eq : u .q ≡ a .q).
     ap (λ (f : Fact). some (one f)) (c .before .fill-difference .ensures)
     ∙ ap some (s-prop-adds u (a .function) (a .x) (a .y) (c .before .before .before .column-of .result) (c .before .before .column-of2 .result) (c .before .before .before .before .before .before .before .before .if1 .left)
-    (c .before .before .before .column-of .ensures .0 ∙ ap₂ (λ (p q : ℕ). columnOf p q (a .function) (a .x)) (sym ep) (sym eq))
-    (c .before .before .column-of2 .ensures .0 ∙ ap₂ (λ (p q : ℕ). columnOf p q (a .function) (a .y)) (sym ep) (sym eq))
+    (c .before .before .before .column-of .ensures .0 ∙ ap₂ (λ (p q : ℕ). columnAt p q (a .function) (a .x)) (sym ep) (sym eq))
+    (c .before .before .column-of2 .ensures .0 ∙ ap₂ (λ (p q : ℕ). columnAt p q (a .function) (a .y)) (sym ep) (sym eq))
     (c .before .before .before .column-of .ensures .1) (c .before .before .column-of2 .ensures .1))
     ∙ s-prop-fits u b (functionOf (a .function)) (a .x) (a .y) (c .before .before .before .before .before .before .before .before .if1 .left) t
 

@@ -6,7 +6,6 @@ use mathlib.Core.Path.{refl, sym, _∙_, ap}
 use native.Mathlib.Omega.{arith}
 use Rattle.rows.specs.Rows.{branchOf}
 use Rattle.question.specs.Posed.{asked}
-use Rattle.steps.specs.Offered.{offered}
 use Rattle.conclusions.specs.Made.{closingOf}
 use Rattle.derivation.specs.Actions.{Acts}
 use Rattle.derivation.proofs.Taking.{step-open, step-closes, no-children}
@@ -19,18 +18,18 @@ add-closes c = search needs
 closes-requires : tie.Need-closes-requires
 closes-requires c κs =
     let s = c .before in
-    ((s .pre .1 .0 .1 .within, s .pre .1 .0 .1 .fits, s .pre .1 .0 .2), (s .pre .1 .1, s .pre .0 .stands .few-literals))
+    (s .pre .0 .0, s .pre .1)
 
 returns : tie.Need-returns
-unfolding asked offered Acts
+unfolding Acts
 returns c =
     let s = c .before .before .before in
     let a = s .args in
     let b = now (a .ticket) in
-    (step-open b (asked b (a .s)) (branchOf (now (a .work)) (a .count)) (a .at) (a .size) (s .pre .1 .0 .0) (ap closingOf (sym (not-true _ (c .if1 .taken))) ∙ c .before .closes .ensures), λ pending n. omega arith)
+    (step-open b (asked b (a .s)) (branchOf (now (a .work)) (a .count)) (a .at) (a .size) (s .pre .0 .1) (ap closingOf (sym (not-true _ (c .if1 .taken))) ∙ c .before .closes .ensures), λ pending n. omega arith)
 
 returns-2 : tie.Need-returns-2
-unfolding asked offered Acts
+unfolding Acts
 returns-2 c =
     let s = c .before .before .before in
     let a = s .args in
@@ -38,7 +37,7 @@ returns-2 c =
     let u = asked b (a .s) in
     let br = branchOf (now (a .work)) (a .count) in
     let e = ap closingOf (sym (not-false _ (c .if1 .left))) ∙ c .before .closes .ensures in
-    (step-closes b u br (a .at) (a .size) (s .pre .1 .0 .0) e, λ pending. (no-children b u br (a .at) (a .size) (s .pre .1 .0 .0) e, refl))
+    (step-closes b u br (a .at) (a .size) (s .pre .0 .1) e, λ pending. (no-children b u br (a .at) (a .size) (s .pre .0 .1) e, refl))
 
 pub take-closing-spec : {M : Type 1} → statement M
 take-closing-spec = tie.close (tie.spec add-closes closes-requires returns returns-2)

@@ -4,9 +4,7 @@ use denote.Ref.{now}
 use mathlib.Core.Path.{sym, _∙_}
 use Rattle.rows.specs.Rows.{branchOf}
 use Rattle.question.specs.Posed.{asked}
-use Rattle.steps.specs.Offered.{offered}
 use Rattle.derivation.specs.Actions.{Acts}
-use Rattle.derivation.proofs.Holding.{limits}
 use Rattle.derivation.proofs.Taking.{numbered, one-tried, one-child, first-begins}
 use Rattle.derivation.proofs.take_conclusion.Statement.{statement}
 use Rattle.derivation.proofs.take_conclusion.Tie as tie
@@ -15,16 +13,13 @@ add-conclude : tie.Need-add-conclude
 add-conclude c = search needs
 
 conclude-requires : tie.Need-conclude-requires
-unfolding asked
-conclude-requires c κs =
-    let s = c .before .before in
-    ((s .pre .1 .0 .1 .within, s .pre .1 .0 .1 .fits, s .pre .1 .0 .2), (s .pre .1 .0 .1 .in-range, (limits (now (s .args .ticket)) (s .args .s) (s .pre .0), s .pre .1 .1)))
+conclude-requires c κs = let s = c .before .before in (s .pre .0 .0, s .pre .1)
 
 same-length : tie.Need-same-length
 same-length c = search needs
 
 returns : tie.Need-returns
-unfolding asked offered Acts
+unfolding Acts
 returns c =
     let s = c .before .before .before .before .before in
     let a = s .args in
@@ -32,7 +27,7 @@ returns c =
     let u = asked b (a .s) in
     let br = branchOf (now (a .work)) (a .count) in
     let f = c .before .before .conclude in
-    (λ pending. numbered b u br (a .at) (a .size) (s .pre .1 .0 .0) pending (f .result) (one-tried b u br (a .at) (a .size) (s .pre .1 .0 .0) (s .pre .1 .0 .2) (f .result) (f .ensures .0) pending), λ pending. c .if1 .taken)
+    (λ pending. numbered b u br (a .at) (a .size) (s .pre .0 .1) pending (f .result) (one-tried b u br (a .at) (a .size) (s .pre .0 .1) (s .pre .0 .0 .formed .fits) (s .pre .1) (f .result) (f .ensures .0) pending), λ pending. c .if1 .taken)
 
 add-t8 : tie.Need-add-t8
 add-t8 c = search needs
@@ -41,7 +36,7 @@ same-length-2 : tie.Need-same-length-2
 same-length-2 c = search needs
 
 returns-2 : tie.Need-returns-2
-unfolding asked offered Acts
+unfolding Acts
 returns-2 c =
     let s = c .before .before .before .before .before in
     let a = s .args in
@@ -50,9 +45,9 @@ returns-2 c =
     let br = branchOf (now (a .work)) (a .count) in
     let f = c .before .before .conclude in
     let zero = c .if1 .left in
-    let tried = one-tried b u br (a .at) (a .size) (s .pre .1 .0 .0) (s .pre .1 .0 .2) 0 (sym zero ∙ f .ensures .0) in (
-      λ pending. numbered b u br (a .at) (a .size) (s .pre .1 .0 .0) pending 0 (tried pending),
-      λ pending. first-begins b u br (a .at) (a .size) (s .pre .1 .0 .0) 1 (one-child b u br (a .at) (a .size) pending (s .pre .1 .0 .0) (s .pre .1 .0 .1) (sym (tried pending)) (s .pre .1 .0 .2))
+    let tried = one-tried b u br (a .at) (a .size) (s .pre .0 .1) (s .pre .0 .0 .formed .fits) (s .pre .1) 0 (sym zero ∙ f .ensures .0) in (
+      λ pending. numbered b u br (a .at) (a .size) (s .pre .0 .1) pending 0 (tried pending),
+      λ pending. first-begins b u br (a .at) (a .size) (s .pre .0 .1) 1 (one-child b u br (a .at) (a .size) pending (s .pre .0 .1) (s .pre .0 .0 .formed) (sym (tried pending)) (s .pre .1))
           (f .last .1 .1 .1 .1 .0) _ (f .ensures .1 .0 zero) (f .ensures .1 .1 zero),
     )
 

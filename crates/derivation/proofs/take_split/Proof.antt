@@ -7,7 +7,7 @@ use native.Mathlib.Omega.{arith}
 use Rattle.rows.specs.Rows.{branchOf}
 use Rattle.question.specs.Posed.{asked}
 use Rattle.steps.proofs.Children.{few-children}
-use Rattle.rules.proofs.Rooms.{some-child}
+use Rattle.steps.proofs.Concluding.{some-child}
 use Rattle.derivation.specs.Ok.{Splits}
 use Rattle.derivation.specs.Actions.{Acts}
 use Rattle.derivation.proofs.Holding.{puts}
@@ -24,7 +24,7 @@ splits c =
     let b = now (a .ticket) in
     let u = asked b (a .s) in
     let br = branchOf (now (a .work)) (a .count) in
-    subst (λ (n : ℕ). Splits b u br (a .at) n) (sym (c .child-count .ensures)) (its-splits b u br (a .at) (a .size) (a .pending) (s .pre .1 .0 .0) (s .pre .1 .0 .1) (sym (c .before .before .split-fault .ensures) ∙ c .before .if1 .left))
+    subst (λ (n : ℕ). Splits b u br (a .at) n) (sym (c .child-count .ensures)) (its-splits b u br (a .at) (a .size) (a .pending) (s .pre .0 .1) (s .pre .0 .0 .formed) (sym (c .before .before .split-fault .ensures) ∙ c .before .if1 .left))
 
 add-split-fault : tie.Need-add-split-fault
 add-split-fault c = search needs
@@ -32,7 +32,7 @@ add-split-fault c = search needs
 split-fault-requires : tie.Need-split-fault-requires
 split-fault-requires c κs =
     let s = c .before .before in
-    (s .pre .0, ((s .pre .1 .0 .1, s .pre .1 .0 .2), s .pre .1 .1))
+    (s .pre .0 .0, s .pre .1)
 
 same-length : tie.Need-same-length
 same-length c = search needs
@@ -44,13 +44,13 @@ returns c =
     let a = s .args in
     let b = now (a .ticket) in
     let u = asked b (a .s) in
-    (numbered b u (branchOf (now (a .work)) (a .count)) (a .at) (a .size) (s .pre .1 .0 .0) (a .pending) (c .before .split-fault .result) (c .before .split-fault .ensures), c .if1 .taken)
+    (numbered b u (branchOf (now (a .work)) (a .count)) (a .at) (a .size) (s .pre .0 .1) (a .pending) (c .before .split-fault .result) (c .before .split-fault .ensures), c .if1 .taken)
 
 add-child-count : tie.Need-add-child-count
 add-child-count c = search needs
 
 child-count-requires : tie.Need-child-count-requires
-child-count-requires c κs = search needs
+child-count-requires c κs = let h = c .before .before .before .before .pre .0 .0 in (h .formed .within, h .formed .fits)
 
 add-put-child : tie.Need-add-put-child
 add-put-child c = search needs
@@ -59,8 +59,8 @@ put-child-requires : tie.Need-put-child-requires
 put-child-requires c κs =
     let s = c .before .before .before .before .before .before in
     let a = s .args in
-    puts (now (a .ticket)) (a .s) (now (a .work)) (a .at) (c .before .child-count .result) 1 (a .size) (a .count) (s .pre .0) (splits (c .before)) (s .pre .1 .0 .2) (s .pre .1 .1) (omega arith)
-    (rw (c .before .child-count .ensures) (some-child (now (a .ticket)) (a .s .n) (a .at + 6) (a .size) (s .pre .1 .0 .1 .fits) (s .pre .1 .0 .2))) (s .pre .1 .0 .0)
+    puts (now (a .ticket)) (a .s) (now (a .work)) (a .at) (c .before .child-count .result) 1 (a .size) (a .count) (s .pre .0 .0 .posed) (splits (c .before)) (s .pre .1) (s .pre .0 .0 .fine) (omega arith)
+    (rw (c .before .child-count .ensures) (some-child (now (a .ticket)) (a .s .n) (a .at + 6) (a .size) (s .pre .0 .0 .formed .fits) (s .pre .1))) (s .pre .0 .1)
 
 same-length-2 : tie.Need-same-length-2
 same-length-2 c = search needs
@@ -75,9 +75,9 @@ returns-2 c =
     let br = branchOf (now (a .work)) (a .count) in
     let f = c .before .before .put-child in
     let last = c .before .before .before .before .child-count .ensures in
-    let one : c .before .before .before .before .child-count .result ≡ 1 = omega (arith, c .if2 .taken, last, some-child b (a .s .n) (a .at + 6) (a .size) (s .pre .1 .0 .1 .fits) (s .pre .1 .0 .2)) in (
-      numbered b u br (a .at) (a .size) (s .pre .1 .0 .0) (a .pending) 0 (sym (c .before .before .before .before .before .if1 .left) ∙ c .before .before .before .before .before .before .split-fault .ensures),
-      first-begins b u br (a .at) (a .size) (s .pre .1 .0 .0) 1 (subst (λ (n : ℕ). Splits b u br (a .at) n) one (splits (c .before .before .before .before))) (f .last .1 .1 .1 .1 .0) (f .result) (f .ensures .0) (f .ensures .1),
+    let one : c .before .before .before .before .child-count .result ≡ 1 = omega (arith, c .if2 .taken, last, some-child b (a .s .n) (a .at + 6) (a .size) (s .pre .0 .0 .formed .fits) (s .pre .1)) in (
+      numbered b u br (a .at) (a .size) (s .pre .0 .1) (a .pending) 0 (sym (c .before .before .before .before .before .if1 .left) ∙ c .before .before .before .before .before .before .split-fault .ensures),
+      first-begins b u br (a .at) (a .size) (s .pre .0 .1) 1 (subst (λ (n : ℕ). Splits b u br (a .at) n) one (splits (c .before .before .before .before))) (f .last .1 .1 .1 .1 .0) (f .result) (f .ensures .0) (f .ensures .1),
     )
 
 same-length-3 : tie.Need-same-length-3
@@ -95,14 +95,14 @@ returns-3 c =
     let last = c .before .before .before .before .child-count .ensures in
     let two = c .if2 .left in
     let tried = sym (c .before .before .before .before .before .before .split-fault .ensures) ∙ c .before .before .before .before .before .if1 .left in (
-      numbered b u br (a .at) (a .size) (s .pre .1 .0 .0) (a .pending) 0 (sym tried),
+      numbered b u br (a .at) (a .size) (s .pre .0 .1) (a .pending) 0 (sym tried),
       (
-        first-begins b u br (a .at) (a .size) (s .pre .1 .0 .0) (c .before .before .before .before .child-count .result) (splits (c .before .before .before .before)) (f .last .1 .1 .1 .1 .0) (f .result) (f .ensures .0) (f .ensures .1),
+        first-begins b u br (a .at) (a .size) (s .pre .0 .1) (c .before .before .before .before .child-count .result) (splits (c .before .before .before .before)) (f .last .1 .1 .1 .1 .0) (f .result) (f .ensures .0) (f .ensures .1),
         record {
-          several = s .pre .1 .0 .2;
+          several = s .pre .1;
           two = two;
-          few = omega (arith, last, few-children b (a .s .n) (a .at + 6) (a .size) (s .pre .1 .0 .1 .fits));
-          room = room-to-pend b u br (a .at) (a .size) (a .pending) (s .pre .1 .0 .0) (s .pre .1 .0 .1) tried (rw last at two);
+          few = omega (arith, last, few-children b (a .s .n) (a .at + 6) (a .size) (s .pre .0 .0 .formed .fits));
+          room = room-to-pend b u br (a .at) (a .size) (a .pending) (s .pre .0 .1) (s .pre .0 .0 .formed) tried (rw last at two);
         },
       ),
     )

@@ -6,13 +6,13 @@ use denote.Ref.{now}
 use mathlib.Core.Bool.{Bool, _&&_}
 use mathlib.Core.Path.{_∙_, _≡_, sym, ap}
 use native.Mathlib.Omega.{arith}
+use Rattle.question.specs.Posed.{numbered}
 use Rattle.calculus.specs.Rules.{distinct, neighbours}
 use Rattle.format.specs.Fields.{u16, u16s}
 use Rattle.format.specs.StepForms.{variables}
 use Rattle.format.specs.Checking.{fits}
 use Rattle.rows.specs.Rows.{branchOf}
 use Rattle.rows.proofs.Tested.{guard-fits}
-use Rattle.splits.specs.Splits.{numbered}
 use Rattle.splits.proofs.Variables.{card-children}
 use Rattle.splits.proofs.card_fits.Statement.{statement}
 use Rattle.splits.proofs.card_fits.Tie as tie

@@ -4,16 +4,17 @@ use borrow.Author.Needs.{needs}
 use denote.Ref.{now}
 use lib.IntN.{ℤ, pos, negℤ}
 use mathlib.Core.List.{List, [], _∷_, _++_}
-use mathlib.Core.Option.{some}
-use mathlib.Core.Path.{_∙_, ap, refl, sym}
+use mathlib.Core.Path.{_∙_, ap, ap₂, refl, sym}
 use native.Mathlib.Omega.{arith}
 use Rattle.integers.proofs.Laws.{minus-one-*ℤ}
 use Rattle.calculus.specs.Facts.{Fact, arithmetic, ge}
+use Rattle.calculus.specs.Children.{childAt}
 use Rattle.calculus.specs.Rules.{logUp}
+use Rattle.format.specs.Checking.{orNone}
+use Rattle.question.specs.Columns.{columnAt}
 use Rattle.rows.specs.Rows.{branchOf}
 use Rattle.rows.specs.Work.{single}
 use Rattle.rows.proofs.Small.{neg-fits, neg-is}
-use Rattle.splits.specs.Splits.{childOf}
 use Rattle.splits.proofs.Forms.{child-one, last-is}
 use Rattle.splits.proofs.put_bound.Statement.{statement}
 use Rattle.splits.proofs.put_bound.Tie as tie
@@ -30,8 +31,8 @@ sub-put-single c =
     let h : c .before .log-up .result ≤ 16 = omega (arith, c .before .log-up .ensures .1) in
     neg-fits (pos (c .before .log-up .result)) 16 h (omega arith)
 
-add-put-single : tie.Need-add-put-single
-add-put-single c = search needs
+column-of-requires : tie.Need-column-of-requires
+column-of-requires c κs = search needs
 
 put-single-requires : tie.Need-put-single-requires
 put-single-requires c κs = search needs
@@ -40,16 +41,18 @@ same-length : tie.Need-same-length
 same-length c = search needs
 
 returns : tie.Need-returns
+unfolding columnAt
 returns c =
     let s = c .before .before .before .before .before in
+    let br = branchOf (now (s .args .work)) (s .args .count) in
     let r = c .before .before .before .before .log-up .result in
     let m : s .args .m ≤ 16 = s .pre .1 .1 in
     let h : r ≤ 16 = omega (arith, c .before .before .before .before .log-up .ensures .1) in
     c .before .put-single .ensures
-    ∙ ap (λ (z : ℤ). branchOf (now (s .args .work)) (s .args .count) ++ (arithmetic ge (single z (s .args .s .q + s .args .x) (pos 1)) ∷ [])) (neg-is (pos r) 16 h (omega arith) ∙ minus-one-*ℤ (pos r) ∙ ap (λ (n : ℕ). negℤ (pos n)) (c .before .before .before .before .log-up .ensures .0))
-    ∙ ap (λ (l : List Fact). branchOf (now (s .args .work)) (s .args .count) ++ l)
+    ∙ ap₂ (λ (z : ℤ) (j : ℕ). br ++ (arithmetic ge (single z j (pos 1)) ∷ [])) (neg-is (pos r) 16 h (omega arith) ∙ minus-one-*ℤ (pos r) ∙ ap (λ (n : ℕ). negℤ (pos n)) (c .before .before .before .before .log-up .ensures .0)) (c .before .before .column-of .ensures .0)
+    ∙ ap (λ (l : List Fact). br ++ l)
     (child-one (arithmetic ge (single (negℤ (pos (logUp (s .args .m) (s .args .s .n) (s .args .m) 0))) (s .args .s .q + s .args .x) (pos 1)) ∷ []) [] 1 refl
-    ∙ sym (ap (λ (cs : List (List Fact)). childOf (some cs) 1) (last-is (s .args .s) (s .args .x) (s .args .m) (s .pre .1 .2) (omega (arith, s .pre .1)))))
+    ∙ sym (ap (λ (cs : List (List Fact)). orNone (childAt cs 1)) (last-is (s .args .s) (s .args .x) (s .args .m) (s .pre .1 .2) (omega (arith, s .pre .1)))))
 
 pub put-bound-spec : {M : Type 1} → statement M
 put-bound-spec =
@@ -58,7 +61,7 @@ put-bound-spec =
     log-up-requires
     cast-bound
     sub-put-single
-    add-put-single
+    column-of-requires
     put-single-requires
     same-length
     returns)

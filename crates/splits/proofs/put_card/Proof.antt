@@ -5,20 +5,21 @@ use lib.IntN.{ℤ}
 use lib.ListN.{length, getD}
 use mathlib.Core.Bool.{true}
 use mathlib.Core.List.{List, [], _∷_, _++_}
-use mathlib.Core.Option.{some}
 use mathlib.Core.Path.{_∙_, _≡_, refl, sym, ap, ap₂, subst}
 use native.Mathlib.Omega.{arith}
+use Rattle.question.specs.Posed.{numbered}
 use Rattle.calculus.specs.Limits.{workNumbers}
 use Rattle.calculus.specs.Facts.{Fact, same}
-use Rattle.calculus.specs.Children.{pairs}
+use Rattle.calculus.specs.Children.{childAt, pairs}
 use Rattle.calculus.specs.Rules.{lastChild}
 use Rattle.format.specs.Fields.{u16, u16s}
 use Rattle.format.specs.StepForms.{variables}
+use Rattle.format.specs.Checking.{orNone}
 use Rattle.rows.specs.Rows.{branchOf}
-use Rattle.splits.specs.Splits.{numbered, childOf}
+use Rattle.steps.proofs.Offered.{child-at}
 use Rattle.splits.proofs.Variables.{below-first, below-later, below-rest}
 use Rattle.splits.proofs.Pairs.{pair-here, pair-there, pair-count, pairs-none}
-use Rattle.splits.proofs.Forms.{child-at, last-short, last-some}
+use Rattle.splits.proofs.Forms.{last-short, last-some}
 use Rattle.splits.proofs.put_card.Statement.{statement}
 use Rattle.splits.proofs.put_card.Tie as tie
 
@@ -90,7 +91,7 @@ returns c =
     c .before .put-string .ensures
     ∙ ap₂ (λ (v : List ℤ) (h : List Fact). branchOf v (s .args .count) ++ h) (l .inv .0)
     (ap₂ (λ (x y : ℕ). same x y ∷ []) (c .before .before .before .before .u16-at .ensures .0) (c .before .before .before .u16-at2 .ensures .0)
-    ∙ sym (pair-here b (l .i) (l .others) more (l .left) (c .before .before .before .before .before .if1 .taken)) ∙ l .inv .4 ∙ sym (child-at (pairs (u16s b (s .args .at) (s .args .m)) more) (s .args .k)))
+    ∙ sym (pair-here b (l .i) (l .others) more (l .left) (c .before .before .before .before .before .if1 .taken)) ∙ l .inv .4 ∙ sym (child-at (pairs (u16s b (s .args .at) (s .args .m)) more) (s .args .k) (s .pre .1 .1 .1 .0)))
 
 add-i : tie.Need-add-i Inv-loop μ-loop
 add-i c = omega arith
@@ -134,7 +135,7 @@ put-bound-requires c κs =
     let fx = below-first b (s .args .s .p) (s .args .at) (s .args .m) (omega (arith, s .pre .1 .0)) (s .pre .1 .0 .3) in
     let ex = c .u16-at3 .ensures .0 in
     let few : s .args .s .p ≤ 16 = s .pre .1 .1 .0 .0 in
-    ((s .pre .0 .0, subst (λ (v : List ℤ). workNumbers ≤ length v) (sym (l .inv .0)) (s .pre .0 .1)), (omega arith, s .pre .1 .0 .1, last-some (s .args .s) (u16 b (s .args .at)) (s .args .m) (l .left) (is-left (c .before)), s .pre .1 .1 .0 .3, s .pre .1 .1 .0 .1))
+    ((s .pre .0 .0, subst (λ (v : List ℤ). workNumbers ≤ length v) (sym (l .inv .0)) (s .pre .0 .1)), (omega arith, s .pre .1 .0 .1, last-some (s .args .s) (u16 b (s .args .at)) (s .args .m) (l .left) (is-left (c .before)), s .pre .1 .1 .0 .3, s .pre .1 .1 .0 .0, s .pre .1 .1 .0 .1))
 
 same-length-2 : tie.Need-same-length-2 Inv-loop μ-loop
 same-length-2 c = c .before .put-bound .kept .0 ∙ ap length (c .before .before .before .before .before .loop .inv .0)
@@ -149,10 +150,10 @@ returns-2 c =
     let first : 0 ≡ l .left = omega (arith, last-short (s .args .s) (u16 b (s .args .at)) (s .args .m)) in
     c .before .put-bound .ensures
     ∙ ap₂ (λ (v : List ℤ) (g : List Fact). branchOf v (s .args .count) ++ g) (l .inv .0)
-    (ap (λ (x : ℕ). childOf (some (lastChild (numbered (s .args .s)) x (s .args .m))) 1) (c .before .before .u16-at3 .ensures .0)
-    ∙ child-at more 1
+    (ap (λ (x : ℕ). orNone (childAt (lastChild (numbered (s .args .s)) x (s .args .m)) 1)) (c .before .before .u16-at3 .ensures .0)
+    ∙ child-at more 1 (omega arith)
     ∙ ap (λ (j : ℕ). getD more j []) first
-    ∙ sym (ap (λ (cs : List (List Fact)). getD cs (l .left) []) (pairs-none b (l .i) (l .others) more (omega arith))) ∙ l .inv .4 ∙ sym (child-at (pairs (u16s b (s .args .at) (s .args .m)) more) (s .args .k)))
+    ∙ sym (ap (λ (cs : List (List Fact)). getD cs (l .left) []) (pairs-none b (l .i) (l .others) more (omega arith))) ∙ l .inv .4 ∙ sym (child-at (pairs (u16s b (s .args .at) (s .args .m)) more) (s .args .k) (s .pre .1 .1 .1 .0)))
 
 pub put-card-spec : {M : Type 1} → statement M
 put-card-spec =

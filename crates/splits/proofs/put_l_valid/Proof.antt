@@ -1,5 +1,5 @@
 -- `splits::put_l_valid` meets its contract.
-use Prim.Native.Nat.{_+_, _<_}
+use Prim.Native.Nat.{ℕ, _+_}
 use borrow.Author.Needs.{needs}
 use denote.Ref.{now}
 use lib.IntN.{ℤ}
@@ -8,6 +8,7 @@ use mathlib.Core.Path.{_∙_, _≡_, ap, sym}
 use native.Mathlib.Omega.{arith}
 use Rattle.calculus.specs.Rows.{column, less}
 use Rattle.calculus.specs.Facts.{Fact, isLiteral, arithmetic, ge}
+use Rattle.question.specs.Columns.{columnAt}
 use Rattle.rows.specs.Rows.{branchOf}
 use Rattle.rows.proofs.Forms.{less-column}
 use Rattle.splits.proofs.Forms.{child-one, child-two}
@@ -26,8 +27,8 @@ returns c =
     c .before .put-string .ensures
     ∙ ap (λ (l : List Fact). branchOf (now (s .args .work)) (s .args .count) ++ l) (child-one (isLiteral (s .args .x) 0 ∷ []) ((arithmetic ge (less (column (s .args .s .q + s .args .x))) ∷ []) ∷ []) (s .args .k) (c .before .before .before .if1 .taken))
 
-add-put-single : tie.Need-add-put-single
-add-put-single c = search needs
+column-of-requires : tie.Need-column-of-requires
+column-of-requires c κs = search needs
 
 put-single-requires : tie.Need-put-single-requires
 put-single-requires c κs = search needs
@@ -36,13 +37,16 @@ same-length-2 : tie.Need-same-length-2
 same-length-2 c = search needs
 
 returns-2 : tie.Need-returns-2
+unfolding columnAt
 returns-2 c =
     let s = c .before .before .before .before .before in
+    let br = branchOf (now (s .args .work)) (s .args .count) in
     let e : s .args .k ≡ 2 = omega (arith, s .pre .1, c .before .before .before .before .if1 .left) in
-    let h : s .args .s .q + s .args .x < 48 = omega (arith, s .pre .1) in
+    let j = c .before .before .column-of in
     c .before .put-single .ensures
-    ∙ ap (λ (l : List ℤ). branchOf (now (s .args .work)) (s .args .count) ++ (arithmetic ge l ∷ [])) (sym (less-column (s .args .s .q + s .args .x) h))
-    ∙ ap (λ (l : List Fact). branchOf (now (s .args .work)) (s .args .count) ++ l) (child-two (isLiteral (s .args .x) 0 ∷ []) (arithmetic ge (less (column (s .args .s .q + s .args .x))) ∷ []) [] (s .args .k) e)
+    ∙ ap (λ (l : List ℤ). br ++ (arithmetic ge l ∷ [])) (sym (less-column (j .result) (j .ensures .1)))
+    ∙ ap (λ (i : ℕ). br ++ (arithmetic ge (less (column i)) ∷ [])) (j .ensures .0)
+    ∙ ap (λ (l : List Fact). br ++ l) (child-two (isLiteral (s .args .x) 0 ∷ []) (arithmetic ge (less (column (s .args .s .q + s .args .x))) ∷ []) [] (s .args .k) e)
 
 pub put-l-valid-spec : {M : Type 1} → statement M
 put-l-valid-spec =
@@ -51,7 +55,7 @@ put-l-valid-spec =
     put-string-requires
     same-length
     returns
-    add-put-single
+    column-of-requires
     put-single-requires
     same-length-2
     returns-2)

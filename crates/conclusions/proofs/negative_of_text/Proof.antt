@@ -1,4 +1,4 @@
--- `conclusions::less_text` meets its contract.
+-- `conclusions::negative_of_text` meets its contract.
 use borrow.Author.Needs.{needs}
 use denote.Ref.{now}
 use lib.IntN.{negℤ, pos}
@@ -9,8 +9,8 @@ use mir.ValLaws.{toZ-pos}
 use native.Mathlib.Omega.{arith}
 use Rattle.integers.proofs.Machine.{minus-fits, minus-is}
 use Rattle.conclusions.proofs.Laws.{value-code, value-length}
-use Rattle.conclusions.proofs.less_text.Statement.{statement}
-use Rattle.conclusions.proofs.less_text.Tie as tie
+use Rattle.conclusions.proofs.negative_of_text.Statement.{statement}
+use Rattle.conclusions.proofs.negative_of_text.Tie as tie
 
 cast-result : tie.Need-cast-result
 cast-result c = search needs
@@ -35,5 +35,5 @@ returns-2 c =
     minus-is (c .text-code .result) _ (toZ-ofZ (record { sfits = c .text-code .ok })) (omega (arith, c .text-code .ensures .1))
     ∙ ap negℤ (c .text-code .ensures .0 ∙ value-code (a .function) _ (c .before .if1 .left))
 
-pub less-text-spec : {M : Type 1} → statement M
-less-text-spec = tie.close (tie.spec cast-result sub-result returns text-code-requires sub-result-2 returns-2)
+pub negative-of-text-spec : {M : Type 1} → statement M
+negative-of-text-spec = tie.close (tie.spec cast-result sub-result returns text-code-requires sub-result-2 returns-2)

@@ -1,9 +1,9 @@
--- `conclusions::column_of` meets its contract.
+-- `question::column_of` meets its contract.
 use borrow.Author.Needs.{needs}
 use native.Mathlib.Omega.{arith}
-use Rattle.conclusions.proofs.Laws.{column-code, column-length}
-use Rattle.conclusions.proofs.column_of.Statement.{statement}
-use Rattle.conclusions.proofs.column_of.Tie as tie
+use Rattle.question.proofs.Columns.{column-code, column-length}
+use Rattle.question.proofs.column_of.Statement.{statement}
+use Rattle.question.proofs.column_of.Tie as tie
 
 add-result : tie.Need-add-result
 add-result c = search needs

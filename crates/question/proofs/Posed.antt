@@ -1,0 +1,16 @@
+-- What a question that may be worked on gives besides what its standing says.
+use Prim.Native.Nat.{ℕ, _≤_}
+use native.Mathlib.Omega.{arith}
+use mathlib.Core.List.{List}
+use lib.ListN.{length}
+use Rattle.format.specs.Places.{skip, literalsFrom}
+use Rattle.question.specs.declared.Progress.{Progress}
+use Rattle.question.specs.Posed.{Posed}
+use Rattle.question.proofs.Standing.{literals-within}
+
+module _ {b : List ℕ} {s : Progress} (h : Posed b s) where
+  pub some-character : 1 ≤ s .n
+  some-character = h .stands .some-character (h .head)
+
+  pub literals-whole : skip b (s .literals) literalsFrom ≤ length b
+  literals-whole = literals-within b s (h .to) (s .literals) (h .stands) (h .head) (omega arith)
