@@ -2,8 +2,8 @@
 use Prim.Native.Nat.{ℕ, zero, suc, _*_, _≤_, _<_}
 use mathlib.Core.List.{List, [], _∷_, _++_}
 use lib.ListN.{length, getD, take, drop}
-use lib.IntN.{ℤ, pos, natAbs}
-use Rattle.calculus.specs.Limits.{variableLimit, lengthLimit, numberLimit}
+use lib.IntN.{ℤ, pos}
+use Rattle.calculus.specs.Limits.{variableLimit, lengthLimit, Small, valueLimit}
 use Rattle.calculus.specs.Meaning.{Assignment}
 
 -- the first size characters of variable x's row
@@ -26,8 +26,8 @@ pub record Table (characters sizes : List ℕ) (p : ℕ) : Type 0 where
   pub sized : p ≤ length sizes
   pub short : (x : ℕ) → x < p → getD sizes x 0 ≤ lengthLimit
 
--- q integers of at most ±1,000,000,000 stand in front
+-- q integers "within ±100,000,000" stand in front
 pub record Integers (zs : List ℤ) (q : ℕ) : Type 0 where
   pub few : q ≤ variableLimit
   pub there : q ≤ length zs
-  pub small : (i : ℕ) → i < q → natAbs (getD zs i (pos 0)) ≤ numberLimit
+  pub small : (i : ℕ) → i < q → Small valueLimit (getD zs i (pos 0))

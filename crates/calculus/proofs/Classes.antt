@@ -234,19 +234,19 @@ module _ (u : Question) (w : HeadInRange u) (b : Branch) (r : FactsInRange u b) 
   abbrev meets : ℕ → ℕ → Bool
   meets i j = sameClass (labels b) (litNode i) (litNode j)
 
-  literals-meet→ : T (literalsMeet u (labels b)) → LiteralsMeet u b
+  literals-meet→ : T (literalsMeet (suc (length (u .literals))) (labels b)) → LiteralsMeet u b
   literals-meet→ t =
       let (i, hi, s) = any-below→ (suc (length (u .literals))) (λ i. anyBelow i (meets i)) t in
       let (j, hj, q) = any-below→ i (meets i) s in
       record { first = i; second = j; first-defined = omega arith; second-defined = omega arith; different = λ e. omega arith; joined = class→chain b (litNode i) (litNode j) q }
 
-  meet-in-order : (i j : ℕ) → i ≤ length (u .literals) → j < i → Chain b (litNode i) (litNode j) → T (literalsMeet u (labels b))
+  meet-in-order : (i j : ℕ) → i ≤ length (u .literals) → j < i → Chain b (litNode i) (litNode j) → T (literalsMeet (suc (length (u .literals))) (labels b))
   meet-in-order i j hi hj c = →any-below (suc (length (u .literals))) (λ i. anyBelow i (meets i)) i (omega arith) (→any-below i (meets i) j hj (chain→class u w b r (litNode i) (litNode j) c))
 
-  →literals-meet : LiteralsMeet u b → T (literalsMeet u (labels b))
+  →literals-meet : LiteralsMeet u b → T (literalsMeet (suc (length (u .literals))) (labels b))
   →literals-meet m = go (decLt (m .second) (m .first)) (decLt (m .first) (m .second))
     where
-      go : Dec (m .second < m .first) → Dec (m .first < m .second) → T (literalsMeet u (labels b))
+      go : Dec (m .second < m .first) → Dec (m .first < m .second) → T (literalsMeet (suc (length (u .literals))) (labels b))
       go (yes h) g = meet-in-order (m .first) (m .second) (m .first-defined) h (m .joined)
       go (no f) (yes h) = meet-in-order (m .second) (m .first) (m .second-defined) h (chain-sym (m .joined))
       go (no f) (no g) = absurd (m .different (omega arith))
@@ -274,13 +274,13 @@ apart-meet→ ls (apart x y ∷ c) t = go (or→ (sameClass ls (varNode x) (varN
 
 module _ (u : Question) (w : HeadInRange u) (b : Branch) (r : FactsInRange u b) where
   pub conflict→ : T (conflict u b) → LiteralsMeet u b ⊎ ApartMeet b
-  conflict→ t = go (or→ (literalsMeet u (labels b)) (apartMeet (labels b) b) t)
+  conflict→ t = go (or→ (literalsMeet (suc (length (u .literals))) (labels b)) (apartMeet (labels b) b) t)
     where
-      go : T (literalsMeet u (labels b)) ⊎ T (apartMeet (labels b) b) → LiteralsMeet u b ⊎ ApartMeet b
+      go : T (literalsMeet (suc (length (u .literals))) (labels b)) ⊎ T (apartMeet (labels b) b) → LiteralsMeet u b ⊎ ApartMeet b
       go (inl s) = inl (literals-meet→ u w b r s)
       go (inr s) = let (x, y, h, q) = apart-meet→ (labels b) b s in inr (record { left = x; right = y; stands = h; joined = class→chain b (varNode x) (varNode y) q })
 
   pub →conflict : LiteralsMeet u b ⊎ ApartMeet b → T (conflict u b)
-  →conflict (inl m) = →or-left (literalsMeet u (labels b)) (apartMeet (labels b) b) (→literals-meet u w b r m)
-  →conflict (inr m) = →or-right (literalsMeet u (labels b)) (apartMeet (labels b) b)
+  →conflict (inl m) = →or-left (literalsMeet (suc (length (u .literals))) (labels b)) (apartMeet (labels b) b) (→literals-meet u w b r m)
+  →conflict (inr m) = →or-right (literalsMeet (suc (length (u .literals))) (labels b)) (apartMeet (labels b) b)
       (→apart-meet (labels b) b (m .left) (m .right) (m .stands .0) (m .stands .1) (chain→class u w b r (varNode (m .left)) (varNode (m .right)) (m .joined)))

@@ -24,7 +24,7 @@ use Rattle.calculus.specs.Chains.{varNode}
 use Rattle.calculus.specs.Classes.{labels, sameClass, classLiteral, conflict}
 use Rattle.calculus.specs.Steps.{Step, Sum, Split, Apart, AConf, SConf, SProp, LIntro, LValid, CCollapse, CValid, CInj, Card, Join}
 use Rattle.calculus.specs.Children.{sumChild, literalChild, pairs, boundChild}
-use Rattle.calculus.specs.Rules.{guard, then, summand, sumOf, divided, falsum, joined, statesZero, sameLength, neighbours, distinct, logUp, lastChild, cardChildren, children, parted}
+use Rattle.calculus.specs.Rules.{guard, then, summand, sumOf, divided, falsum, joined, statesZero, sameLength, neighbours, distinct, logUp, lastChild, cardChildren, children, parted, statesEqual}
 use Rattle.calculus.specs.Instances.{entry, FactAt, Stands, Multiplier, Summands, IsSum, IsApart, IsAConf, IsLiteral, LengthsStated, Neighbours, LastChild, IsJoin, Instance, StepInRange}
 use Rattle.calculus.proofs.InRange.{HeadInRange, FactInRange, FactsInRange}
 use Rattle.calculus.proofs.Tests.{guard→, →guard, then→, →then, differ→, →differ, distinct→, →distinct}
@@ -168,6 +168,7 @@ module _ (u : Question) (b : Branch) where
   oneWay x y = any (statesZero (minus (apply u len x) (apply u len y))) b
 
   same-length→ : (x y : ℕ) → T (sameLength u b x y) → LengthsStated u b x y
+  unfolding statesEqual
   same-length→ x y t = go (or→ (oneWay x y) (oneWay y x) t)
     where
       go : T (oneWay x y) ⊎ T (oneWay y x) → LengthsStated u b x y
@@ -175,6 +176,7 @@ module _ (u : Question) (b : Branch) where
       go (inr s) = inr (stated→ (minus (apply u len y) (apply u len x)) b s)
 
   →same-length : (x y : ℕ) → LengthsStated u b x y → T (sameLength u b x y)
+  unfolding statesEqual
   →same-length x y (inl (k, h)) = →or-left (oneWay x y) (oneWay y x) (→stated (minus (apply u len x) (apply u len y)) b k h)
   →same-length x y (inr (k, h)) = →or-right (oneWay x y) (oneWay y x) (→stated (minus (apply u len y) (apply u len x)) b k h)
 

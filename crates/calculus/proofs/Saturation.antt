@@ -25,9 +25,9 @@ use Rattle.calculus.specs.Classes.{labels, sameClass, conflict}
 use Rattle.calculus.specs.Steps.{Step, Sum, Split, Apart, AConf, SConf, SProp, LIntro, LValid, CCollapse, CValid, CInj, Card, Join}
 use Rattle.calculus.specs.Children.{pairs, boundChild}
 use Rattle.calculus.specs.Rules.{children, logUp, lastChild}
-use Rattle.calculus.specs.Instances.{LastChild, Instance, StepInRange}
+use Rattle.calculus.specs.Instances.{LastChild, Instance, StepInRange, IsCard}
 use Rattle.calculus.specs.Model.{modelOf}
-use Rattle.calculus.specs.Saturation.{HoldsAlready, SomeChild, IsLeafCard, LeafInstance, Saturated}
+use Rattle.calculus.specs.Saturation.{HoldsAlready, SomeChild, LengthsEqual, LeafInstance, Saturated}
 use Rattle.calculus.specs.SaturationTest.{held, heldSome, byChildren, saturatedStep, lowestVar, lowestOf, saturatedCard, saturated}
 use Rattle.calculus.proofs.InRange.{HeadInRange, FactsInRange}
 use Rattle.calculus.proofs.Rows.{dot-minus, dot-number}
@@ -128,7 +128,7 @@ module _ (u : Question) (w : HeadInRange u) (b : Branch) (r : FactsInRange u b) 
           tt,
         ))
 
-    card-chosen : (x : ℕ) (xs : List ℕ) (cs : List (List Fact)) → All (λ y. y < u .p) (x ∷ xs) → 2 ≤ length (x ∷ xs) → T (saturatedCard u (labels b) m x) → IsLeafCard u m x xs cs → SomeChild b m cs
+    card-chosen : (x : ℕ) (xs : List ℕ) (cs : List (List Fact)) → All (λ y. y < u .p) (x ∷ xs) → 2 ≤ length (x ∷ xs) → T (saturatedCard u (labels b) m x) → IsCard u (LengthsEqual u m x xs) x xs cs → SomeChild b m cs
     card-chosen x xs cs g l t i = any→some b m cs (subst (AnyHeld b m) (sym (i .adds))
         (go (pairs-or-distinct low (All (HoldsAlready b m)) ℕ-discrete (λ x y e. (lowest→class b x y e, tt)) (x ∷ xs) (i .last))))
       where

@@ -165,7 +165,7 @@ module _ (u : Question) (a : Assignment) (f : For u a) where
     tt,
   ))
 
-  card-met : (b : Branch) (x : ℕ) (xs : List ℕ) (cs : List (List Fact)) → Met u a b → All (λ y. y < u .p) (x ∷ xs) → 2 ≤ length (x ∷ xs) → IsCard u b x xs cs → AnyMet u a cs
+  card-met : (b : Branch) (x : ℕ) (xs : List ℕ) (cs : List (List Fact)) → Met u a b → All (λ y. y < u .p) (x ∷ xs) → 2 ≤ length (x ∷ xs) → IsCard u (Neighbours u b x xs) x xs cs → AnyMet u a cs
   card-met b x xs cs m (hx, g) l i = subst (AnyMet u a) (sym (i .adds)) (go (pairs-or-distinct (str a) (Met u a) (List-discrete ℕ-discrete) (λ x y e. (e, tt)) (x ∷ xs) (i .last)))
     where
       few : Distinct (map (str a) (x ∷ xs)) → length (x ∷ xs) ≤ u .n ^ length (str a x)

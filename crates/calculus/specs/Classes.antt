@@ -52,12 +52,19 @@ abbrev pub lowest : List ℕ → ℕ → ℕ → ℕ → Option ℕ
 lowest ls x k zero = none
 lowest ls x k (suc m) = elim (sameClass ls (varNode x) (litNode k)) [ true ↦ some k | false ↦ lowest ls x (suc k) m ]
 
-abbrev pub classLiteral : Question → Branch → ℕ → Option ℕ
-classLiteral u b x = lowest (labels b) x 0 (suc (length (u .literals)))
+-- that of the class of x, on a branch with the labels ls
+abbrev pub literalIn : Question → List ℕ → ℕ → Option ℕ
+literalIn u ls x = lowest ls x 0 (suc (length (u .literals)))
 
--- "two different literals share a class"
-abbrev pub literalsMeet : Question → List ℕ → Bool
-literalsMeet u ls = anyBelow (suc (length (u .literals))) (λ i. anyBelow i (λ j. sameClass ls (litNode i) (litNode j)))
+abbrev pub classLiteral : Question → Branch → ℕ → Option ℕ
+classLiteral u b x = literalIn u (labels b) x
+
+-- "two different literals share a class", of the first m: a literal i shares it with a lower one
+abbrev pub literalMeets : List ℕ → ℕ → Bool
+literalMeets ls i = anyBelow i (λ j. sameClass ls (litNode i) (litNode j))
+
+abbrev pub literalsMeet : ℕ → List ℕ → Bool
+literalsMeet m ls = anyBelow m (literalMeets ls)
 
 -- "a ≉ fact has both sides in one"
 abbrev pub apartMeet : List ℕ → Branch → Bool
@@ -67,6 +74,9 @@ apartMeet ls (apart x y ∷ b) = sameClass ls (varNode x) (varNode y) || apartMe
 apartMeet ls (isLiteral x l ∷ b) = apartMeet ls b
 apartMeet ls (arithmetic r e ∷ b) = apartMeet ls b
 
--- S-Conf fits
+-- S-Conf fits on a branch with the labels ls, where there are m literals, the empty one included
+abbrev pub clash : ℕ → List ℕ → Branch → Bool
+clash m ls b = literalsMeet m ls || apartMeet ls b
+
 abbrev pub conflict : Question → Branch → Bool
-conflict u b = let ls = labels b in literalsMeet u ls || apartMeet ls b
+conflict u b = clash (suc (length (u .literals))) (labels b) b

@@ -6,7 +6,7 @@ use mathlib.Core.List.{List, [], _∷_, _++_}
 use lib.ListN.{length}
 use Rattle.lists.specs.Lists.{All}
 use Rattle.calculus.specs.Limits.{Small, numberLimit, factLimit, pendingLimit}
-use Rattle.calculus.specs.Facts.{Question, Fact, same, apart, isLiteral, arithmetic, Branch}
+use Rattle.calculus.specs.Facts.{Question, Fact, OnArithmetic, Branch}
 use Rattle.calculus.specs.Steps.{Step}
 use Rattle.calculus.specs.Children.{childAt}
 use Rattle.calculus.specs.Instances.{Instance}
@@ -28,10 +28,7 @@ mutual
 
 -- 9: "when a new number passes the limit"
 abbrev pub SmallFact : Fact → Type 0
-SmallFact (same x y) = Unit {0}
-SmallFact (apart x y) = Unit {0}
-SmallFact (isLiteral x l) = Unit {0}
-SmallFact (arithmetic r e) = All (Small numberLimit) e
+SmallFact f = OnArithmetic (λ r e. All (Small numberLimit) e) f
 
 -- a child's facts are in the limits on the branch b: "At most 128 facts stand on a branch"
 pub record ChildLimits (b : Branch) (c : List Fact) : Type 0 where
@@ -55,7 +52,7 @@ pub record WithinLimits (u : Question) (sts : List Step) : Type 0 where
 
 -- ---- claim 2: the path of the children taken
 
--- the step is proper and its child number k, from 1, adds the facts c; a closing rule has none, so it "does not fit"
+-- the step is proper and the child that it takes, by its number from 1, adds the facts c; a closing rule has none, so it "does not fit"
 pub record Takes (u : Question) (b : Branch) (t : Step × ℕ) (c : List Fact) : Type 0 where
   pub children : List (List Fact)
   pub proper : Instance u b (t .0) children

@@ -2,7 +2,7 @@
 use Prim.Native.Nat.{ℕ, _+_}
 use mathlib.Core.Path.{_≡_}
 use mathlib.Core.Logic.{_≢_}
-use mathlib.Core.Bool.{Bool, not}
+use mathlib.Core.Bool.{Bool, true, not}
 use mathlib.Core.List.{List, [], _∷_}
 use lib.ListN.{length, getD}
 use lib.IntN.{ℤ, pos, negsuc}
@@ -30,6 +30,19 @@ pub data Fact : Type 0 where
   apart : ℕ → ℕ → Fact
   isLiteral : ℕ → ℕ → Fact
   arithmetic : Relation → List ℤ → Fact
+
+-- what is asked of arithmetic facts alone, in words and as a test
+abbrev pub OnArithmetic : (Relation → List ℤ → Type 0) → Fact → Type 0
+OnArithmetic P (same x y) = Unit {0}
+OnArithmetic P (apart x y) = Unit {0}
+OnArithmetic P (isLiteral x l) = Unit {0}
+OnArithmetic P (arithmetic r e) = P r e
+
+abbrev pub onArithmetic : (Relation → List ℤ → Bool) → Fact → Bool
+onArithmetic t (same x y) = true
+onArithmetic t (apart x y) = true
+onArithmetic t (isLiteral x l) = true
+onArithmetic t (arithmetic r e) = t r e
 
 -- the facts that stand, by their numbers
 abbrev pub Branch : Type 0

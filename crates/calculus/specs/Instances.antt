@@ -16,7 +16,7 @@ use Rattle.calculus.specs.Chains.{litNode, Chain, OneClass, Counts}
 use Rattle.calculus.specs.Steps.{Step, Sum, Split, Apart, AConf, SConf, SProp, LIntro, LValid, CCollapse, CValid, CInj, Card, Join}
 use Rattle.calculus.specs.Children.{sumChild, splitChildren, apartChildren, sPropChild, literalChild, lValidChildren, cValidChildren, cInjChildren, pairs, boundChild, joinChild}
 
--- a form's constant (place 0) and its coefficient of column j (place j + 1)
+-- a form's number in place j: the constant in place 0, the coefficient of column i in place i + 1
 abbrev pub entry : List ℤ → ℕ → ℤ
 entry e j = getD e j (pos 0)
 
@@ -150,10 +150,10 @@ pub record Bound (u : Question) (x m : ℕ) (cs : List (List Fact)) : Type 0 whe
 abbrev pub LastChild : Question → ℕ → ℕ → List (List Fact) → Type 0
 LastChild u x m cs = ((characterCount (u .n) ≡ 1) × (cs ≡ [])) ⊎ ((characterCount (u .n) ≢ 1) × Bound u x m cs)
 
--- "2 to 16 different variables, m of them; for each neighbouring pair a fact states"
-pub record IsCard (u : Question) (b : Branch) (x : ℕ) (xs : List ℕ) (cs : List (List Fact)) : Type 0 where
+-- "2 to 16 different variables, m of them", with the premise on their lengths: "for each neighbouring pair a fact states", or another at a leaf
+pub record IsCard (u : Question) (Lengths : Type 0) (x : ℕ) (xs : List ℕ) (cs : List (List Fact)) : Type 0 where
   pub different : Distinct (x ∷ xs)
-  pub lengths : Neighbours u b x xs
+  pub lengths : Lengths
   pub last : List (List Fact)
   pub last-child : LastChild u x (suc (length xs)) last
   pub adds : cs ≡ pairs (x ∷ xs) last
@@ -186,7 +186,7 @@ Instance u b (CValid x) cs = cs ≡ cValidChildren u x
 Instance u b (CInj x y) cs = IsCInj u x y cs
 Instance u b (Card []) cs = ⊥
 Instance u b (Card (x ∷ [])) cs = ⊥
-Instance u b (Card (x ∷ y ∷ xs)) cs = IsCard u b x (y ∷ xs) cs
+Instance u b (Card (x ∷ y ∷ xs)) cs = IsCard u (Neighbours u b x (y ∷ xs)) x (y ∷ xs) cs
 Instance u b (Join j k) cs = IsJoin b j k cs
 
 -- ---- the part of a step's form (refusals 5 and 6) that the rules rest on

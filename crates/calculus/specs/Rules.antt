@@ -9,8 +9,8 @@ use lib.IntN.{ℤ, pos, negsuc}
 use lib.Signed.{nonNeg}
 use Rattle.lists.specs.Lists.{any}
 use Rattle.calculus.specs.Alphabet.{characterCount}
-use Rattle.calculus.specs.Rows.{plus, scale, minus, isZero, eqRow, allZero, floorDiv, divRow}
-use Rattle.calculus.specs.Facts.{holds, Fact, Branch, Question, apply, ge, eq, ne, same, apart, isLiteral, arithmetic, len, code}
+use Rattle.calculus.specs.Rows.{plus, scale, minus, isZero, eqRow, allZero, floorDiv, divRow, column}
+use Rattle.calculus.specs.Facts.{holds, Fact, Branch, Question, ge, eq, ne, same, apart, isLiteral, arithmetic, len, code, columnOf, Function}
 use Rattle.calculus.specs.Chains.{varNode}
 use Rattle.calculus.specs.Classes.{labels, sameClass, classLiteral, conflict}
 use Rattle.calculus.specs.Children.{sumChild, splitChildren, apartChildren, sPropChild, literalChild, lValidChildren, cValidChildren, cInjChildren, pairs, boundChild, joinChild}
@@ -84,9 +84,13 @@ statesZero e (arithmetic ge g) = false
 statesZero e (arithmetic eq g) = eqRow e g
 statesZero e (arithmetic ne g) = false
 
--- "a fact states their lengths' difference = 0, coefficients 1 and −1 in either order"
+-- a fact states that the difference of the columns i and j is 0, "coefficients 1 and −1 in either order"
+unfoldable pub statesEqual : Branch → ℕ → ℕ → Bool
+statesEqual b i j = any (statesZero (minus (column i) (column j))) b || any (statesZero (minus (column j) (column i))) b
+
+-- "a fact states their lengths' difference = 0"
 abbrev pub sameLength : Question → Branch → ℕ → ℕ → Bool
-sameLength u b x y = any (statesZero (minus (apply u len x) (apply u len y))) b || any (statesZero (minus (apply u len y) (apply u len x))) b
+sameLength u b x y = statesEqual b (columnOf u len x) (columnOf u len y)
 
 -- "for each neighbouring pair"
 abbrev pub neighbours : Question → Branch → ℕ → List ℕ → Bool
@@ -115,6 +119,10 @@ cardChildren u b (x ∷ []) = none
 cardChildren u b (x ∷ y ∷ xs) =
     guard (distinct (x ∷ y ∷ xs) && neighbours u b x (y ∷ xs)) (pairs (x ∷ y ∷ xs) (lastChild u x (length (x ∷ y ∷ xs))))
 
+-- L-Intro and C-Collapse, by their function
+abbrev pub literalChildren : Question → Branch → Function → ℕ → Option (List (List Fact))
+literalChildren u b f x = then (classLiteral u b x) (λ l. some (literalChild u f x l))
+
 -- the children of a step on a branch; none where it does not fit; a closing rule has no child
 abbrev pub children : Question → Branch → Step → Option (List (List Fact))
 children u b (Sum d ts) = then (sumOf b ts) (λ r. then (divided d r) (λ e. some (sumChild e)))
@@ -123,9 +131,9 @@ children u b (Apart k) = then (getElem? b k) parted
 children u b (AConf k) = then (getElem? b k) (λ f. guard (falsum f) [])
 children u b SConf = guard (conflict u b) []
 children u b (SProp f x y) = guard (not (eqb x y) && sameClass (labels b) (varNode x) (varNode y)) (sPropChild u f x y)
-children u b (LIntro x) = then (classLiteral u b x) (λ l. some (literalChild u len x l))
+children u b (LIntro x) = literalChildren u b len x
 children u b (LValid x) = some (lValidChildren u x)
-children u b (CCollapse x) = then (classLiteral u b x) (λ l. some (literalChild u code x l))
+children u b (CCollapse x) = literalChildren u b code x
 children u b (CValid x) = some (cValidChildren u x)
 children u b (CInj x y) = guard (not (eqb x y)) (cInjChildren u x y)
 children u b (Card xs) = cardChildren u b xs

@@ -1,19 +1,18 @@
 -- Saturation (document 01: "settled") in words: by chains, by the model's values, over every choice of operands.
-use Prim.Native.Nat.{ℕ, suc, _<_}
+use Prim.Native.Nat.{ℕ, _<_}
 use mathlib.Core.Path.{_≡_}
 use mathlib.Core.Option.{some}
 use mathlib.Core.List.{List, [], _∷_}
-use lib.ListN.{length, getElem?}
+use lib.ListN.{getElem?}
 use lib.IntN.{ℤ, pos}
 use lib.Signed.{_≤ℤ_}
-use Rattle.lists.specs.Lists.{All, Distinct}
+use Rattle.lists.specs.Lists.{All}
 use Rattle.calculus.specs.Limits.{lengthLimit}
 use Rattle.calculus.specs.Rows.{valueIn}
-use Rattle.calculus.specs.Facts.{Question, Fact, same, apart, isLiteral, arithmetic, Branch, Holds, len}
+use Rattle.calculus.specs.Facts.{Question, Fact, same, apart, isLiteral, arithmetic, Branch, Holds, OnArithmetic, len}
 use Rattle.calculus.specs.Chains.{OneClass, ClassHolds}
 use Rattle.calculus.specs.Steps.{Step, Sum, Split, Apart, AConf, SConf, SProp, LIntro, LValid, CCollapse, CValid, CInj, Card, Join}
-use Rattle.calculus.specs.Children.{pairs}
-use Rattle.calculus.specs.Instances.{LastChild, Instance, StepInRange}
+use Rattle.calculus.specs.Instances.{IsCard, Instance, StepInRange}
 use Rattle.calculus.specs.Model.{modelOf}
 
 -- "holds already: an arithmetic fact by the model's values, an ≈ by classes"; no child has a ≉ fact
@@ -31,12 +30,8 @@ pub record SomeChild (b : Branch) (m : List ℤ) (cs : List (List Fact)) : Type 
   pub held : All (HoldsAlready b m) child
 
 -- "Card's premise is equal model lengths"
-pub record IsLeafCard (u : Question) (m : List ℤ) (x : ℕ) (xs : List ℕ) (cs : List (List Fact)) : Type 0 where
-  pub different : Distinct (x ∷ xs)
-  pub lengths : All (λ y. modelOf u m len y ≡ modelOf u m len x) xs
-  pub last : List (List Fact)
-  pub last-child : LastChild u x (suc (length xs)) last
-  pub adds : cs ≡ pairs (x ∷ xs) last
+abbrev pub LengthsEqual : Question → List ℤ → ℕ → List ℕ → Type 0
+LengthsEqual u m x xs = All (λ y. modelOf u m len y ≡ modelOf u m len x) xs
 
 -- the choices of operands "whose premise holds in rules 6 to 12", with their children; "S-Prop's and the others' are by classes"
 unfoldable pub LeafInstance : Question → Branch → List ℤ → Step → List (List Fact) → Type 0
@@ -53,7 +48,7 @@ LeafInstance u b m (CValid x) cs = Instance u b (CValid x) cs
 LeafInstance u b m (CInj x y) cs = Instance u b (CInj x y) cs
 LeafInstance u b m (Card []) cs = ⊥
 LeafInstance u b m (Card (x ∷ [])) cs = ⊥
-LeafInstance u b m (Card (x ∷ y ∷ xs)) cs = IsLeafCard u m x (y ∷ xs) cs
+LeafInstance u b m (Card (x ∷ y ∷ xs)) cs = IsCard u (LengthsEqual u m x (y ∷ xs)) x (y ∷ xs) cs
 LeafInstance u b m (Join j k) cs = ⊥
 
 -- "A leaf is settled by its model if S-Conf does not fit and, for every choice of operands whose premise holds in rules 6 to 12, some child holds already"
@@ -63,10 +58,7 @@ pub record Saturated (u : Question) (b : Branch) (m : List ℤ) : Type 0 where
 
 -- "The model meets its facts when each arithmetic one holds with the model's value in every column"
 abbrev pub MeetsArithmetic : List ℤ → Fact → Type 0
-MeetsArithmetic m (same x y) = Unit {0}
-MeetsArithmetic m (apart x y) = Unit {0}
-MeetsArithmetic m (isLiteral x l) = Unit {0}
-MeetsArithmetic m (arithmetic r e) = Holds r (valueIn m e)
+MeetsArithmetic m f = OnArithmetic (λ r e. Holds r (valueIn m e)) f
 
 -- no "length passes 64"
 abbrev pub ShortLengths : Question → List ℤ → Type 0

@@ -155,10 +155,14 @@ OtherThanOne (format.Refused c r) = Other c
 OtherThanOne format.NoSolution = Unit {0}
 OtherThanOne (format.Strings s) = Unit {0}
 
+eleven-other : Other 11
+eleven-other e = omega arith
+
 outcome-other : (t : Ticket Branch (List Fact)) → TicketOther t → OtherThanOne (outcomeOf t)
 outcome-other (Faulty c r) p = p
-outcome-other (Done v (proving w)) p = tt
-outcome-other (Done v (taking br)) p = tt
+outcome-other (Done v (proving (working br ss))) p = eleven-other
+outcome-other (Done v (proving closed)) p = tt
+outcome-other (Done v (taking br)) p = eleven-other
 outcome-other (Done v (modelled br m)) p = tt
 
 pub never-one : (b : List ℕ) → OtherThanOne (outcomeOf (readBehind checker b (question.question b)))

@@ -1,14 +1,13 @@
 -- What checking says, and what it promises of its result and the lent buffers.
 use mathlib.Core.Path.{_≡_}
-use mathlib.Core.List.{List, _++_}
+use mathlib.Core.List.{List}
 use Prim.Native.Nat.{ℕ}
-use lib.ListN.{length, drop}
 use lib.IntN.{ℤ}
 use Rattle.calculus.specs.Facts.{Fact, Branch}
 use Rattle.format.specs.Reading.{State, stepsOn}
 use Rattle.format.specs.Checking as format
 use Rattle.format.specs.Checking.{checker, outcomeOf}
-use Rattle.format.specs.Demands.{written, Checked}
+use Rattle.format.specs.Demands.{Checked, answerAfter}
 use Rattle.question.specs.declared.Progress.{Progress}
 use Rattle.question.specs.Posed.{asked}
 use Rattle.checking.specs.declared.Outcome.{Outcome}
@@ -28,7 +27,7 @@ outcomeFrom b s st r at = outcomeOf (stepsOn (checker (asked b s)) b (asked b s)
 -- a part of checking comes to an outcome: it tells it, and of the answer buffer changes the answer's bytes only
 pub record Decided (o : format.Outcome) (answer answer' : List ℕ) (r : Outcome) : Type 0 where
   pub tells : r ≡ told o
-  pub answer-after : answer' ≡ written o ++ drop (length (written o)) answer
+  pub answer-after : answer' ≡ answerAfter o answer
 
 -- TH-1: the outcome that is told is the definition's, and the buffers are left as demanded
 pub record Promised (ticket : List ℕ) (work work' : List ℤ) (answer answer' : List ℕ) (r : Outcome) : Type 0 where

@@ -11,11 +11,11 @@ use borrow.Author.Tests.{leb-true, leb-false, le-leb, lt-leb}
 use Rattle.calculus.specs.Facts.{Question, Fact, Branch}
 use Rattle.calculus.specs.Walk.{closed}
 use Rattle.format.specs.Records.{size, kind, next, whole, need}
-use Rattle.format.specs.Reading.{State, proving, taking, modelled, modelAt, modelFault, lastFault, bodyFault, fault, advanced, Faulty, Done, stepsOn}
+use Rattle.format.specs.Reading.{State, proving, taking, modelled, modelAt, modelFault, lastFault, bodyFault, fault, advanced, Faulty, Done, stepsOn, endForm}
 use Rattle.format.specs.Checking.{leafFault, checker}
 use Rattle.format.proofs.Faults.{none-applies}
 use Rattle.format.proofs.StepTurns.{steps-none, steps-faulty, steps-done, steps-more}
-use Rattle.claims.specs.Numbers.{lastNumber, endNumber}
+use Rattle.claims.specs.Numbers.{endNumber}
 
 -- ---- the model's record, whole
 
@@ -63,7 +63,7 @@ module _ (b : List ℕ) (u : Question) (st : State Branch (List Fact)) (r at : �
   end-done : endNumber b at ≡ 0 → stepsOn (checker u) b u st r at ≡ Done u st
   unfolding endNumber
   end-done e =
-      let a3 = none-applies 2 (whole b at) (need 4 (eqb (kind b at) 8) (lastNumber (length b) (next b at) (size b at) 0)) e in
+      let a3 = none-applies 2 (whole b at) (need 4 (eqb (kind b at) 8) (endForm (length b) (next b at) (size b at) 0)) e in
       let h : next b at ≤ length b = leb-true _ _ (a3 .0) in
       steps-done (checker u) b u st r at (omega arith) (same ∙ e) (none-applies 3 (eqb (kind b at) 8) _ (a3 .1) .0)
 

@@ -11,12 +11,12 @@ use Rattle.calculus.specs.Facts.{Question, Fact, Branch}
 use Rattle.calculus.specs.Walk.{Waiting, working}
 use Rattle.format.specs.Records.{size, kind, next, need}
 use Rattle.format.specs.StepForms.{child, stepAt, childInRange}
-use Rattle.format.specs.Reading.{proving, taking, stepFault, fault}
+use Rattle.format.specs.Reading.{proving, taking, stepFault, fault, endForm}
 use Rattle.format.specs.Checking.{nth, allTried, takenTried, checker}
 use Rattle.steps.specs.Offered.{offered}
 use Rattle.steps.proofs.Faults.{applies, neither-applies}
 use Rattle.derivation.specs.State.{offeredIn}
-use Rattle.claims.specs.Numbers.{lastNumber, openNumber}
+use Rattle.claims.specs.Numbers.{openNumber}
 
 -- ---- where a branch is open
 
@@ -35,7 +35,7 @@ end-some false y e = omega arith
 pub open-step : (n to k m step : ℕ) → openNumber n to k m step ≡ 0 → k ≡ 6
 open-step n to k m step e = go (eqb k 8) (eqb k 6) refl e
   where
-    go : (x y : Bool) → eqb k 6 ≡ y → cond x (lastNumber n to m 11) (need 4 y step) ≡ 0 → k ≡ 6
+    go : (x y : Bool) → eqb k 6 ≡ y → cond x (endForm n to m 11) (need 4 y step) ≡ 0 → k ≡ 6
     go true y h e = absurd (end-some (eqb to n) (eqb m 0) e)
     go false true h e = eqb-true k 6 h
     go false false h e = absurd (omega arith)
@@ -94,7 +94,7 @@ module _ (b : List ℕ) (u : Question) (br : Branch) (at : ℕ) (h : next b at �
 
   path-fault : pathFault ≡ openNumber (length b) (next b at) (kind b at) (size b at) (formTwo tried)
   unfolding fault offered
-  path-fault = rw (le-leb (next b at) (length b) h, ne-eqb (kind b at) 7 k7) (ap (λ f. cond (eqb (kind b at) 8) (lastNumber (length b) (next b at) (size b at) 11) f) (no-model (eqb (kind b at) 6) _ 0))
+  path-fault = rw (le-leb (next b at) (length b) h, ne-eqb (kind b at) 7 k7) (ap (λ f. cond (eqb (kind b at) 8) (endForm (length b) (next b at) (size b at) 11) f) (no-model (eqb (kind b at) 6) _ 0))
 
   -- no number: a step
   pub path-kind : pathFault ≡ 0 → kind b at ≡ 6

@@ -5,16 +5,12 @@ use lib.ListN.{length}
 use lib.Dec.{eqb}
 use mathlib.Core.Bool.{cond}
 use Rattle.format.specs.Records.{size, kind, next, whole, need}
-
--- an end record with a body of m bytes that ends at a position, in a ticket of n bytes: "a byte follows the end record, counted at that end record", then
--- its form, then what is asked next
-abbrev pub lastNumber : ℕ → ℕ → ℕ → ℕ → ℕ
-lastNumber n to m later = need 4 (eqb to n) (need 5 (eqb m 0) later)
+use Rattle.format.specs.Reading.{endForm}
 
 -- a record of kind k where a branch is open: "11 when the end comes before every branch closed, or before a model". At a step it is what is asked next.
 abbrev pub openNumber : ℕ → ℕ → ℕ → ℕ → ℕ → ℕ
-openNumber n to k m step = cond (eqb k 8) (lastNumber n to m 11) (need 4 (eqb k 6) step)
+openNumber n to k m step = cond (eqb k 8) (endForm n to m 11) (need 4 (eqb k 6) step)
 
 -- the record that must be the end, behind the last closed branch or a model; 0 where it is
 unfoldable pub endNumber : List ℕ → ℕ → ℕ
-endNumber b at = need 3 (whole b at) (need 4 (eqb (kind b at) 8) (lastNumber (length b) (next b at) (size b at) 0))
+endNumber b at = need 3 (whole b at) (need 4 (eqb (kind b at) 8) (endForm (length b) (next b at) (size b at) 0))

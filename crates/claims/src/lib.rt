@@ -7,7 +7,7 @@ ghost use Rattle.calculus.specs.Facts.{Fact};
 ghost use Rattle.calculus.specs.Walk.{Waiting, working};
 ghost use Rattle.format.specs.Records.{size as sizeAt, kind as kindAt, records};
 ghost use Rattle.format.specs.StepForms.{child};
-ghost use Rattle.format.specs.Reading.{proving, taking, fault, readSteps, claimFault};
+ghost use Rattle.format.specs.Reading.{proving, taking, fault, readSteps, claimFault, endForm};
 ghost use Rattle.format.specs.Checking.{checker};
 ghost use Rattle.rows.specs.Rows.{branchOf};
 ghost use Rattle.rows.specs.Work.{Fine};
@@ -15,7 +15,7 @@ ghost use Rattle.question.specs.Progress.{progressOf};
 ghost use Rattle.question.specs.Posed.{asked, Posed};
 ghost use Rattle.steps.specs.Offered.{offeredChild};
 ghost use Rattle.derivation.specs.Actions.{numberOf, Acts};
-ghost use Rattle.claims.specs.Numbers.{lastNumber, openNumber, endNumber};
+ghost use Rattle.claims.specs.Numbers.{openNumber, endNumber};
 ghost use Rattle.claims.specs.Outcomes.{walkedOf, followedOf, LeafAt};
 use branch::Branch;
 use derivation::Action;
@@ -62,7 +62,7 @@ pub fn claim_fault(ticket: &[u8], s: Progress, at: usize) -> usize
 
 // An end record that ends at a position, in a ticket of so many bytes: "a byte follows the end record, counted at that end record".
 fn last_fault(length: usize, to: usize, size: usize, later: usize) -> usize
-    ensures { λ r. ⌜ r ≡ lastNumber length to size later ⌝ }
+    ensures { λ r. ⌜ r ≡ endForm length to size later ⌝ }
 {
     if to != length {
         return 4;

@@ -13,7 +13,7 @@ use Rattle.calculus.specs.Chains.{varNode}
 use Rattle.calculus.specs.Classes.{labels, sameClass, lowest, classLiteral}
 use Rattle.calculus.specs.Children.{one, sPropChild, literalChild}
 use Rattle.calculus.specs.Steps.{Sum, SProp}
-use Rattle.calculus.specs.Rules.{guard, then, children}
+use Rattle.calculus.specs.Rules.{guard, then, children, literalChildren}
 use Rattle.format.specs.Fields.{u32s}
 use Rattle.format.specs.StepForms.{functionOf}
 use Rattle.format.specs.Places.{literalsFrom}
@@ -28,7 +28,7 @@ use Rattle.question.specs.declared.Progress.{Progress}
 use Rattle.question.specs.Posed.{asked}
 use Rattle.question.specs.Columns.{columnAt}
 use Rattle.question.proofs.Columns.{applied, columns-differ}
-use Rattle.conclusions.specs.Made.{madeOf, literalChildren}
+use Rattle.conclusions.specs.Made.{madeOf}
 
 -- ---- Sum
 

@@ -9,8 +9,7 @@ use lib.IntN.{ℤ}
 use Rattle.lists.specs.Lists.{All}
 use Rattle.calculus.specs.Facts.{Question, Fact, Branch}
 use Rattle.calculus.specs.Steps.{Step}
-use Rattle.calculus.specs.Children.{childAt}
-use Rattle.calculus.specs.Rules.{then, children}
+use Rattle.calculus.specs.Rules.{children}
 use Rattle.calculus.specs.Instances.{Instance, StepInRange}
 use Rattle.calculus.specs.Walk.{Walk, working, closed, enter}
 use Rattle.calculus.specs.Derivations.{LimitsFrom, Takes, PathLimitsFrom}
@@ -20,7 +19,7 @@ use Rattle.calculus.proofs.Ranges.{children-in-range}
 use Rattle.calculus.proofs.Walks.{Walked, StateInRange, enter-in-range, Followed, taken→takes, taken-in-range}
 use Rattle.format.specs.Records.{need}
 use Rattle.format.specs.Reading.{State, proving, taking, modelled}
-use Rattle.format.specs.Checking.{fits, orNone, allTried, takenTried, nth, takenFacts, leafFault, checker}
+use Rattle.format.specs.Checking.{fits, orNone, allTried, takenTried, takenFacts, leafFault, checker}
 use Rattle.format.proofs.Behind.{Taken}
 use Rattle.format.proofs.Limits.{limits→tried, limits→taken}
 
@@ -64,12 +63,6 @@ module _ (u : Question) (w : HeadInRange u) where
 
 -- ---- claim 2
 
--- the child that checking takes
-pub nth-then : (o : Option (List (List Fact))) (k : ℕ) → nth o k ≡ then o (λ cs. childAt cs k)
-nth-then none k = refl
-nth-then (some cs) k = refl
-
--- what claim 2 comes to
 pub record Reached (u : Question) (b : Branch) (ts : List (Step × ℕ)) (o : Option (List ℤ)) (s : State Branch (List Fact)) : Type 0 where
   pub leaf : Branch
   pub model : List ℤ
@@ -88,7 +81,7 @@ taken→reached u b (t ∷ ts) o s (f, h) =
     record {
       leaf = n .leaf;
       model = n .model;
-      followed = (c, sym (nth-then (children u b (t .0)) (t .1)) ∙ e, n .followed);
+      followed = (c, e, n .followed);
       no-fault = n .no-fault;
       behind-model = n .behind-model;
       state = n .state;
@@ -102,7 +95,7 @@ module _ (u : Question) (w : HeadInRange u) where
   followed→taken b leaf m (t ∷ ts) r (g, gs) l (c, e, h) f =
       let k : Takes u b t c = taken→takes u w b t c r g e in
       let (here, later) = l c k in
-      let d : takenFacts u b (t .0) (t .1) ≡ some c = nth-then (children u b (t .0)) (t .1) ∙ e in (
+      let d : takenFacts u b (t .0) (t .1) ≡ some c = e in (
         ap (takenTried b) d ∙ limits→taken b c here,
         subst (λ x. Taken (checker u) (taking (b ++ x)) ts (some m) (modelled leaf m)) (sym (ap orNone d)) (followed→taken (b ++ c) leaf m ts (taken-in-range u w b t c r g k) gs later h f),
       )

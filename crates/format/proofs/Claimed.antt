@@ -14,7 +14,7 @@ use Rattle.calculus.specs.Facts.{Question}
 use Rattle.calculus.specs.Steps.{Step}
 use Rattle.calculus.specs.Walk.{working}
 use Rattle.format.specs.Records.{size, kind, next, whole, records, need}
-use Rattle.format.specs.Question.{Reading, Stopped, Ended, question, questionForm, asked, questionOf}
+use Rattle.format.specs.Question.{Reading, Stopped, Ended, question, questionForm, asked}
 use Rattle.format.specs.Reading.{State, proving, taking, Method, Done, readSteps, claimAt, claimFault, begin, readBehind}
 use Rattle.format.specs.ProperForm.{stepsAt, stepsBehind, takenSteps}
 use Rattle.format.proofs.Faults.{none-applies, and-true}
@@ -58,14 +58,14 @@ claim-headed b last at later e =
     leb-true 1 last (and-true (leb 1 last) (eqb (kind b at) 5) (none-applies 3 placed later (none-applies 2 (whole b at) (need 4 placed later) e .1) .0) .0)
 
 -- the claim stands behind a head
-pub claimed-headed : {b : List ℕ} {u : Question} (c : Claimed b (questionForm b) u) → 1 ≤ c .last
+pub claimed-headed : {b : List ℕ} {g : Reading} {u : Question} (c : Claimed b g u) → 1 ≤ c .last
 claimed-headed {b} c = claim-headed b (c .last) (c .position) (need 5 (eqb (size b (c .position)) 2) (need 6 (leb 1 (claimAt b (c .position)) && leb (claimAt b (c .position)) 2) 0)) (c .claim-formed)
 
 pub claimed-in-range : {b : List ℕ} {u : Question} → Claimed b (questionForm b) u → QuestionInRange u
 claimed-in-range {b} c = asked-in-range b (c .ended) (claimed-headed c)
 
-pub claimed-asked : {b : List ℕ} {u : Question} → Claimed b (questionForm b) u → questionOf b ≡ some u
-claimed-asked {b} {u} c = ap asked (c .ended) ∙ headed-asked (record { last = c .last; question = u }) (c .position) (c .number) (le-leb 1 (c .last) (claimed-headed c))
+pub claimed-asked : {b : List ℕ} {g : Reading} {u : Question} → Claimed b g u → asked g ≡ some u
+claimed-asked {b} {g} {u} c = ap asked (c .ended) ∙ headed-asked (record { last = c .last; question = u }) (c .position) (c .number) (le-leb 1 (c .last) (claimed-headed c))
 
 module _ {B C : Type 0} (method : Question → Method B C) (b : List ℕ) where
   abbrev pub ReadBehind : Reading → Question → State B C → Type 0

@@ -11,7 +11,7 @@ use Rattle.lists.specs.Lists.{All}
 use Rattle.calculus.specs.Facts.{Question, columnCount}
 use Rattle.calculus.specs.Instances.{StepInRange}
 use Rattle.format.specs.Fields.{u16, u32}
-use Rattle.format.specs.StepForms.{Rule, sum, branch, apart, aConf, sConf, sProp, lIntro, lValid, cCollapse, cValid, cInj, card, join, unknown, Form, formFor, fitsForm, rule, lengthFits, sumPairs, multipliersWithin, splitPairs, cardVariables, variables, operandsInRange, stepOf, stepAt}
+use Rattle.format.specs.StepForms.{Rule, sum, branch, apart, aConf, sConf, sProp, lIntro, lValid, cCollapse, cValid, cInj, card, join, unknown, Form, formFor, fitsForm, rule, lengthFits, sumPairs, multipliersWithin, pairsIn, cardVariables, variables, operandsInRange, stepOf, stepAt}
 use Rattle.format.proofs.Faults.{and-true}
 use Rattle.format.proofs.Fields.{length-u16s, length-pairs, length-form}
 
@@ -26,7 +26,7 @@ unfolding operandsInRange stepOf StepInRange
 rule-in-range b u sum at m l e =
     let long : 14 ≤ m = at-least (formFor sum) m l in
     (leb-true 1 (u32 b (at + 4)) (and-true _ (leb (u32 b (at + 4)) 2147483647 && multipliersWithin (sumPairs b at m)) e .0), subst (λ k. 1 ≤ k) (sym (length-pairs b (at + 8) ((m - 8) / 6))) (omega arith))
-rule-in-range b u branch at m l e = length-form b (at + 4) (splitPairs m)
+rule-in-range b u branch at m l e = length-form b (at + 4) (pairsIn m)
 rule-in-range b u apart at m l e = tt
 rule-in-range b u aConf at m l e = tt
 rule-in-range b u sConf at m l e = tt

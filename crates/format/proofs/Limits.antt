@@ -21,7 +21,7 @@ use Rattle.format.proofs.Faults.{none-applies, passed, and-true}
 
 -- ---- where the limits hold, the tests are passed
 
-→within : (k : ℕ) (zs : List ℤ) → All (Small k) zs → allWithin k zs ≡ true
+pub →within : (k : ℕ) (zs : List ℤ) → All (Small k) zs → allWithin k zs ≡ true
 unfolding allWithin
 →within k zs h = →all-true (within k) zs (λ z. le-leb (natAbs z) k) h
 

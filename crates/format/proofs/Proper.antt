@@ -2,11 +2,11 @@
 use Prim.Native.Nat.{ℕ, zero, suc, _+_, _-_}
 use mathlib.Core.Path.{_≡_, refl, sym, _∙_, ap, subst}
 use mathlib.Core.Bool.{true, false}
-use mathlib.Core.Option.{none, some}
+use mathlib.Core.Option.{none, some, Option·getD}
 use mathlib.Core.List.{List, [], _∷_, _++_, map}
-use lib.ListN.{length, getD, getElem?, length-append}
+use lib.ListN.{length, getElem?, length-append}
 use lib.IntN.{ℤ}
-use native.Mathlib.Omega.{arith}
+use Rattle.lists.proofs.Options.{none-some, some-injective}
 use Rattle.lists.specs.Lists.{All}
 use Rattle.calculus.specs.Facts.{Question, Fact, Branch}
 use Rattle.calculus.specs.Steps.{Step, shape}
@@ -14,11 +14,12 @@ use Rattle.calculus.specs.Rules.{children}
 use Rattle.calculus.specs.Instances.{Instance, StepInRange}
 use Rattle.calculus.specs.Walk.{Walk, working, closed, enter}
 use Rattle.calculus.specs.Derivations.{SplitLimits, ChildLimits, LimitsFrom, WithinLimits, Takes, PathLimitsFrom, PathWithinLimits}
+use Rattle.calculus.specs.Children.{childAt}
 use Rattle.calculus.proofs.InRange.{HeadInRange, FactsInRange}
 use Rattle.calculus.proofs.Fits.{fits→instance, instance→fits}
 use Rattle.calculus.proofs.Ranges.{children-in-range}
 use Rattle.calculus.proofs.Shapes.{instance-shape, count, shape-walks}
-use Rattle.calculus.proofs.Walks.{child-at, StateInRange, enter-in-range, childTaken, taken→takes, takes→taken, taken-in-range}
+use Rattle.calculus.proofs.Walks.{StateInRange, enter-in-range, childTaken, taken→takes, takes→taken, taken-in-range}
 use Rattle.format.specs.Reading.{proving, taking, modelled}
 use Rattle.format.specs.Checking.{allTried, takenTried, checker, takenFacts, NoSolution, Strings, verdict}
 use Rattle.format.specs.ProperForm.{former, ProperNo, ProperStrings, steps, takenSteps}
@@ -26,7 +27,7 @@ use Rattle.format.proofs.Behind.{Taken}
 use Rattle.format.proofs.Claimed.{claimed-in-range}
 use Rattle.format.proofs.Tickets.{steps-in-range, →proper}
 use Rattle.format.proofs.Limits.{tried→limits, taken→limits}
-use Rattle.format.proofs.Checker.{bare, fitting, nth-then}
+use Rattle.format.proofs.Checker.{bare, fitting}
 use Rattle.format.proofs.NoSolution.{accepted→closed}
 use Rattle.format.proofs.Strings.{accepted→given}
 
@@ -50,15 +51,19 @@ module _ (u : Question) (w : HeadInRange u) where
 
   -- ---- claim 2: the branch of shapes is as long as that of facts
 
-  at-length : (cs : List (List Fact)) (k : ℕ) {c : List Fact} → getElem? cs k ≡ some c → getD (map length cs) k 0 ≡ length c
-  at-length [] k e = absurd (let z : _≡_ {A = ℕ} 0 1 = cc in omega arith)
-  at-length (d ∷ cs) zero {c} e = ap length (let z : d ≡ c = cc in z)
+  at-length : (cs : List (List Fact)) (k : ℕ) {c : List Fact} → getElem? cs k ≡ some c → getElem? (map length cs) k ≡ some (length c)
+  at-length [] k e = absurd (none-some e)
+  at-length (d ∷ cs) zero e = ap (λ x. some (length x)) (some-injective e)
   at-length (d ∷ cs) (suc k) e = at-length cs k e
 
-  shape-takes : (b : Branch) (t : Step × ℕ) (c : List Fact) → Takes u b t c → length b + getD (shape (u .n) (t .0)) (t .1 - 1) 0 ≡ length (b ++ c)
+  child-length : (cs : List (List Fact)) (k : ℕ) {c : List Fact} → childAt cs k ≡ some c → childAt (map length cs) k ≡ some (length c)
+  child-length cs zero e = absurd (none-some e)
+  child-length cs (suc k) e = at-length cs k e
+
+  shape-takes : (b : Branch) (t : Step × ℕ) (c : List Fact) → Takes u b t c → length b + Option·getD (childAt (shape (u .n) (t .0)) (t .1)) 0 ≡ length (b ++ c)
   shape-takes b t c k =
-      ap (λ s. length b + getD s (t .1 - 1) 0) (sym (instance-shape u (w .alphabet) b (t .0) (k .children) (k .proper)))
-      ∙ ap (λ n. length b + n) (at-length (k .children) (t .1 - 1) (child-at (k .children) (t .1) (k .taken)))
+      ap (λ s. length b + Option·getD (childAt s (t .1)) 0) (sym (instance-shape u (w .alphabet) b (t .0) (k .children) (k .proper)))
+      ∙ ap (λ o. length b + Option·getD o 0) (child-length (k .children) (t .1) (k .taken))
       ∙ sym (length-append b c)
 
   taken→formed : (b leaf : Branch) (m : List ℤ) (ts : List (Step × ℕ)) → FactsInRange u b → All (λ t. StepInRange u (t .0)) ts → Taken (checker u) (taking b) ts (some m) (modelled leaf m)
@@ -67,7 +72,7 @@ module _ (u : Question) (w : HeadInRange u) where
   taken→formed b leaf m [] r g (_, _, e) = ((refl, refl, ap (λ (d : Branch). modelled (length d) m) (let z : b ≡ leaf = cc in z)), tt)
   taken→formed b leaf m (t ∷ ts) r (g, gs) (f, h) =
       let (c, e, d) = fitting (takenFacts u b (t .0) (t .1)) _ f in
-      let is : childTaken u b t ≡ some c = sym (nth-then (children u b (t .0)) (t .1)) ∙ e in
+      let is : childTaken u b t ≡ some c = e in
       let k : Takes u b t c = taken→takes u w b t c r g is in
       let (n, l) = taken→formed (b ++ c) leaf m ts (taken-in-range u w b t c r g k) gs (subst (λ x. Taken (checker u) (taking (b ++ x)) ts (some m) (modelled leaf m)) d h) in (
         (refl, subst (λ k. Taken (former u) (taking k) ts (some m) (modelled (length leaf) m)) (sym (shape-takes b t c k)) n),

@@ -3,32 +3,36 @@ use Prim.Native.Nat.{ℕ, suc, _+_, _*_, _-_, _/_, _%_, _≤_, _<_}
 use native.Mathlib.Nat.{add-zero}
 use native.Mathlib.Omega.{arith}
 use mathlib.Core.Path.{_≡_, refl, sym, _∙_, ap, ap₂, subst}
-use mathlib.Core.Bool.{true, false, _&&_}
+use mathlib.Core.Bool.{true, false, _&&_, Bool, cond}
 use mathlib.Core.Option.{Option, none, some}
 use mathlib.Core.List.{List, [], _∷_, _++_, append-assoc, append-nil, flatMap}
 use lib.ListN.{length, getD, drop, length-append, length-drop}
 use lib.Seq.{drop-at, drop-drop, getD-drop}
 use lib.IntN.{ℤ, pos, negsuc}
 use borrow.Author.Tests.{leb-true, le-leb, eq-eqb}
+use lib.Dec.{leb}
 use Rattle.lists.specs.Lists.{All}
 use Rattle.lists.proofs.Lists.{getD-all}
 use Rattle.lists.proofs.Tests.{→true}
-use Rattle.calculus.specs.Limits.{alphabetLimit, variableLimit, lengthLimit, valueLimit, factLimit}
+use Rattle.lists.proofs.Options.{none-some, some-injective}
+use Rattle.calculus.specs.Limits.{alphabetLimit, variableLimit, lengthLimit, valueLimit}
 use Rattle.calculus.specs.Alphabet.{Over, allCharacters}
 use Rattle.calculus.specs.Facts.{Question}
 use Rattle.calculus.specs.Meaning.{Assignment, For}
 use Rattle.calculus.proofs.Words.{→over}
 use Rattle.format.specs.Fields.{bytesOf, unsigned, signed, u16, u32, u32s, i32s, within, allWithin}
 use Rattle.format.specs.Records.{size, kind, next, whole}
-use Rattle.format.specs.Question.{questionForm}
+use Rattle.format.specs.Question.{Reading, question, asked, Stopped, Ended}
 use Rattle.format.specs.Places.{skip, textAt, texts}
 use Rattle.format.specs.Answer.{recordBytes, characterBytes, integerBytes, stringRecords, encode, answerForm, integersAt, assignmentOf, outside}
 use Rattle.format.specs.Judging.{Judging, Refused, Judged, judgeAnswer, judgeBehind, judging}
+use Rattle.format.specs.Demands.{TH-3-all}
 use Rattle.format.proofs.Faults.{and-true}
 use Rattle.format.proofs.Entries.{QuestionInRange}
-use Rattle.format.proofs.Claimed.{Claimed, form→claimed, claimed-headed, claimed-in-range}
 use Rattle.format.proofs.Encoded.{length-bytes, length-characters, length-integers, length-record}
 use Rattle.format.proofs.Fields.{signed-low, signed-high}
+use Rattle.format.proofs.Asked.{asked-in-range, question→form}
+use Rattle.format.proofs.Limits.{→within}
 
 -- ---- what stands at a position
 
@@ -177,10 +181,19 @@ answer-back u a r f short values =
     (ap₂ (λ p q. record { strs = texts (encode a) p 0; ints = integersAt (encode a) q (skip (encode a) p 0) }) (sym (f .strings)) (sym (f .integers))
     ∙ ap₂ (λ ss zs. record { strs = ss; ints = zs }) (k .strings) (k .integers))
 
-pub judging-back : (t : List ℕ) (u : Question) (a : Assignment) → Claimed t (questionForm t) u → length (u .constraints) ≤ factLimit
-    → For u a → All (λ s. length s ≤ lengthLimit) (a .strs) → allWithin valueLimit (a .ints) ≡ true → judging t (encode a) ≡ Judged u a
+pub answers-judged : TH-3-all
 unfolding judging
-judging-back t u a c few f short values =
-    ap (λ g. judgeBehind g (encode a)) (form→claimed few c .ended)
-    ∙ ap (λ x. elim x as (λ _. Judging) [ false ↦ Refused 4 (c .number) | true ↦ judgeAnswer u (encode a) ]) (le-leb 1 (c .last) (claimed-headed c))
-    ∙ answer-back u a (claimed-in-range c) f short values
+answers-judged b u a e f short values = read (question b) refl e
+  where
+    read : (g : Reading) → question b ≡ g → asked g ≡ some u → judgeBehind (question b) (encode a) ≡ Judged u a
+    read (Stopped c r) q e = absurd (none-some e)
+    read (Ended s at r) q e = headed (leb 1 (s .last)) refl e
+      where
+        headed : (x : Bool) → leb 1 (s .last) ≡ x → _≡_ {A = Option Question} (cond x (some (s .question)) none) (some u) → judgeBehind (question b) (encode a) ≡ Judged u a
+        headed false h e = absurd (none-some e)
+        headed true h e =
+            let same : s .question ≡ u = some-injective e in
+            ap (λ g. judgeBehind g (encode a)) q
+            ∙ ap (λ x. elim x as (λ _. Judging) [ false ↦ Refused 4 r | true ↦ judgeAnswer (s .question) (encode a) ]) h
+            ∙ ap (λ v. judgeAnswer v (encode a)) same
+            ∙ answer-back u a (subst QuestionInRange same (asked-in-range b (question→form b q) (leb-true 1 (s .last) h))) f short (→within valueLimit (a .ints) values)

@@ -12,9 +12,8 @@ use Rattle.calculus.specs.Limits.{answerBytes, valueLimit, factLimit}
 use Rattle.calculus.specs.Facts.{Question, Fact, Branch, columnCount}
 use Rattle.calculus.specs.Steps.{Step}
 use Rattle.calculus.specs.Walk.{working}
-use Rattle.calculus.specs.Meaning.{Assignment, Met, Meets}
-use Rattle.lists.proofs.Lists.{all-left}
-use Rattle.calculus.proofs.Walks.{Followed, followed→path, path→followed, leaf-in-range}
+use Rattle.calculus.specs.Meaning.{Assignment}
+use Rattle.calculus.proofs.Walks.{Followed, followed→path, path→followed, leaf-in-range, leaf-met}
 use Rattle.format.specs.Fields.{within, allWithin}
 use Rattle.format.specs.Records.{next, records}
 use Rattle.format.specs.Answer.{encode}
@@ -23,14 +22,16 @@ use Rattle.format.specs.Checking.{Strings, verdict, checker, leafFault, 
 use Rattle.format.specs.ProperForm.{former, ProperStrings, takenSteps}
 use Rattle.format.specs.Judging.{judging}
 use Rattle.format.specs.Demands.{TH-5, TH-6}
+use Rattle.format.specs.Question.{asked}
 use Rattle.format.proofs.Fields.{length-i32s}
 use Rattle.format.proofs.Behind.{Taken, formed-model, formed-within, proving-no-model, taking-models}
-use Rattle.format.proofs.Claimed.{behindClaim, claimed-asked, claimed-in-range}
+use Rattle.format.proofs.Claimed.{behindClaim, claimed-asked, claimed-in-range, form→claimed}
 use Rattle.format.proofs.Tickets.{childFits, Holding, steps-in-range, ReadAs, proper→, verdict→, →verdict}
 use Rattle.format.proofs.Checker.{proved→walked, taken→reached, followed→taken}
 use Rattle.format.proofs.Leaves.{unfaulted→accepted, accepted→unfaulted, accepted-answers, short-strings}
 use Rattle.format.proofs.Encoded.{encode-short}
-use Rattle.format.proofs.ReadBack.{judging-back}
+use Rattle.format.proofs.ReadBack.{answers-judged}
+use Rattle.format.proofs.Limits.{within→}
 
 -- ---- the model and the leaf are determined by the bytes
 
@@ -95,12 +96,6 @@ accepted→given work answer b out e =
           bytes = (let z : Strings (encode (answerOf u (r .leaf) (r .model))) ≡ Strings out = sym (ap (accepted u) (r .state)) ∙ a in cc);
         }
 
--- what meets the leaf meets the branch before the steps
-met-before : (u : Question) (a : Assignment) (b leaf : Branch) (ts : List (Step × ℕ)) → Followed u b ts leaf → Met u a leaf → Met u a b
-unfolding Followed
-met-before u a b leaf [] h m = subst (Met u a) (sym h) m
-met-before u a b leaf (t ∷ ts) (c, _, h) m = all-left (Meets u a) b c (met-before u a (b ++ c) leaf ts h m)
-
 pub strings-hold : TH-5
 strings-hold work answer t out e =
     let (u, k) = accepted→given work answer t out e in
@@ -117,11 +112,12 @@ strings-hold work answer t out e =
         assignment = given;
         for-question = a .for-question;
         bytes = k .bytes;
-        read-back = ap (judging t) (k .bytes) ∙ judging-back t u given (k .held .claimed) (k .few) (a .for-question) short (integers-within (k .held));
+        read-back = ap (judging t) (k .bytes) ∙ answers-judged t u given (claimed-asked (form→claimed (k .few) (k .held .claimed))) (a .for-question) short (within→ valueLimit (given .ints) (integers-within (k .held)));
         room = subst (λ o. length o ≤ answerBytes) (sym (k .bytes)) (encode-short given (omega (arith, a .for-question .strings, q .head .strings)) short (omega (arith, a .for-question .integers, q .head .integers)));
-        meets-all = met-before u given (u .constraints) (k .leaf) (takenSteps t) (k .followed) (a .met);
+        meets-all = leaf-met u given (takenSteps t) (u .constraints) (k .leaf) path (a .met);
         leaf = k .leaf;
         path = path;
+        only-leaf = λ l p. one-leaf u (u .constraints) l (k .leaf) (takenSteps t) (path→followed u (q .head) (takenSteps t) (u .constraints) l (q .constraints) (steps-in-range (k .held)) p) (k .followed);
         differ = a .differ;
       },
     )

@@ -9,7 +9,7 @@ use lib.IntN.{ℤ, natAbs}
 use Rattle.lists.specs.Lists.{all, allBelow}
 use Rattle.calculus.specs.Rows.{valueIn}
 use Rattle.calculus.specs.Limits.{workNumbers, answerBytes, lengthLimit, numberLimit, factLimit, pendingLimit}
-use Rattle.calculus.specs.Facts.{Question, Fact, same, apart, isLiteral, arithmetic, Branch, holds, len}
+use Rattle.calculus.specs.Facts.{Question, Fact, onArithmetic, Branch, holds, len}
 use Rattle.calculus.specs.Children.{childAt}
 use Rattle.calculus.specs.Rules as rules
 use Rattle.calculus.specs.Steps.{Step}
@@ -35,10 +35,7 @@ orNone o = Option·getD o []
 
 -- "9 when a new number passes the limit"
 abbrev pub factWithin : Fact → Bool
-factWithin (same x y) = true
-factWithin (apart x y) = true
-factWithin (isLiteral x l) = true
-factWithin (arithmetic r e) = allWithin numberLimit e
+factWithin f = onArithmetic (λ r e. allWithin numberLimit e) f
 
 unfoldable pub factsWithin : List Fact → Bool
 factsWithin fs = all factWithin fs
@@ -68,17 +65,13 @@ takenTried br o = need 8 (fits o) (need 9 (factsWithin (orNone o)) (need 10 (roo
 
 -- the child of number k, from 1; a closing rule has none, so it does not fit under claim 2
 abbrev pub nth : Option (List (List Fact)) → ℕ → Option (List Fact)
-nth none k = none
-nth (some cs) k = childAt cs k
+nth o k = rules.then o (λ cs. childAt cs k)
 
 -- ---- 12 to 14, at the model
 
 -- each arithmetic fact "holds with the model's value in every column"
 abbrev pub keepsFact : List ℤ → Fact → Bool
-keepsFact m (same x y) = true
-keepsFact m (apart x y) = true
-keepsFact m (isLiteral x l) = true
-keepsFact m (arithmetic r e) = holds r (valueIn m e)
+keepsFact m f = onArithmetic (λ r e. holds r (valueIn m e)) f
 
 unfoldable pub keeps : List ℤ → Branch → Bool
 keeps m b = all (keepsFact m) b
@@ -128,10 +121,11 @@ pub data Outcome : Type 0 where
 abbrev pub answerOf : Question → Branch → List ℤ → Assignment
 answerOf u br m = record { strs = strings u br m; ints = take (u .q) m }
 
--- a walk with an open branch or a branch without a model does not come here: 11 stands at its end
+-- an open branch and a branch without a model do not come here: 11 stands at the end before
 abbrev pub accepted : Question → State Branch (List Fact) → Outcome
-accepted u (proving w) = NoSolution
-accepted u (taking br) = NoSolution
+accepted u (proving (working br ss)) = Refused 11 0
+accepted u (proving closed) = NoSolution
+accepted u (taking br) = Refused 11 0
 accepted u (modelled br m) = Strings (encode (answerOf u br m))
 
 abbrev pub outcomeOf : Ticket Branch (List Fact) → Outcome

@@ -1,5 +1,5 @@
--- The demands as statements about bytes. TH-1 is what checking promises of its result and the lent buffers; TH-2 to TH-6 are theorems about
--- the definitions, for every byte list.
+-- The demands as statements about bytes. TH-1, `Checked`, is what checking promises of its result and the lent buffers; TH-2 to TH-6 are theorems
+-- about the definitions, for every byte list.
 use Prim.Native.Nat.{ℕ, _<_, _≤_}
 use mathlib.Core.Path.{_≡_}
 use mathlib.Core.Bool.{true, cond}
@@ -9,13 +9,14 @@ use mathlib.Core.List.{List, [], _++_}
 use lib.ListN.{length, drop, replicate, getElem?}
 use lib.Dec.{eqb}
 use lib.IntN.{ℤ, pos}
-use Rattle.calculus.specs.Limits.{answerBytes}
+use Rattle.lists.specs.Lists.{All}
+use Rattle.calculus.specs.Limits.{Small, lengthLimit, valueLimit, answerBytes}
 use Rattle.calculus.specs.Facts.{Question, Fact, Branch}
 use Rattle.calculus.specs.Chains.{OneClass}
 use Rattle.calculus.specs.Derivations.{Closes, WithinLimits, Path, PathWithinLimits}
 use Rattle.calculus.specs.Saturation.{AcceptedLeaf}
 use Rattle.calculus.specs.Meaning.{Assignment, str, For, Meets, Met}
-use Rattle.format.specs.Question.{questionOf}
+use Rattle.format.specs.Question.{question, asked, questionOf}
 use Rattle.format.specs.Answer.{encode, assignmentOf}
 use Rattle.format.specs.Checking.{Outcome, Refused, NoSolution, Strings, large, verdict}
 use Rattle.format.specs.ProperForm.{ProperNo, ProperStrings, steps, takenSteps}
@@ -32,6 +33,9 @@ written (Refused c r) = []
 written NoSolution = []
 written (Strings s) = s
 
+abbrev pub answerAfter : Outcome → List ℕ → List ℕ
+answerAfter o answer = written o ++ drop (length (written o)) answer
+
 -- "The whole work area, numbers past 6,400 too, is zero after every call, except that 1 does not touch it"
 abbrev pub workAfter : Outcome → List ℤ → List ℤ
 workAfter (Refused c r) w = cond (eqb c 1) w (replicate (length w) (pos 0))
@@ -42,13 +46,17 @@ workAfter (Strings s) w = replicate (length w) (pos 0)
 pub record Checked (ticket : List ℕ) (work work' : List ℤ) (answer answer' : List ℕ) (o : Outcome) : Type 0 where
   pub outcome : o ≡ verdict (length work) (length answer) ticket
   pub work-after : work' ≡ workAfter o work
-  pub answer-after : answer' ≡ written o ++ drop (length (written o)) answer
+  pub answer-after : answer' ≡ answerAfter o answer
 
 -- ---- TH-2, demand 2: a derivation of proper form within the limits is accepted exactly when its steps are one closed tree of instances
 
 abbrev pub TH-2 : Type 0
 TH-2 = (work answer : ℕ) (t : List ℕ) (u : Question) → large work answer ≡ true → ProperNo t u → WithinLimits u (steps t)
     → Iff (verdict work answer t ≡ NoSolution) (Closes u (u .constraints) (steps t))
+
+-- what TH-2 asks of a ticket holds of each that is accepted, so it leaves none out
+abbrev pub TH-2-asks : Type 0
+TH-2-asks = (work answer : ℕ) (t : List ℕ) → verdict work answer t ≡ NoSolution → (u : Question) × ProperNo t u × WithinLimits u (steps t)
 
 -- ---- TH-3, demand 2: judging says what the theory says
 
@@ -62,6 +70,11 @@ pub record Judges (b v : List ℕ) (j : Judgement) (u : Question) (a : Assignmen
 
 abbrev pub TH-3 : Type 0
 TH-3 = (b v : List ℕ) (j : Judgement) → Says (judging b v) j → (u : Question) (a : Assignment) → judging b v ≡ Judged u a → Judges b v j u a
+
+-- and it judges every assignment that an answer can hold: no 15 or 16 for the bytes of one with strings of at most 64 characters and integers in range
+abbrev pub TH-3-all : Type 0
+TH-3-all = (b : List ℕ) (u : Question) (a : Assignment) → asked (question b) ≡ some u → For u a → All (λ s. length s ≤ lengthLimit) (a .strs)
+    → All (Small valueLimit) (a .ints) → judging b (encode a) ≡ Judged u a
 
 -- ---- TH-4, demand 3: whatever the bytes, where checking says "no solution", no assignment meets all constraints
 
@@ -87,6 +100,7 @@ pub record Answered (t : List ℕ) (u : Question) (out : List ℕ) : Type 0 wher
   -- "The leaf is the branch at the model: the question's constraints and every fact that the steps added, of a split those of the child taken"
   pub leaf : Branch
   pub path : Path u (u .constraints) (takenSteps t) leaf
+  pub only-leaf : (l : Branch) → Path u (u .constraints) (takenSteps t) l → l ≡ leaf
   -- "Strings differ wherever classes differ: any two variables not in one class get different strings"
   pub differ : (x y : ℕ) → x < u .p → y < u .p → (OneClass leaf x y → ⊥) → str assignment x ≢ str assignment y
 
@@ -100,3 +114,8 @@ abbrev pub TH-6 : Type 0
 TH-6 = (work answer : ℕ) (t : List ℕ) (u : Question) (m : List ℤ) (leaf : Branch) → large work answer ≡ true → ProperStrings t u m
     → PathWithinLimits u (takenSteps t) → Path u (u .constraints) (takenSteps t) leaf
     → Iff ((out : List ℕ) × (verdict work answer t ≡ Strings out)) (AcceptedLeaf u leaf m)
+
+-- what TH-6 asks of a ticket holds of each that is accepted; with TH-5's path and leaf it leaves none out
+abbrev pub TH-6-asks : Type 0
+TH-6-asks = (work answer : ℕ) (t out : List ℕ) → verdict work answer t ≡ Strings out
+    → (u : Question) × (m : List ℤ) × ProperStrings t u m × PathWithinLimits u (takenSteps t)

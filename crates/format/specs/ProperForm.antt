@@ -1,14 +1,16 @@
 -- Proper form: "A ticket is of proper form when, read to its end with every step taken as if it fitted, none of 2 to 7 below applies,
 -- and under claim 2 a model stands before the end". And what a ticket of proper form holds, all by the bytes sent.
-use Prim.Native.Nat.{ℕ, _+_, _-_}
+use Prim.Native.Nat.{ℕ, _+_}
 use mathlib.Core.Path.{_≡_}
 use mathlib.Core.Bool.{true, false}
+use mathlib.Core.Option.{Option·getD}
 use mathlib.Core.List.{List, [], _∷_, map}
-use lib.ListN.{length, getD}
+use lib.ListN.{length}
 use lib.Dec.{eqb}
 use lib.IntN.{ℤ}
 use Rattle.calculus.specs.Facts.{Question}
 use Rattle.calculus.specs.Steps.{Step, shape}
+use Rattle.calculus.specs.Children.{childAt}
 use Rattle.calculus.specs.Walk.{Walk}
 use Rattle.format.specs.Records.{size, kind, next, records}
 use Rattle.format.specs.Question.{Reading, Stopped, Ended, questionForm}
@@ -21,7 +23,7 @@ former u = record {
   root = length (u .constraints);
   add = _+_;
   children = λ k st. shape (u .n) st;
-  taken = λ k st c. k + getD (shape (u .n) st) (c - 1) 0;
+  taken = λ k st c. k + Option·getD (childAt (shape (u .n) st) c) 0;
   splitFault = λ k ss st. 0;
   takenFault = λ k st c. 0;
   leafFault = λ k m. 0;
@@ -39,7 +41,7 @@ ProperNo b u = (w : Walk ℕ ℕ) × (formOf b ≡ Done u (proving w))
 abbrev pub ProperStrings : List ℕ → Question → List ℤ → Type 0
 ProperStrings b u m = (k : ℕ) × (formOf b ≡ Done u (modelled k m))
 
--- ---- the steps of a ticket, each with its child field: the records of kind 6 behind the claim
+-- ---- the steps of a ticket, each with its child field: the records behind the claim, up to the first that is no step
 
 unfoldable pub stepsAt : List ℕ → List ℕ → List (Step × ℕ)
 stepsAt b [] = []

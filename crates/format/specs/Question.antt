@@ -55,6 +55,7 @@ literalFault b n ls at m =
 abbrev pub stringRange : ℕ → ℕ → ℕ → ℕ → ℕ → Bool
 stringRange p k r x y = leb r 2 && (ltb x p && cond (eqb r 2) (leb y k) (ltb y p))
 
+-- any relation past 2 is out of range
 abbrev pub stringFact : ℕ → ℕ → ℕ → Fact
 stringFact zero x y = same x y
 stringFact (suc zero) x y = apart x y
@@ -86,6 +87,7 @@ abbrev pub formOf : List ℕ → ℕ → ℕ → List ℤ
 formOf b at count = i32 b at ∷ fillRow (zeros columnLimit) (pairsAt b (at + 4) count)
 
 -- "4 arithmetic constraint: u16 relation (0 is ≥ 0, 1 is = 0, 2 is ≠ 0), i32 constant, then 0 to 48 pairs"; over c columns
+-- any number past 2 is out of range
 abbrev pub relationOf : ℕ → Relation
 relationOf zero = ge
 relationOf (suc zero) = eq

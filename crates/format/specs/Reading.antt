@@ -64,9 +64,13 @@ bodyFault w b u (taking br) k at m =
     (need 4 (eqb k 7) (modelFault b u (w .leafFault br (modelAt b u at)) at m))
 bodyFault w b u (modelled br v) k at m = 4
 
--- "a byte follows the end record, counted at that end record"
+-- an end record with a body of m bytes that ends at a position, in a ticket of n bytes: "a byte follows the end record, counted at that end record", then
+-- its form, then what is asked next
+abbrev pub endForm : ℕ → ℕ → ℕ → ℕ → ℕ
+endForm n to m later = need 4 (eqb to n) (need 5 (eqb m 0) later)
+
 abbrev pub lastFault : {B C : Type 0} → Method B C → List ℕ → State B C → ℕ → ℕ
-lastFault w b s at = need 4 (eqb (next b at) (length b)) (need 5 (eqb (size b at) 0) (w .endFault s))
+lastFault w b s at = endForm (length b) (next b at) (size b at) (w .endFault s)
 
 -- the first number that applies to the record at a position, 0 for none
 unfoldable pub fault : {B C : Type 0} → Method B C → List ℕ → Question → State B C → ℕ → ℕ

@@ -77,22 +77,23 @@ child b at = u16 b (at + 2)
 abbrev pub lengthFits : List ℕ → ℕ → ℕ → Bool
 lengthFits b at m = fitsForm (formFor (rule b at)) m
 
+-- how many pairs a body of m bytes has behind its rule, child and first i32
+abbrev pub pairsIn : ℕ → ℕ
+pairsIn m = (m - 8) / 6
+
 -- Sum's pairs: "then 1 to 8 pairs (fact, i32 multiplier)"
 abbrev pub sumPairs : List ℕ → ℕ → ℕ → List (ℕ × ℤ)
-sumPairs b at m = pairsAt b (at + 8) ((m - 8) / 6)
+sumPairs b at m = pairsAt b (at + 8) (pairsIn m)
 
 -- "Coefficients, constants and multipliers lie within ±1,000,000,000"
 unfoldable pub multipliersWithin : List (ℕ × ℤ) → Bool
 multipliersWithin ts = all (λ t. within numberLimit (t .1)) ts
 
--- Branch: "form e, written as in kind 4 without relation"
-abbrev pub splitPairs : ℕ → ℕ
-splitPairs m = (m - 8) / 6
-
 -- "Card: 2 to 16 different variables"
 abbrev pub cardVariables : List ℕ → ℕ → ℕ → List ℕ
 cardVariables b at m = u16s b (at + 4) ((m - 4) / 2)
 
+-- 0 is len, 1 is code; any other number is out of range
 abbrev pub functionOf : ℕ → Function
 functionOf zero = len
 functionOf (suc f) = code
@@ -105,7 +106,7 @@ variables p xs = all (λ x. ltb x p) xs
 -- "i32 divisor of at least 1": a u32 of 1 to 2,147,483,647. A fact's number has no range.
 unfoldable pub operandsInRange : List ℕ → ℕ → ℕ → Rule → ℕ → ℕ → Bool
 operandsInRange b p c sum at m = leb 1 (u32 b (at + 4)) && (leb (u32 b (at + 4)) 2147483647 && multipliersWithin (sumPairs b at m))
-operandsInRange b p c branch at m = formRange b c (at + 4) (splitPairs m)
+operandsInRange b p c branch at m = formRange b c (at + 4) (pairsIn m)
 operandsInRange b p c apart at m = true
 operandsInRange b p c aConf at m = true
 operandsInRange b p c sConf at m = true
@@ -122,7 +123,7 @@ operandsInRange b p c unknown at m = false
 -- the step that a body holds; an unknown rule, which is out of range, is read as S-Conf
 unfoldable pub stepOf : List ℕ → Rule → ℕ → ℕ → Step
 stepOf b sum at m = Sum (u32 b (at + 4)) (sumPairs b at m)
-stepOf b branch at m = Split (formOf b (at + 4) (splitPairs m))
+stepOf b branch at m = Split (formOf b (at + 4) (pairsIn m))
 stepOf b apart at m = Apart (u16 b (at + 4))
 stepOf b aConf at m = AConf (u16 b (at + 4))
 stepOf b sConf at m = SConf

@@ -18,7 +18,7 @@ use Rattle.calculus.specs.Alphabet.{lastCharacter}
 use Rattle.calculus.specs.Rows.{eqℤ}
 use Rattle.calculus.specs.Facts.{Question, Branch, codeOf, literal, len, code}
 use Rattle.calculus.specs.Chains.{varNode, litNode}
-use Rattle.calculus.specs.Classes.{labels, sameClass, lowest, conflict}
+use Rattle.calculus.specs.Classes.{labels, sameClass, lowest, conflict, clash}
 use Rattle.calculus.specs.Rules.{logUp}
 use Rattle.calculus.specs.Model.{modelOf}
 use Rattle.calculus.specs.SaturationTest.{lowestVar, lowestOf, saturatedCard}
@@ -26,7 +26,6 @@ use Rattle.calculus.proofs.Powers.{least-power}
 use Rattle.calculus.proofs.Lowest.{lowests-few}
 use Rattle.format.specs.Places.{literalsFrom}
 use Rattle.format.proofs.Places.{length-texts}
-use Rattle.classes.specs.Classes.{clash}
 use Rattle.leaf.specs.declared.Leaf.{Leaf}
 use Rattle.leaf.specs.Leaf.{asked}
 use Rattle.leaf.specs.Values.{textFits, literalFits, lengthFits, codeBy, codeFits, roomy, varFits, pairBy, pairFits}

@@ -1,5 +1,5 @@
--- Saturation by values: the tests of rules 6 to 11 on lengths and codes, which the code runs. Card's is the calculus' own.
-use Prim.Native.Nat.{ℕ, suc}
+-- Saturation by values: the tests of rules 6 to 11 on lengths and codes, which the code runs. Card's is that of the calculus, by `roomy`.
+use Prim.Native.Nat.{ℕ}
 use mathlib.Core.Bool.{Bool, true, false, not, _&&_, _||_}
 use mathlib.Core.Option.{Option, none, some}
 use mathlib.Core.List.{List}
@@ -12,7 +12,7 @@ use Rattle.calculus.specs.Alphabet.{lastCharacter}
 use Rattle.calculus.specs.Rows.{eqℤ}
 use Rattle.calculus.specs.Facts.{Question, literal, codeOf, len, code}
 use Rattle.calculus.specs.Chains.{varNode, litNode}
-use Rattle.calculus.specs.Classes.{sameClass, lowest}
+use Rattle.calculus.specs.Classes.{sameClass, literalIn}
 use Rattle.calculus.specs.Rules.{logUp}
 use Rattle.calculus.specs.Model.{modelOf}
 use Rattle.calculus.specs.SaturationTest.{saturatedCard}
@@ -46,7 +46,7 @@ roomy n k size = not (leb n 1) && leb (logUp k n k 0) size
 -- the rules with one variable
 unfoldable pub varFits : Question → List ℕ → List ℤ → ℕ → Bool
 varFits u ls m x =
-    literalFits u (lowest ls x 0 (suc (length (u .literals)))) (modelOf u m len x) (modelOf u m code x)
+    literalFits u (literalIn u ls x) (modelOf u m len x) (modelOf u m code x)
     && (lengthFits ls x (modelOf u m len x)
     && (codeFits (u .n) (modelOf u m len x) (modelOf u m code x)
     && saturatedCard u ls m x))

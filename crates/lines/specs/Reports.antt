@@ -7,21 +7,21 @@ use Rattle.calculus.specs.Limits.{workNumbers, answerBytes}
 use Rattle.format.specs.Records.{records}
 use Rattle.format.specs.Checking as format
 use Rattle.format.specs.Checking.{verdict}
+use Rattle.format.specs.Demands.{written}
 use Rattle.checking.specs.declared.Outcome.{Outcome}
 use Rattle.checking.specs.declared.Outcome.the-variants.{Refused, NoSolution, Strings}
+use Rattle.checking.specs.Outcomes.{told}
 use Rattle.lines.specs.Lines.{refusedLine, noneLine, stringsLine, recordLines}
 
--- "it prints three lines .. Others print one line": the lines for an outcome; of strings, those of the answer's records
-unfoldable pub linesOf : format.Outcome → List ℕ
-linesOf (format.Refused c r) = refusedLine c r
-linesOf format.NoSolution = noneLine
-linesOf (format.Strings s) = stringsLine ++ recordLines s 0 (records s 0)
-
--- for what checking tells, with the answer at the front of a buffer
+-- "it prints three lines .. Others print one line": the lines for what checking tells, with the answer at the front of a buffer
 unfoldable pub linesBy : Outcome → List ℕ → List ℕ
 linesBy (Refused c r) answer = refusedLine c r
 linesBy NoSolution answer = noneLine
 linesBy Strings answer = stringsLine ++ recordLines answer 0 (records answer 0)
+
+-- the lines for an outcome; of strings, those of the answer's records
+unfoldable pub linesOf : format.Outcome → List ℕ
+linesOf o = linesBy (told o) (written o)
 
 -- the first bytes of the buffer, up to a position, are the lines for a ticket
 pub record Reports (ticket out : List ℕ) (to : ℕ) : Type 0 where

@@ -1,4 +1,4 @@
--- Lists of which every element has a property, membership, lists without repeats, tests of all or some elements, and lists read place by place.
+-- Lists: every element has a property, is not among others, differs from the rest; tests of all or some elements; lists read place by place.
 use Prim.Native.Nat.{ℕ, zero, suc}
 use mathlib.Core.Logic.{_≢_}
 use mathlib.Core.Bool.{Bool, true, false, _&&_, _||_}

@@ -1,12 +1,12 @@
 -- The numbers that the host gets.
 use Prim.Native.Nat.{ℕ}
 use mathlib.Core.Path.{_≡_}
-use mathlib.Core.List.{List, _++_}
-use lib.ListN.{length, drop}
+use mathlib.Core.List.{List}
+use lib.ListN.{length}
 use lib.IntN.{ℤ}
 use Rattle.calculus.specs.Limits.{workNumbers}
 use Rattle.format.specs.Checking.{Outcome, Refused, NoSolution, Strings, verdict}
-use Rattle.format.specs.Demands.{written, Checked}
+use Rattle.format.specs.Demands.{Checked, answerAfter}
 use Rattle.format.specs.Judging.{Judgement, Refusal, AllMet, Unmet, judging, Says}
 use Rattle.nuldwich.specs.declared.Reply.{Reply}
 
@@ -31,7 +31,7 @@ checkReply (Strings s) = record { number = 0; «record» = 2 }
 -- what check promises of its reply and the answer buffer, before and after
 pub record CheckReplies (ticket answer answer' : List ℕ) (reply : Reply) : Type 0 where
   pub numbered : reply ≡ checkReply (verdict workNumbers (length answer) ticket)
-  pub answer-after : answer' ≡ written (verdict workNumbers (length answer) ticket) ++ drop (length (written (verdict workNumbers (length answer) ticket))) answer
+  pub answer-after : answer' ≡ answerAfter (verdict workNumbers (length answer) ticket) answer
 
 -- and with a lent work area
 pub record LentReplies (ticket : List ℕ) (work work' : List ℤ) (answer answer' : List ℕ) (reply : Reply) : Type 0 where

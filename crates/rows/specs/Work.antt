@@ -1,15 +1,13 @@
 -- What the rows of the work area are known to be, and the forms that rules build.
 use Prim.Native.Nat.{ℕ, suc, _≤_}
 use mathlib.Core.Path.{_≡_}
-use mathlib.Core.Bool.{Bool, true, _||_}
+use mathlib.Core.Bool.{true}
 use mathlib.Core.List.{List}
 use lib.ListN.{length, getD, set}
 use lib.IntN.{ℤ, pos, negsuc, natAbs}
-use Rattle.lists.specs.Lists.{any}
 use Rattle.calculus.specs.Limits.{factLimit, workNumbers}
-use Rattle.calculus.specs.Rows.{number, column, minus}
-use Rattle.calculus.specs.Facts.{Fact, Branch, same, apart, isLiteral, arithmetic, ge, eq, ne}
-use Rattle.calculus.specs.Rules.{statesZero}
+use Rattle.calculus.specs.Rows.{number}
+use Rattle.calculus.specs.Facts.{Fact, same, apart, isLiteral, arithmetic, ge, eq, ne}
 use Rattle.format.specs.Checking.{factsWithin}
 use Rattle.rows.specs.Rows.{branchOf}
 
@@ -39,7 +37,3 @@ single c j k = set (number c) (suc j) k
 -- the form column i − column j
 unfoldable pub difference : ℕ → ℕ → List ℤ
 difference i j = set (set (number (pos 0)) (suc i) (pos 1)) (suc j) (negsuc 0)
-
--- a fact states that the difference of the columns i and j is 0, "coefficients 1 and −1 in either order"
-unfoldable pub statesEqual : Branch → ℕ → ℕ → Bool
-statesEqual b i j = any (statesZero (minus (column i) (column j))) b || any (statesZero (minus (column j) (column i))) b

@@ -10,12 +10,11 @@ use lib.ListN.{getD}
 use lib.Dec.{ltb}
 use Rattle.calculus.specs.Facts.{Question, Branch}
 use Rattle.calculus.specs.Children.{pairs}
-use Rattle.calculus.specs.Rules.{guard, elem, distinct, neighbours, sameLength, lastChild, cardChildren}
+use Rattle.calculus.specs.Rules.{guard, elem, distinct, neighbours, sameLength, lastChild, cardChildren, statesEqual}
 use Rattle.format.specs.Fields.{u16, u16s}
 use Rattle.format.specs.StepForms.{variables}
 use Rattle.format.proofs.Faults.{and-true, not-both}
 use Rattle.format.proofs.Fields.{length-u16s}
-use Rattle.rows.specs.Work.{statesEqual}
 
 -- the first of them and the others
 pub u16s-more : (b : List ℕ) (i left : ℕ) → 0 < left → u16s b i left ≡ u16 b i ∷ u16s b (i + 2) (left - 1)

@@ -1,4 +1,4 @@
--- A step form as the code's table holds it, and bodies of proper form.
+-- A step form as the code's table holds it, and bodies that fit their rule's form.
 use Prim.Native.Nat.{ℕ, _+_, _≤_}
 use mathlib.Core.Path.{_≡_}
 use mathlib.Core.Bool.{true}

@@ -3,12 +3,12 @@ use Prim.Native.Nat.{ℕ, zero, suc, _*_, _≤_, _<_}
 use mathlib.Core.Bool.{Bool, true, false, cond}
 use mathlib.Core.Option.{Option, none, some}
 use mathlib.Core.List.{List, [], _∷_}
-use lib.ListN.{length, getD, take, drop}
+use lib.ListN.{getD, take, drop}
 use lib.Dec.{leb, ltb}
 use lib.IntN.{ℤ}
 use Rattle.calculus.specs.Limits.{lengthLimit}
 use Rattle.calculus.specs.Facts.{Question, len, code}
-use Rattle.calculus.specs.Classes.{lowest}
+use Rattle.calculus.specs.Classes.{literalIn}
 use Rattle.calculus.specs.Model.{modelOf}
 use Rattle.calculus.specs.SaturationTest.{lowestVar}
 use Rattle.calculus.specs.Strings.{eqString, freshFrom, fixedBy}
@@ -40,7 +40,7 @@ isIt (some s) w = eqString w s
 
 -- what the first two rounds give to variable x: the calculus' `fixedString` with the labels ls of the branch
 abbrev pub fixedAt : Question → List ℕ → List ℤ → ℕ → Option (List ℕ)
-fixedAt u ls m x = fixedBy u (lowest ls x 0 (suc (length (u .literals)))) (modelOf u m len x) (modelOf u m code x)
+fixedAt u ls m x = fixedBy u (literalIn u ls x) (modelOf u m len x) (modelOf u m code x)
 
 -- the string of variable x, of length l, in the third round: its own, that of the lowest variable of its class, or the first that is not given
 unfoldable pub completed : ℕ → ℕ → List ℕ → ℕ → List ℕ → List ℕ → ℕ → List ℕ

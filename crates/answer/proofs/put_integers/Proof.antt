@@ -32,7 +32,7 @@ shared-slice-copy-out-z : tie.Need-shared-slice-copy-out-z Inv-loop μ-loop
 shared-slice-copy-out-z c = search needs
 
 bits-of-requires : tie.Need-bits-of-requires Inv-loop μ-loop
-bits-of-requires c κs = rw (toZ-ofZ (record { sfits = c .z .given })) (c .before .before .before .before .pre .0 .small (c .before .before .loop .i) (omega arith))
+bits-of-requires c κs = rw (toZ-ofZ (record { sfits = c .z .given })) (omega (arith, c .before .before .before .before .pre .0 .small (c .before .before .loop .i) (omega arith)))
 
 mul-put-u32 : tie.Need-mul-put-u32 Inv-loop μ-loop
 mul-put-u32 c = search needs

@@ -5,8 +5,8 @@ use mathlib.Core.Bool.{false}
 use mathlib.Core.Path.{_∙_, _≡_, ap, refl, sym}
 use native.Mathlib.Omega.{arith}
 use Rattle.lists.specs.Lists.{anyBelow}
+use Rattle.calculus.specs.Classes.{literalMeets}
 use Rattle.classes.proofs.Laws.{any-more, any-yes}
-use Rattle.classes.specs.Classes.{literalMeets}
 use Rattle.classes.proofs.literals_meet.Statement.{statement}
 use Rattle.classes.proofs.literals_meet.Tie as tie
 

@@ -5,10 +5,9 @@ use denote.Ref.{now}
 use lib.ListN.{length}
 use mathlib.Core.Path.{_∙_, _≡_, ap, ap₂, refl, sym}
 use native.Mathlib.Omega.{arith}
-use Rattle.calculus.specs.Rules.{children}
+use Rattle.calculus.specs.Rules.{children, literalChildren}
 use Rattle.calculus.specs.Steps.{SProp, Join}
 use Rattle.conclusions.proofs.Forms.{s-prop-variables}
-use Rattle.conclusions.specs.Made.{literalChildren}
 use Rattle.format.specs.Fields.{u16}
 use Rattle.format.specs.StepForms.{functionOf, operandsInRange, stepOf}
 use Rattle.question.specs.Posed.{asked}

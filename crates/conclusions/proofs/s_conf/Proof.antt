@@ -7,7 +7,7 @@ use mathlib.Core.List.{List}
 use mathlib.Core.Path.{_∙_, _≡_, ap, ap₂, sym}
 use native.Mathlib.Numerals.{add-one}
 use Rattle.calculus.specs.Facts.{Question}
-use Rattle.classes.specs.Classes.{clash}
+use Rattle.calculus.specs.Classes.{clash}
 use Rattle.conclusions.specs.Made.{closingOf}
 use Rattle.rows.specs.Rows.{branchOf}
 use Rattle.conclusions.proofs.s_conf.Statement.{statement}

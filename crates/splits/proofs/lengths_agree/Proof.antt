@@ -6,13 +6,12 @@ use lib.ListN.{length}
 use mathlib.Core.Bool.{true}
 use mathlib.Core.Path.{_∙_, _≡_, refl, sym, ap₂}
 use native.Mathlib.Omega.{arith}
-use Rattle.calculus.specs.Rules.{distinct, neighbours}
+use Rattle.calculus.specs.Rules.{distinct, neighbours, statesEqual}
 use Rattle.format.specs.Fields.{u16, u16s}
 use Rattle.format.specs.StepForms.{variables}
 use Rattle.question.specs.Columns.{columnAt}
 use Rattle.question.specs.Posed.{numbered}
 use Rattle.rows.specs.Rows.{branchOf}
-use Rattle.rows.specs.Work.{statesEqual}
 use Rattle.splits.proofs.Variables.{distinct-rest, neighbours-differ, below-first, below-second, below-rest, neighbours-no, neighbours-yes, neighbours-done}
 use Rattle.splits.proofs.lengths_agree.Statement.{statement}
 use Rattle.splits.proofs.lengths_agree.Tie as tie
