@@ -4,12 +4,12 @@ use mathlib.Core.Logic.{inl, inr}
 use mathlib.Core.Option.{none, some}
 use mathlib.Core.List.{[], _∷_, _++_}
 use lib.IntN.{pos, negsuc}
-use Rattle.calculus.specs.Rows.{zeros}
-use Rattle.calculus.specs.Facts.{Question, same, apart, isLiteral, arithmetic, ge}
+use Rattle.calculus.specs.LinearForms.{zeros}
+use Rattle.calculus.specs.Facts.{Question, same, notSame, isLiteral, arithmetic, ge}
 use Rattle.calculus.specs.Chains.{here, along, back, OneClass}
 use Rattle.calculus.specs.Steps.{Sum, SConf, CInj}
 use Rattle.calculus.specs.Children.{one}
-use Rattle.calculus.specs.Rules.{logUp, children}
+use Rattle.calculus.specs.Rules.{leastPower, children}
 use Rattle.calculus.specs.Walk.{working, enter}
 
 -- one integer variable a, two string variables, 2a − 1 ≥ 0
@@ -27,7 +27,7 @@ one-variable : children small [] (CInj 0 0) ≡ none
 one-variable = refl
 
 -- x ≉ x closes by itself
-with-itself : children small (apart 0 0 ∷ []) SConf ≡ some []
+with-itself : children small (notSame 0 0 ∷ []) SConf ≡ some []
 with-itself = refl
 
 -- literal 0, the empty string, is one of the literals
@@ -35,7 +35,7 @@ literal-zero : children (record { n = 2; p = 1; q = 0; literals = (0 ∷ []) ∷
 literal-zero = refl
 
 -- "four strings of length 2 exist over two characters"
-four-strings : logUp 4 2 4 0 ≡ 2
+four-strings : leastPower 4 2 4 0 ≡ 2
 four-strings = refl
 
 through-a-literal : OneClass (isLiteral 0 1 ∷ isLiteral 1 1 ∷ []) 0 1

@@ -14,10 +14,10 @@ use Rattle.lists.specs.Lists.{anyBelow}
 use Rattle.lists.proofs.Options.{some-injective, none-some}
 use Rattle.lists.proofs.Tests.{true→, or→, →or-left, →or-right}
 use Rattle.lists.proofs.Below.{any-below→, →any-below}
-use Rattle.calculus.specs.Facts.{Question, Fact, same, apart, isLiteral, arithmetic, Branch}
+use Rattle.calculus.specs.Facts.{Question, Fact, same, notSame, isLiteral, arithmetic, Branch}
 use Rattle.calculus.specs.Chains.{varNode, litNode, Edge, AnyEdge, Chain, here, along, back, OneClass, ClassHolds, Counts}
-use Rattle.calculus.specs.Classes.{upFrom, relabel, label, joinNodes, joinFact, labelsFrom, nodeCount, labels, sameClass, lowest, classLiteral, literalsMeet, apartMeet, conflict}
-use Rattle.calculus.specs.Instances.{FactAt, Stands, LiteralsMeet, ApartMeet}
+use Rattle.calculus.specs.Classes.{upFrom, relabel, label, mergeNodes, mergeFact, labelsFrom, nodeCount, labels, sameClass, lowestLiteral, classLiteral, literalsMeet, sidesMeet, conflict}
+use Rattle.calculus.specs.Instances.{FactAt, Stands, LiteralsMeet, SidesMeet}
 use Rattle.calculus.proofs.InRange.{HeadInRange, FactInRange, FactsInRange}
 
 pub chain-trans : {b : Branch} {i j k : ℕ} → Chain b i j → Chain b j k → Chain b i k
@@ -51,18 +51,18 @@ module _ (b : Branch) where
       go false e = here
   relabel-reached old new (c ∷ cs) (suc i) d r = relabel-reached old new cs i d r
 
-  join-reached : (ls : List ℕ) (i j : ℕ) → Chain b i j → Reached ls → Reached (joinNodes ls i j)
+  join-reached : (ls : List ℕ) (i j : ℕ) → Chain b i j → Reached ls → Reached (mergeNodes ls i j)
   join-reached ls i j c h k = chain-trans (h k) (relabel-reached (label ls j) (label ls i) ls k k (chain-trans (chain-sym (h j)) (chain-trans (chain-sym c) (h i))))
 
-  fact-reached : (ls : List ℕ) (f : Fact) → ((i j : ℕ) → Edge f i j → Chain b i j) → Reached ls → Reached (joinFact ls f)
+  fact-reached : (ls : List ℕ) (f : Fact) → ((i j : ℕ) → Edge f i j → Chain b i j) → Reached ls → Reached (mergeFact ls f)
   fact-reached ls (same x y) g h = join-reached ls (varNode x) (varNode y) (g (varNode x) (varNode y) (refl, refl)) h
-  fact-reached ls (apart x y) g h = h
+  fact-reached ls (notSame x y) g h = h
   fact-reached ls (isLiteral x l) g h = join-reached ls (varNode x) (litNode l) (g (varNode x) (litNode l) (refl, refl)) h
   fact-reached ls (arithmetic r e) g h = h
 
   from-reached : (ls : List ℕ) (c : Branch) → ((i j : ℕ) → AnyEdge c i j → Chain b i j) → Reached ls → Reached (labelsFrom ls c)
   from-reached ls [] g h = h
-  from-reached ls (f ∷ c) g h = from-reached (joinFact ls f) c (λ i j e. g i j (inr e)) (fact-reached ls f (λ i j e. g i j (inl e)) h)
+  from-reached ls (f ∷ c) g h = from-reached (mergeFact ls f) c (λ i j e. g i j (inr e)) (fact-reached ls f (λ i j e. g i j (inl e)) h)
 
   reached : Reached (labels b)
   reached = from-reached (upFrom 0 nodeCount) b (λ i j e. along e here) (λ i. subst (Chain b i) (sym (up-label 0 nodeCount i i (omega arith))) here)
@@ -85,9 +85,9 @@ pub length-relabel : (old new : ℕ) (cs : List ℕ) → length (relabel old new
 length-relabel old new [] = refl
 length-relabel old new (c ∷ cs) = ap suc (length-relabel old new cs)
 
-length-join : (ls : List ℕ) (f : Fact) → length (joinFact ls f) ≡ length ls
+length-join : (ls : List ℕ) (f : Fact) → length (mergeFact ls f) ≡ length ls
 length-join ls (same x y) = length-relabel (label ls (varNode y)) (label ls (varNode x)) ls
-length-join ls (apart x y) = refl
+length-join ls (notSame x y) = refl
 length-join ls (isLiteral x l) = length-relabel (label ls (litNode l)) (label ls (varNode x)) ls
 length-join ls (arithmetic r e) = refl
 
@@ -103,43 +103,43 @@ moved-new old new = go (eqb new old)
     go true = refl
     go false = refl
 
-joins : (ls : List ℕ) (i j : ℕ) → i < length ls → j < length ls → label (joinNodes ls i j) i ≡ label (joinNodes ls i j) j
+joins : (ls : List ℕ) (i j : ℕ) → i < length ls → j < length ls → label (mergeNodes ls i j) i ≡ label (mergeNodes ls i j) j
 joins ls i j h g = label-relabel (label ls j) (label ls i) ls i i h ∙ moved-new (label ls j) (label ls i)
     ∙ sym (label-relabel (label ls j) (label ls i) ls j j g ∙ moved-old (label ls j) (label ls i))
 
-keeps-nodes : (ls : List ℕ) (x y i j : ℕ) → i < length ls → j < length ls → label ls i ≡ label ls j → label (joinNodes ls x y) i ≡ label (joinNodes ls x y) j
+keeps-nodes : (ls : List ℕ) (x y i j : ℕ) → i < length ls → j < length ls → label ls i ≡ label ls j → label (mergeNodes ls x y) i ≡ label (mergeNodes ls x y) j
 keeps-nodes ls x y i j h g e = label-relabel (label ls y) (label ls x) ls i i h ∙ ap (moved (label ls y) (label ls x)) e ∙ sym (label-relabel (label ls y) (label ls x) ls j j g)
 
-keeps : (ls : List ℕ) (f : Fact) (i j : ℕ) → i < length ls → j < length ls → label ls i ≡ label ls j → label (joinFact ls f) i ≡ label (joinFact ls f) j
+keeps : (ls : List ℕ) (f : Fact) (i j : ℕ) → i < length ls → j < length ls → label ls i ≡ label ls j → label (mergeFact ls f) i ≡ label (mergeFact ls f) j
 keeps ls (same x y) i j h g e = keeps-nodes ls (varNode x) (varNode y) i j h g e
-keeps ls (apart x y) i j h g e = e
+keeps ls (notSame x y) i j h g e = e
 keeps ls (isLiteral x l) i j h g e = keeps-nodes ls (varNode x) (litNode l) i j h g e
 keeps ls (arithmetic r t) i j h g e = e
 
 keeps-all : (b : Branch) (ls : List ℕ) (i j : ℕ) → i < length ls → j < length ls → label ls i ≡ label ls j → label (labelsFrom ls b) i ≡ label (labelsFrom ls b) j
 keeps-all [] ls i j h g e = e
-keeps-all (f ∷ b) ls i j h g e = keeps-all b (joinFact ls f) i j (rw length-join h) (rw length-join g) (keeps ls f i j h g e)
+keeps-all (f ∷ b) ls i j h g e = keeps-all b (mergeFact ls f) i j (rw length-join h) (rw length-join g) (keeps ls f i j h g e)
 
-join-edge : (ls : List ℕ) (x y i j : ℕ) → i ≡ x → j ≡ y → i < length ls → j < length ls → label (joinNodes ls x y) i ≡ label (joinNodes ls x y) j
-join-edge ls x y i j p q h g = subst (λ n. label (joinNodes ls n y) i ≡ label (joinNodes ls n y) j) p (subst (λ n. label (joinNodes ls i n) i ≡ label (joinNodes ls i n) j) q (joins ls i j h g))
+join-edge : (ls : List ℕ) (x y i j : ℕ) → i ≡ x → j ≡ y → i < length ls → j < length ls → label (mergeNodes ls x y) i ≡ label (mergeNodes ls x y) j
+join-edge ls x y i j p q h g = subst (λ n. label (mergeNodes ls n y) i ≡ label (mergeNodes ls n y) j) p (subst (λ n. label (mergeNodes ls i n) i ≡ label (mergeNodes ls i n) j) q (joins ls i j h g))
 
-edge-joins : (ls : List ℕ) (f : Fact) (i j : ℕ) → Edge f i j → i < length ls → j < length ls → label (joinFact ls f) i ≡ label (joinFact ls f) j
+edge-joins : (ls : List ℕ) (f : Fact) (i j : ℕ) → Edge f i j → i < length ls → j < length ls → label (mergeFact ls f) i ≡ label (mergeFact ls f) j
 edge-joins ls (same x y) i j (p, q) h g = join-edge ls (varNode x) (varNode y) i j p q h g
-edge-joins ls (apart x y) i j e h g = absurd e
+edge-joins ls (notSame x y) i j e h g = absurd e
 edge-joins ls (isLiteral x l) i j (p, q) h g = join-edge ls (varNode x) (litNode l) i j p q h g
 edge-joins ls (arithmetic r t) i j e h g = absurd e
 
 any-joins : (b : Branch) (ls : List ℕ) (i j : ℕ) → AnyEdge b i j → i < length ls → j < length ls → label (labelsFrom ls b) i ≡ label (labelsFrom ls b) j
 any-joins [] ls i j e h g = absurd e
-any-joins (f ∷ b) ls i j (inl e) h g = keeps-all b (joinFact ls f) i j (rw length-join h) (rw length-join g) (edge-joins ls f i j e h g)
-any-joins (f ∷ b) ls i j (inr e) h g = any-joins b (joinFact ls f) i j e (rw length-join h) (rw length-join g)
+any-joins (f ∷ b) ls i j (inl e) h g = keeps-all b (mergeFact ls f) i j (rw length-join h) (rw length-join g) (edge-joins ls f i j e h g)
+any-joins (f ∷ b) ls i j (inr e) h g = any-joins b (mergeFact ls f) i j e (rw length-join h) (rw length-join g)
 
 -- ---- a branch in range
 
 module _ (u : Question) (w : HeadInRange u) where
   edge-nodes : (f : Fact) (i j : ℕ) → FactInRange u f → Edge f i j → (i < nodeCount) × (j < nodeCount)
   edge-nodes (same x y) i j (hx, hy) (p, q) = (omega (arith, w .strings), omega (arith, w .strings))
-  edge-nodes (apart x y) i j h e = absurd e
+  edge-nodes (notSame x y) i j h e = absurd e
   edge-nodes (isLiteral x l) i j (hx, hl) (p, q) = (omega (arith, w .strings), omega (arith, w .literals))
   edge-nodes (arithmetic r t) i j h e = absurd e
 
@@ -178,9 +178,9 @@ module _ (ls : List ℕ) (x : ℕ) where
       go (yes p) = f (subst Holding p t)
       go (no g) = h i (omega arith) c t
 
-  found : (k m : ℕ) → Found ls x k m (lowest ls x k m)
+  found : (k m : ℕ) → Found ls x k m (lowestLiteral ls x k m)
   found k zero = λ i a c t. omega arith
-  found k (suc m) = go (sameClass ls (varNode x) (litNode k)) refl (lowest ls x (suc k) m) (found (suc k) m)
+  found k (suc m) = go (sameClass ls (varNode x) (litNode k)) refl (lowestLiteral ls x (suc k) m) (found (suc k) m)
     where
       later : (t : Bool) → sameClass ls (varNode x) (litNode k) ≡ t → t ≡ false → Holding k → ⊥
       later t s e h = subst T (s ∙ e) h
@@ -221,7 +221,7 @@ module _ (u : Question) (w : HeadInRange u) (b : Branch) (r : FactsInRange u b) 
       go none e = absurd (no-literal x e l (c .defined) (c .held))
       go (some k) e = ap some (counts-unique (literal→counts x e) c)
 
-  lowest-same : (x y k m : ℕ) → label (labels b) (varNode x) ≡ label (labels b) (varNode y) → lowest (labels b) x k m ≡ lowest (labels b) y k m
+  lowest-same : (x y k m : ℕ) → label (labels b) (varNode x) ≡ label (labels b) (varNode y) → lowestLiteral (labels b) x k m ≡ lowestLiteral (labels b) y k m
   lowest-same x y k zero e = refl
   lowest-same x y k (suc m) e = ap₂ {B = Option ℕ} {C = Option ℕ} (λ t o. elim (eqb t (label (labels b) (litNode k))) as (λ _. Option ℕ) [ true ↦ some k | false ↦ o ]) e (lowest-same x y (suc k) m e)
 
@@ -252,35 +252,35 @@ module _ (u : Question) (w : HeadInRange u) (b : Branch) (r : FactsInRange u b) 
       go (no f) (no g) = absurd (m .different (omega arith))
 
 -- a ≉ fact of c has both sides in one class of ls
-apart-meet→ : (ls : List ℕ) (c : Branch) → T (apartMeet ls c) → (x : ℕ) × (y : ℕ) × Stands c (apart x y) × T (sameClass ls (varNode x) (varNode y))
-apart-meet→ ls [] t = absurd t
-apart-meet→ ls (same x y ∷ c) t = let (x', y', (k, h), s) = apart-meet→ ls c t in (x', y', (suc k, h), s)
-apart-meet→ ls (isLiteral x y ∷ c) t = let (x', y', (k, h), s) = apart-meet→ ls c t in (x', y', (suc k, h), s)
-apart-meet→ ls (arithmetic r e ∷ c) t = let (x', y', (k, h), s) = apart-meet→ ls c t in (x', y', (suc k, h), s)
-apart-meet→ ls (apart x y ∷ c) t = go (or→ (sameClass ls (varNode x) (varNode y)) (apartMeet ls c) t) (apart-meet→ ls c)
+sides-meet→ : (ls : List ℕ) (c : Branch) → T (sidesMeet ls c) → (x : ℕ) × (y : ℕ) × Stands c (notSame x y) × T (sameClass ls (varNode x) (varNode y))
+sides-meet→ ls [] t = absurd t
+sides-meet→ ls (same x y ∷ c) t = let (x', y', (k, h), s) = sides-meet→ ls c t in (x', y', (suc k, h), s)
+sides-meet→ ls (isLiteral x y ∷ c) t = let (x', y', (k, h), s) = sides-meet→ ls c t in (x', y', (suc k, h), s)
+sides-meet→ ls (arithmetic r e ∷ c) t = let (x', y', (k, h), s) = sides-meet→ ls c t in (x', y', (suc k, h), s)
+sides-meet→ ls (notSame x y ∷ c) t = go (or→ (sameClass ls (varNode x) (varNode y)) (sidesMeet ls c) t) (sides-meet→ ls c)
   where
-    go : T (sameClass ls (varNode x) (varNode y)) ⊎ T (apartMeet ls c) → (T (apartMeet ls c) → (x : ℕ) × (y : ℕ) × Stands c (apart x y) × T (sameClass ls (varNode x) (varNode y)))
-        → (x' : ℕ) × (y' : ℕ) × Stands (apart x y ∷ c) (apart x' y') × T (sameClass ls (varNode x') (varNode y'))
+    go : T (sameClass ls (varNode x) (varNode y)) ⊎ T (sidesMeet ls c) → (T (sidesMeet ls c) → (x : ℕ) × (y : ℕ) × Stands c (notSame x y) × T (sameClass ls (varNode x) (varNode y)))
+        → (x' : ℕ) × (y' : ℕ) × Stands (notSame x y ∷ c) (notSame x' y') × T (sameClass ls (varNode x') (varNode y'))
     go (inl s) ih = (x, y, (0, refl), s)
     go (inr s) ih = let (x', y', (k, h), q) = ih s in (x', y', (suc k, h), q)
 
-→apart-meet : (ls : List ℕ) (c : Branch) (x y k : ℕ) → FactAt c k (apart x y) → T (sameClass ls (varNode x) (varNode y)) → T (apartMeet ls c)
-→apart-meet ls [] x y k h t = absurd (none-some h)
-→apart-meet ls (f ∷ c) x y zero h t = subst (λ f. T (apartMeet ls (f ∷ c))) (sym (some-injective h)) (→or-left (sameClass ls (varNode x) (varNode y)) (apartMeet ls c) t)
-→apart-meet ls (same p q ∷ c) x y (suc k) h t = →apart-meet ls c x y k h t
-→apart-meet ls (isLiteral p q ∷ c) x y (suc k) h t = →apart-meet ls c x y k h t
-→apart-meet ls (arithmetic r e ∷ c) x y (suc k) h t = →apart-meet ls c x y k h t
-→apart-meet ls (apart p q ∷ c) x y (suc k) h t = →or-right (sameClass ls (varNode p) (varNode q)) (apartMeet ls c) (→apart-meet ls c x y k h t)
+→sides-meet : (ls : List ℕ) (c : Branch) (x y k : ℕ) → FactAt c k (notSame x y) → T (sameClass ls (varNode x) (varNode y)) → T (sidesMeet ls c)
+→sides-meet ls [] x y k h t = absurd (none-some h)
+→sides-meet ls (f ∷ c) x y zero h t = subst (λ f. T (sidesMeet ls (f ∷ c))) (sym (some-injective h)) (→or-left (sameClass ls (varNode x) (varNode y)) (sidesMeet ls c) t)
+→sides-meet ls (same p q ∷ c) x y (suc k) h t = →sides-meet ls c x y k h t
+→sides-meet ls (isLiteral p q ∷ c) x y (suc k) h t = →sides-meet ls c x y k h t
+→sides-meet ls (arithmetic r e ∷ c) x y (suc k) h t = →sides-meet ls c x y k h t
+→sides-meet ls (notSame p q ∷ c) x y (suc k) h t = →or-right (sameClass ls (varNode p) (varNode q)) (sidesMeet ls c) (→sides-meet ls c x y k h t)
 
 module _ (u : Question) (w : HeadInRange u) (b : Branch) (r : FactsInRange u b) where
-  pub conflict→ : T (conflict u b) → LiteralsMeet u b ⊎ ApartMeet b
-  conflict→ t = go (or→ (literalsMeet (suc (length (u .literals))) (labels b)) (apartMeet (labels b) b) t)
+  pub conflict→ : T (conflict u b) → LiteralsMeet u b ⊎ SidesMeet b
+  conflict→ t = go (or→ (literalsMeet (suc (length (u .literals))) (labels b)) (sidesMeet (labels b) b) t)
     where
-      go : T (literalsMeet (suc (length (u .literals))) (labels b)) ⊎ T (apartMeet (labels b) b) → LiteralsMeet u b ⊎ ApartMeet b
+      go : T (literalsMeet (suc (length (u .literals))) (labels b)) ⊎ T (sidesMeet (labels b) b) → LiteralsMeet u b ⊎ SidesMeet b
       go (inl s) = inl (literals-meet→ u w b r s)
-      go (inr s) = let (x, y, h, q) = apart-meet→ (labels b) b s in inr (record { left = x; right = y; stands = h; joined = class→chain b (varNode x) (varNode y) q })
+      go (inr s) = let (x, y, h, q) = sides-meet→ (labels b) b s in inr (record { left = x; right = y; stands = h; joined = class→chain b (varNode x) (varNode y) q })
 
-  pub →conflict : LiteralsMeet u b ⊎ ApartMeet b → T (conflict u b)
-  →conflict (inl m) = →or-left (literalsMeet (suc (length (u .literals))) (labels b)) (apartMeet (labels b) b) (→literals-meet u w b r m)
-  →conflict (inr m) = →or-right (literalsMeet (suc (length (u .literals))) (labels b)) (apartMeet (labels b) b)
-      (→apart-meet (labels b) b (m .left) (m .right) (m .stands .0) (m .stands .1) (chain→class u w b r (varNode (m .left)) (varNode (m .right)) (m .joined)))
+  pub →conflict : LiteralsMeet u b ⊎ SidesMeet b → T (conflict u b)
+  →conflict (inl m) = →or-left (literalsMeet (suc (length (u .literals))) (labels b)) (sidesMeet (labels b) b) (→literals-meet u w b r m)
+  →conflict (inr m) = →or-right (literalsMeet (suc (length (u .literals))) (labels b)) (sidesMeet (labels b) b)
+      (→sides-meet (labels b) b (m .left) (m .right) (m .stands .0) (m .stands .1) (chain→class u w b r (varNode (m .left)) (varNode (m .right)) (m .joined)))

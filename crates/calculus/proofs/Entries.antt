@@ -13,11 +13,11 @@ use Rattle.integers.proofs.Laws.{floorZ, floor-low, floor-high, floor-unique, f
 use Rattle.lists.proofs.Options.{none-some}
 use Rattle.lists.proofs.Tests.{and→, →and}
 use Rattle.calculus.specs.Limits.{columnLimit}
-use Rattle.calculus.specs.Rows.{plus, scale, zeros, number, column, minus, less, below, isZero, eqRow, allZero, floorDiv, divRow, dot}
+use Rattle.calculus.specs.LinearForms.{plus, scale, zeros, number, column, minus, above, below, isZero, eqIntegers, allZero, floorDiv, floorDivAll, dot}
 use Rattle.calculus.specs.Rules.{divided}
 use Rattle.calculus.specs.Instances.{entry, total}
 use Rattle.calculus.proofs.Tests.{guard→, →guard}
-use Rattle.calculus.proofs.Rows.{isZero→, →isZero, eqRow→, →eqRow}
+use Rattle.calculus.proofs.LinearForms.{isZero→, →isZero, eqIntegers→, →eqIntegers}
 
 pub entry-plus : (a b : List ℤ) (j : ℕ) → entry (plus a b) j ≡ entry a j +ℤ entry b j
 entry-plus [] b j = sym (+ℤ-idl (entry b j))
@@ -118,11 +118,11 @@ whole-plus a b h g = length-plus a b (omega arith) ∙ h
 pub whole-minus : (a b : List ℤ) → Whole a → Whole b → Whole (minus a b)
 whole-minus a b h g = whole-plus a (scale (negsuc 0) b) h (whole-scale (negsuc 0) b g)
 
-pub whole-less : (a : List ℤ) → Whole a → Whole (less a)
-whole-less a h = whole-plus a (number (negsuc 0)) h (whole-number (negsuc 0))
+pub whole-above : (a : List ℤ) → Whole a → Whole (above a)
+whole-above a h = whole-plus a (number (negsuc 0)) h (whole-number (negsuc 0))
 
 pub whole-below : (a : List ℤ) → Whole a → Whole (below a)
-whole-below a h = whole-less (scale (negsuc 0) a) (whole-scale (negsuc 0) a h)
+whole-below a h = whole-above (scale (negsuc 0) a) (whole-scale (negsuc 0) a h)
 
 -- ---- division: "Column sums must divide exactly; the constant is divided rounding down"
 
@@ -130,11 +130,11 @@ pub floor-same : (z : ℤ) (d : ℕ) → floorDiv z d ≡ floorZ z d
 floor-same (pos a) d = refl
 floor-same (negsuc a) d = refl
 
-pub length-divRow : (a : List ℤ) (d : ℕ) → length (divRow a d) ≡ length a
-length-divRow [] d = refl
-length-divRow (x ∷ a) d = ap suc (length-divRow a d)
+pub length-floorDivAll : (a : List ℤ) (d : ℕ) → length (floorDivAll a d) ≡ length a
+length-floorDivAll [] d = refl
+length-floorDivAll (x ∷ a) d = ap suc (length-floorDivAll a d)
 
-div-entries : (a q : List ℤ) (d : ℕ) → 1 ≤ d → length a ≡ length q → ((j : ℕ) → pos d *ℤ entry q j ≡ entry a j) → divRow a d ≡ q
+div-entries : (a q : List ℤ) (d : ℕ) → 1 ≤ d → length a ≡ length q → ((j : ℕ) → pos d *ℤ entry q j ≡ entry a j) → floorDivAll a d ≡ q
 div-entries [] [] d h l e = refl
 div-entries [] (y ∷ q) d h l e = absurd (omega arith)
 div-entries (x ∷ a) [] d h l e = absurd (omega arith)
@@ -150,12 +150,12 @@ pub record Divided (d : ℕ) (r e : List ℤ) : Type 0 where
 pub divided→ : (d : ℕ) (r e : List ℤ) → divided d r ≡ some e → Divided d r e
 divided→ d [] e h = absurd (none-some h)
 divided→ d (c ∷ cs) e h =
-    let (t, g) = guard→ (leb 1 d && eqRow (scale (pos d) (divRow cs d)) cs) h in
-    let (s, q) = and→ (leb 1 d) (eqRow (scale (pos d) (divRow cs d)) cs) t in
-    let exact : scale (pos d) (divRow cs d) ≡ cs = eqRow→ (scale (pos d) (divRow cs d)) cs q in
+    let (t, g) = guard→ (leb 1 d && eqIntegers (scale (pos d) (floorDivAll cs d)) cs) h in
+    let (s, q) = and→ (leb 1 d) (eqIntegers (scale (pos d) (floorDivAll cs d)) cs) t in
+    let exact : scale (pos d) (floorDivAll cs d) ≡ cs = eqIntegers→ (scale (pos d) (floorDivAll cs d)) cs q in
     subst (Divided d (c ∷ cs)) g (record {
-      size = ap suc (length-divRow cs d);
-      columns = λ j. sym (entry-scale (pos d) (divRow cs d) j) ∙ ap (λ a. entry a j) exact;
+      size = ap suc (length-floorDivAll cs d);
+      columns = λ j. sym (entry-scale (pos d) (floorDivAll cs d) j) ∙ ap (λ a. entry a j) exact;
       floor-low = subst (λ k. (pos d *ℤ k) ≤ℤ c) (sym (floor-same c d)) (floor-low c d (leb→le 1 d s));
       floor-high = subst (λ k. c <ℤ (pos d *ℤ (k +ℤ pos 1))) (sym (floor-same c d)) (floor-high c d (leb→le 1 d s));
     })
@@ -165,7 +165,7 @@ pub →divided : (d : ℕ) (r e : List ℤ) → 1 ≤ d → 1 ≤ length r → D
 →divided d (c ∷ cs) [] h l w = absurd (let s : 0 ≡ suc (length cs) = w .size in omega arith)
 →divided d (c ∷ cs) (k ∷ ks) h l w =
     let s : suc (length ks) ≡ suc (length cs) = w .size in
-    let q : divRow cs d ≡ ks = div-entries cs ks d h (omega arith) (w .columns) in
+    let q : floorDivAll cs d ≡ ks = div-entries cs ks d h (omega arith) (w .columns) in
     let f : floorDiv c d ≡ k = floor-same c d ∙ floor-unique c d k h (w .floor-low) (w .floor-high) in
-    let exact : scale (pos d) (divRow cs d) ≡ cs = ap (scale (pos d)) q ∙ by-entries (scale (pos d) ks) cs (length-scale (pos d) ks ∙ omega arith) (λ j. entry-scale (pos d) ks j ∙ w .columns j) in
-    →guard (leb 1 d && eqRow (scale (pos d) (divRow cs d)) cs) (→and (leb 1 d) (eqRow (scale (pos d) (divRow cs d)) cs) (le→leb 1 d h) (→eqRow exact)) (ap₂ _∷_ f q)
+    let exact : scale (pos d) (floorDivAll cs d) ≡ cs = ap (scale (pos d)) q ∙ by-entries (scale (pos d) ks) cs (length-scale (pos d) ks ∙ omega arith) (λ j. entry-scale (pos d) ks j ∙ w .columns j) in
+    →guard (leb 1 d && eqIntegers (scale (pos d) (floorDivAll cs d)) cs) (→and (leb 1 d) (eqIntegers (scale (pos d) (floorDivAll cs d)) cs) (le→leb 1 d h) (→eqIntegers exact)) (ap₂ _∷_ f q)

@@ -18,17 +18,17 @@ use Rattle.lists.proofs.Lists.{all-at}
 use Rattle.lists.proofs.Tests.{and→, →and, or→, →or-left, →or-right}
 use Rattle.calculus.specs.Limits.{columnLimit}
 use Rattle.calculus.specs.Alphabet.{characterCount}
-use Rattle.calculus.specs.Rows.{plus, scale, minus, isZero, eqRow, allZero}
-use Rattle.calculus.specs.Facts.{Question, Fact, same, apart, isLiteral, arithmetic, Branch, Relation, ge, eq, ne, Function, len, code, holds, apply, Holds}
+use Rattle.calculus.specs.LinearForms.{plus, scale, minus, isZero, eqIntegers, allZero}
+use Rattle.calculus.specs.Facts.{Question, Fact, same, notSame, isLiteral, arithmetic, Branch, Relation, ge, eq, ne, Function, len, code, holds, apply, Holds}
 use Rattle.calculus.specs.Chains.{varNode}
 use Rattle.calculus.specs.Classes.{labels, sameClass, classLiteral, conflict}
-use Rattle.calculus.specs.Steps.{Step, Sum, Split, Apart, AConf, SConf, SProp, LIntro, LValid, CCollapse, CValid, CInj, Card, Join}
-use Rattle.calculus.specs.Children.{sumChild, literalChild, pairs, boundChild}
-use Rattle.calculus.specs.Rules.{guard, then, summand, sumOf, divided, falsum, joined, statesZero, sameLength, neighbours, distinct, logUp, lastChild, cardChildren, children, parted, statesEqual}
-use Rattle.calculus.specs.Instances.{entry, FactAt, Stands, Multiplier, Summands, IsSum, IsApart, IsAConf, IsLiteral, LengthsStated, Neighbours, LastChild, IsJoin, Instance, StepInRange}
+use Rattle.calculus.specs.Steps.{Step, Sum, BranchOn, Apart, AConf, SConf, SProp, LIntro, LValid, CCollapse, CValid, CInj, Card, Join}
+use Rattle.calculus.specs.Children.{sumChild, literalChild, pairChildren, boundChild}
+use Rattle.calculus.specs.Rules.{guard, then, summand, sumOf, divided, isFalse, joinOf, statesZero, sameLength, neighbours, distinct, leastPower, lastChild, cardChildren, children, apartOf, statesEqual}
+use Rattle.calculus.specs.Instances.{entry, FactAt, Stands, Multiplier, Summands, IsSum, IsApart, IsAConf, IsClassLiteral, LengthsStated, Neighbours, LastChild, IsJoin, Instance, StepInRange}
 use Rattle.calculus.proofs.InRange.{HeadInRange, FactInRange, FactsInRange}
 use Rattle.calculus.proofs.Tests.{guard→, →guard, then→, →then, differ→, →differ, distinct→, →distinct}
-use Rattle.calculus.proofs.Rows.{eqRow→, →eqRow}
+use Rattle.calculus.proofs.LinearForms.{eqIntegers→, →eqIntegers}
 use Rattle.calculus.proofs.Relations.{nonzero→, →nonzero, fails→, →fails, positive→, →positive}
 use Rattle.calculus.proofs.Entries.{entry-scale, by-entries, allZero→, →allZero, summed, entry-summed, Whole, length-plus, length-scale, whole-scale, Divided, divided→, →divided}
 use Rattle.calculus.proofs.Classes.{class→chain, chain→class, literal→counts, counts→literal, conflict→, →conflict}
@@ -46,7 +46,7 @@ record Taken (m : ℤ) (f : Fact) (s : List ℤ) : Type 0 where
 
 summand→ : (m : ℤ) (f : Fact) {s : List ℤ} → summand m f ≡ some s → Taken m f s
 summand→ m (same x y) e = absurd (none-some e)
-summand→ m (apart x y) e = absurd (none-some e)
+summand→ m (notSame x y) e = absurd (none-some e)
 summand→ m (isLiteral x l) e = absurd (none-some e)
 summand→ m (arithmetic ge g) e = let (t, h) = guard→ (nonNeg m && not (isZero m)) e in record { relation = ge; form = g; is = refl; multiplier = positive→ m t; times = sym h }
 summand→ m (arithmetic eq g) e = let (t, h) = guard→ (not (isZero m)) e in record { relation = eq; form = g; is = refl; multiplier = nonzero→ m t; times = sym h }
@@ -117,9 +117,9 @@ module _ (u : Question) (b : Branch) (g : FactsInRange u b) where
 
 -- ---- 3 Apart
 
-apart-fits : (b : Branch) (k : ℕ) (f : Fact) {cs : List (List Fact)} → FactAt b k f → parted f ≡ some cs → IsApart b k cs
+apart-fits : (b : Branch) (k : ℕ) (f : Fact) {cs : List (List Fact)} → FactAt b k f → apartOf f ≡ some cs → IsApart b k cs
 apart-fits b k (same x y) h e = absurd (none-some e)
-apart-fits b k (apart x y) h e = absurd (none-some e)
+apart-fits b k (notSame x y) h e = absurd (none-some e)
 apart-fits b k (isLiteral x l) h e = absurd (none-some e)
 apart-fits b k (arithmetic ge g) h e = absurd (none-some e)
 apart-fits b k (arithmetic eq g) h e = absurd (none-some e)
@@ -127,16 +127,16 @@ apart-fits b k (arithmetic ne g) h e = record { form = g; named = h; adds = sym 
 
 -- ---- 4 A-Conf
 
-conf-fits : (b : Branch) (k : ℕ) (f : Fact) {cs : List (List Fact)} → FactAt b k f → T (falsum f) → cs ≡ [] → IsAConf b k cs
+conf-fits : (b : Branch) (k : ℕ) (f : Fact) {cs : List (List Fact)} → FactAt b k f → T (isFalse f) → cs ≡ [] → IsAConf b k cs
 conf-fits b k (same x y) h t n = absurd t
-conf-fits b k (apart x y) h t n = absurd t
+conf-fits b k (notSame x y) h t n = absurd t
 conf-fits b k (isLiteral x l) h t n = absurd t
 conf-fits b k (arithmetic r []) h t n = record { relation = r; form = []; named = h; no-coefficient = λ j. refl; false-constant = fails→ r (pos 0) t; closes = n }
 conf-fits b k (arithmetic r (c ∷ a)) h t n =
     let (z, s) = and→ (allZero a) (not (holds r c)) t in
     record { relation = r; form = c ∷ a; named = h; no-coefficient = allZero→ a z; false-constant = fails→ r c s; closes = n }
 
-fits-conf : (r : Relation) (e : List ℤ) → ((j : ℕ) → entry e (suc j) ≡ pos 0) → (Holds r (entry e 0) → ⊥) → T (falsum (arithmetic r e))
+fits-conf : (r : Relation) (e : List ℤ) → ((j : ℕ) → entry e (suc j) ≡ pos 0) → (Holds r (entry e 0) → ⊥) → T (isFalse (arithmetic r e))
 fits-conf r [] h f = →fails r (pos 0) f
 fits-conf r (c ∷ a) h f = →and (allZero a) (not (holds r c)) (→allZero a h) (→fails r c f)
 
@@ -144,10 +144,10 @@ fits-conf r (c ∷ a) h f = →and (allZero a) (not (holds r c)) (→allZero a h
 
 states→ : (e : List ℤ) (f : Fact) → T (statesZero e f) → f ≡ arithmetic eq e
 states→ e (same x y) t = absurd t
-states→ e (apart x y) t = absurd t
+states→ e (notSame x y) t = absurd t
 states→ e (isLiteral x l) t = absurd t
 states→ e (arithmetic ge g) t = absurd t
-states→ e (arithmetic eq g) t = ap (arithmetic eq) (sym (eqRow→ e g t))
+states→ e (arithmetic eq g) t = ap (arithmetic eq) (sym (eqIntegers→ e g t))
 states→ e (arithmetic ne g) t = absurd t
 
 stated→ : (e : List ℤ) (b : Branch) → T (any (statesZero e) b) → Stands b (arithmetic eq e)
@@ -160,7 +160,7 @@ stated→ e (f ∷ b) t = go (or→ (statesZero e f) (any (statesZero e) b) t) (
 
 →stated : (e : List ℤ) (b : Branch) (k : ℕ) → FactAt b k (arithmetic eq e) → T (any (statesZero e) b)
 →stated e [] k h = absurd (none-some h)
-→stated e (f ∷ b) zero h = →or-left (statesZero e f) (any (statesZero e) b) (subst (λ f. T (statesZero e f)) (sym (some-injective h)) (→eqRow {a = e} refl))
+→stated e (f ∷ b) zero h = →or-left (statesZero e f) (any (statesZero e) b) (subst (λ f. T (statesZero e f)) (sym (some-injective h)) (→eqIntegers {a = e} refl))
 →stated e (f ∷ b) (suc k) h = →or-right (statesZero e f) (any (statesZero e) b) (→stated e b k h)
 
 module _ (u : Question) (b : Branch) where
@@ -192,9 +192,9 @@ pub last→ : (u : Question) (x m : ℕ) → 1 ≤ u .n → LastChild u x m (las
 last→ u x m h = go (leb (characterCount (u .n)) 1) refl
   where
     go : (t : Bool) → leb (characterCount (u .n)) 1 ≡ t
-        → LastChild u x m (elim t as (λ _. List (List Fact)) [ true ↦ [] | false ↦ boundChild u x (logUp m (characterCount (u .n)) m 0) ])
+        → LastChild u x m (elim t as (λ _. List (List Fact)) [ true ↦ [] | false ↦ boundChild u x (leastPower m (characterCount (u .n)) m 0) ])
     go true e = inl (omega (arith, leb-true (u .n) 1 e), refl)
-    go false e = inr ((λ z. omega (arith, leb-false (u .n) 1 e)), record { power = logUp m (u .n) m 0; least = least-power (u .n) m (leb-false (u .n) 1 e); adds = refl })
+    go false e = inr ((λ z. omega (arith, leb-false (u .n) 1 e)), record { power = leastPower m (u .n) m 0; least = least-power (u .n) m (leb-false (u .n) 1 e); adds = refl })
 
 last-unique : (u : Question) (x m : ℕ) {c d : List (List Fact)} → LastChild u x m c → LastChild u x m d → c ≡ d
 last-unique u x m (inl (e, p)) (inl (f, q)) = p ∙ sym q
@@ -223,24 +223,24 @@ fits-card u b [] h i = absurd i
 fits-card u b (x ∷ []) h i = absurd i
 fits-card u b (x ∷ y ∷ xs) h i = →guard (distinct (x ∷ y ∷ xs) && neighbours u b x (y ∷ xs))
     (→and (distinct (x ∷ y ∷ xs)) (neighbours u b x (y ∷ xs)) (→distinct (x ∷ y ∷ xs) (i .different)) (→neighbours u b x (y ∷ xs) (i .lengths)))
-    (ap (pairs (x ∷ y ∷ xs)) (last-unique u x (length (x ∷ y ∷ xs)) (last→ u x (length (x ∷ y ∷ xs)) h) (i .last-child)) ∙ sym (i .adds))
+    (ap (pairChildren (x ∷ y ∷ xs)) (last-unique u x (length (x ∷ y ∷ xs)) (last→ u x (length (x ∷ y ∷ xs)) h) (i .last-child)) ∙ sym (i .adds))
 
 -- ---- 13 Join
 
-join-fits : (b : Branch) (j k : ℕ) (f g : Fact) {cs : List (List Fact)} → FactAt b j f → FactAt b k g → joined f g ≡ some cs → IsJoin b j k cs
+join-fits : (b : Branch) (j k : ℕ) (f g : Fact) {cs : List (List Fact)} → FactAt b j f → FactAt b k g → joinOf f g ≡ some cs → IsJoin b j k cs
 join-fits b j k (arithmetic ge e) (arithmetic ge a) hf hg h =
-    let (t, n) = guard→ (eqRow (scale (negsuc 0) e) a) h in
-    let p : scale (negsuc 0) e ≡ a = eqRow→ (scale (negsuc 0) e) a t in
+    let (t, n) = guard→ (eqIntegers (scale (negsuc 0) e) a) h in
+    let p : scale (negsuc 0) e ≡ a = eqIntegers→ (scale (negsuc 0) e) a t in
     record { form = e; negative = a; first = hf; second = hg; negated = λ i. ap (λ a. entry a i) (sym p) ∙ entry-scale (negsuc 0) e i ∙ minus-one-*ℤ (entry e i); adds = sym n }
 join-fits b j k (arithmetic ge e) (arithmetic eq a) hf hg h = absurd (none-some h)
 join-fits b j k (arithmetic ge e) (arithmetic ne a) hf hg h = absurd (none-some h)
 join-fits b j k (arithmetic ge e) (same x y) hf hg h = absurd (none-some h)
-join-fits b j k (arithmetic ge e) (apart x y) hf hg h = absurd (none-some h)
+join-fits b j k (arithmetic ge e) (notSame x y) hf hg h = absurd (none-some h)
 join-fits b j k (arithmetic ge e) (isLiteral x y) hf hg h = absurd (none-some h)
 join-fits b j k (arithmetic eq e) g hf hg h = absurd (none-some h)
 join-fits b j k (arithmetic ne e) g hf hg h = absurd (none-some h)
 join-fits b j k (same x y) g hf hg h = absurd (none-some h)
-join-fits b j k (apart x y) g hf hg h = absurd (none-some h)
+join-fits b j k (notSame x y) g hf hg h = absurd (none-some h)
 join-fits b j k (isLiteral x y) g hf hg h = absurd (none-some h)
 
 fits-join : (u : Question) (b : Branch) (j k : ℕ) {cs : List (List Fact)} → FactsInRange u b → IsJoin b j k cs → children u b (Join j k) ≡ some cs
@@ -249,28 +249,28 @@ fits-join u b j k r i =
     let a : Whole (i .negative) = all-at (FactInRange u) b k r (i .second) in
     let p : scale (negsuc 0) (i .form) ≡ i .negative = by-entries (scale (negsuc 0) (i .form)) (i .negative) (length-scale (negsuc 0) (i .form) ∙ e ∙ sym a)
     (λ p. entry-scale (negsuc 0) (i .form) p ∙ minus-one-*ℤ (entry (i .form) p) ∙ sym (i .negated p)) in
-    →then _ (i .first) (→then _ (i .second) (→guard (eqRow (scale (negsuc 0) (i .form)) (i .negative)) (→eqRow p) (sym (i .adds))))
+    →then _ (i .first) (→then _ (i .second) (→guard (eqIntegers (scale (negsuc 0) (i .form)) (i .negative)) (→eqIntegers p) (sym (i .adds))))
 
 -- ---- every rule
 
 module _ (u : Question) (w : HeadInRange u) (b : Branch) (r : FactsInRange u b) where
   -- 7 L-Intro and 9 C-Collapse
-  literal-fits : (f : Function) (x : ℕ) {cs : List (List Fact)} → then (classLiteral u b x) (λ l. some (literalChild u f x l)) ≡ some cs → IsLiteral u b f x cs
+  literal-fits : (f : Function) (x : ℕ) {cs : List (List Fact)} → then (classLiteral u b x) (λ l. some (literalChild u f x l)) ≡ some cs → IsClassLiteral u b f x cs
   literal-fits f x e =
       let (l, el, e1) = then→ (classLiteral u b x) (λ l. some (literalChild u f x l)) e in
       record { held = l; counts = literal→counts u w b r x el; adds = sym (some-injective e1) }
 
-  fits-literal : (f : Function) (x : ℕ) {cs : List (List Fact)} → IsLiteral u b f x cs → then (classLiteral u b x) (λ l. some (literalChild u f x l)) ≡ some cs
+  fits-literal : (f : Function) (x : ℕ) {cs : List (List Fact)} → IsClassLiteral u b f x cs → then (classLiteral u b x) (λ l. some (literalChild u f x l)) ≡ some cs
   fits-literal f x i = →then (λ l. some (literalChild u f x l)) (counts→literal u w b r x (i .held) (i .counts)) (ap some (sym (i .adds)))
 
   pub fits→instance : (st : Step) {cs : List (List Fact)} → StepInRange u st → children u b st ≡ some cs → Instance u b st cs
   unfolding Instance StepInRange
   fits→instance (Sum d ts) g e = sum-fits u b r d ts (g .0) (g .1) e
-  fits→instance (Split a) g e = sym (some-injective e)
-  fits→instance (Apart k) g e = let (f, h, e1) = then→ (getElem? b k) parted e in apart-fits b k f h e1
+  fits→instance (BranchOn a) g e = sym (some-injective e)
+  fits→instance (Apart k) g e = let (f, h, e1) = then→ (getElem? b k) apartOf e in apart-fits b k f h e1
   fits→instance (AConf k) g e =
-      let (f, h, e1) = then→ (getElem? b k) (λ f. guard (falsum f) []) e in
-      let (t, n) = guard→ (falsum f) e1 in
+      let (f, h, e1) = then→ (getElem? b k) (λ f. guard (isFalse f) []) e in
+      let (t, n) = guard→ (isFalse f) e1 in
       conf-fits b k f h t (sym n)
   fits→instance SConf g e = let (t, n) = guard→ (conflict u b) e in record { clash = conflict→ u w b r t; closes = sym n }
   fits→instance (SProp f x y) g e =
@@ -284,16 +284,16 @@ module _ (u : Question) (w : HeadInRange u) (b : Branch) (r : FactsInRange u b) 
   fits→instance (CInj x y) g e = let (t, n) = guard→ (not (eqb x y)) e in record { different = differ→ x y t; adds = sym n }
   fits→instance (Card xs) g e = card-fits u b xs (w .alphabet) e
   fits→instance (Join j k) g e =
-      let (f, hf, e1) = then→ (getElem? b j) (λ f. then (getElem? b k) (λ g. joined f g)) e in
-      let (a, ha, e2) = then→ (getElem? b k) (λ g. joined f g) e1 in
+      let (f, hf, e1) = then→ (getElem? b j) (λ f. then (getElem? b k) (λ g. joinOf f g)) e in
+      let (a, ha, e2) = then→ (getElem? b k) (λ g. joinOf f g) e1 in
       join-fits b j k f a hf ha e2
 
   pub instance→fits : (st : Step) {cs : List (List Fact)} → StepInRange u st → Instance u b st cs → children u b st ≡ some cs
   unfolding Instance StepInRange
   instance→fits (Sum d ts) g i = fits-sum u b r d ts i
-  instance→fits (Split a) g i = ap some (sym i)
-  instance→fits (Apart k) g i = →then parted (i .named) (ap some (sym (i .adds)))
-  instance→fits (AConf k) g i = →then (λ f. guard (falsum f) []) (i .named) (→guard (falsum (arithmetic (i .relation) (i .form))) (fits-conf (i .relation) (i .form) (i .no-coefficient) (i .false-constant)) (sym (i .closes)))
+  instance→fits (BranchOn a) g i = ap some (sym i)
+  instance→fits (Apart k) g i = →then apartOf (i .named) (ap some (sym (i .adds)))
+  instance→fits (AConf k) g i = →then (λ f. guard (isFalse f) []) (i .named) (→guard (isFalse (arithmetic (i .relation) (i .form))) (fits-conf (i .relation) (i .form) (i .no-coefficient) (i .false-constant)) (sym (i .closes)))
   instance→fits SConf g i = →guard (conflict u b) (→conflict u w b r (i .clash)) (sym (i .closes))
   instance→fits (SProp f x y) g i = →guard (not (eqb x y) && sameClass (labels b) (varNode x) (varNode y))
       (→and (not (eqb x y)) (sameClass (labels b) (varNode x) (varNode y)) (→differ x y (i .different)) (chain→class u w b r (varNode x) (varNode y) (i .joined))) (sym (i .adds))

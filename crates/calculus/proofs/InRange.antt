@@ -5,7 +5,7 @@ use mathlib.Core.List.{List}
 use lib.ListN.{length}
 use Rattle.lists.specs.Lists.{All}
 use Rattle.calculus.specs.Limits.{variableLimit, literalLimit, columnLimit}
-use Rattle.calculus.specs.Facts.{Question, Fact, same, apart, isLiteral, arithmetic}
+use Rattle.calculus.specs.Facts.{Question, Fact, same, notSame, isLiteral, arithmetic}
 
 -- "u32 n (1 to 196,608), u16 p string variables, u16 q integer variables (each 0 to 16)", "literal, 0 to 15 of them"
 pub record HeadInRange (u : Question) : Type 0 where
@@ -17,7 +17,7 @@ pub record HeadInRange (u : Question) : Type 0 where
 -- variables and literals are the question's, forms have a constant and 48 coefficients
 abbrev pub FactInRange : Question → Fact → Type 0
 FactInRange u (same x y) = (x < u .p) × (y < u .p)
-FactInRange u (apart x y) = (x < u .p) × (y < u .p)
+FactInRange u (notSame x y) = (x < u .p) × (y < u .p)
 FactInRange u (isLiteral x l) = (x < u .p) × (l ≤ length (u .literals))
 FactInRange u (arithmetic r e) = length e ≡ suc columnLimit
 

@@ -14,15 +14,15 @@ use Rattle.lists.specs.Lists.{All}
 use Rattle.lists.proofs.Options.{some-injective, none-some}
 use Rattle.lists.proofs.Lists.{Any}
 use Rattle.calculus.specs.Alphabet.{lastCharacter, Character}
-use Rattle.calculus.specs.Rows.{number, minus, less, valueIn}
+use Rattle.calculus.specs.LinearForms.{number, minus, above, valueIn}
 use Rattle.calculus.specs.Facts.{Question, Fact, Branch, Function, len, code, literal, apply, valueOf}
 use Rattle.calculus.specs.Chains.{OneClass, ClassHolds, Counts}
 use Rattle.calculus.specs.Steps.{Step, SProp, LIntro, LValid, CCollapse, CValid, CInj}
 use Rattle.calculus.specs.Children.{one, lValidChildren, cValidChildren, cInjChildren}
 use Rattle.calculus.specs.Instances.{Instance}
-use Rattle.calculus.specs.Model.{modelOf}
+use Rattle.calculus.specs.Model.{modelValue}
 use Rattle.calculus.specs.Saturation.{HoldsAlready, SomeChild}
-use Rattle.calculus.proofs.Rows.{dot-minus, dot-number, dot-column, dot-less}
+use Rattle.calculus.proofs.LinearForms.{dot-minus, dot-number, dot-column, dot-above}
 
 -- ---- some child holds already
 
@@ -66,25 +66,25 @@ pub record ByClasses (u : Question) (b : Branch) (m : List ℤ) : Type 0 where
 
 -- the values of the children's forms
 module _ (u : Question) (m : List ℤ) where
-  pub apply-in : (f : Function) (x : ℕ) → valueIn m (apply u f x) ≡ modelOf u m f x
+  pub apply-in : (f : Function) (x : ℕ) → valueIn m (apply u f x) ≡ modelValue u m f x
   apply-in len x = dot-column m (u .q + x)
   apply-in code x = dot-column m (u .q + (u .p + x))
 
-  pub less-in : (x : ℕ) → valueIn m (less (apply u len x)) ≡ modelOf u m len x -ℤ pos 1
-  less-in x = dot-less m (apply u len x) (apply-in len x)
+  pub above-in : (x : ℕ) → valueIn m (above (apply u len x)) ≡ modelValue u m len x -ℤ pos 1
+  above-in x = dot-above m (apply u len x) (apply-in len x)
 
-  pub number-in : (f : Function) (x : ℕ) (k : ℤ) → valueIn m (minus (apply u f x) (number k)) ≡ modelOf u m f x -ℤ k
+  pub number-in : (f : Function) (x : ℕ) (k : ℤ) → valueIn m (minus (apply u f x) (number k)) ≡ modelValue u m f x -ℤ k
   number-in f x k = dot-minus (apply u f x) (number k) (pos 1 ∷ m) (apply-in f x) (dot-number m k)
 
-  pub difference-in : (f : Function) (x y : ℕ) → valueIn m (minus (apply u f x) (apply u f y)) ≡ modelOf u m f x -ℤ modelOf u m f y
+  pub difference-in : (f : Function) (x y : ℕ) → valueIn m (minus (apply u f x) (apply u f y)) ≡ modelValue u m f x -ℤ modelValue u m f y
   difference-in f x y = dot-minus (apply u f x) (apply u f y) (pos 1 ∷ m) (apply-in f x) (apply-in f y)
 
-  pub last-in : (x : ℕ) → valueIn m (minus (number (pos (lastCharacter (u .n)))) (apply u code x)) ≡ pos (lastCharacter (u .n)) -ℤ modelOf u m code x
+  pub last-in : (x : ℕ) → valueIn m (minus (number (pos (lastCharacter (u .n)))) (apply u code x)) ≡ pos (lastCharacter (u .n)) -ℤ modelValue u m code x
   last-in x = dot-minus (number (pos (lastCharacter (u .n)))) (apply u code x) (pos 1 ∷ m) (dot-number m (pos (lastCharacter (u .n)))) (apply-in code x)
 
 module _ (u : Question) (b : Branch) (m : List ℤ) (h : ByClasses u b m) where
   abbrev M : Function → ℕ → ℤ
-  M f x = modelOf u m f x
+  M f x = modelValue u m f x
 
   -- S-Prop: one class, one value
   pub class-value : (f : Function) (x y : ℕ) → x < u .p → y < u .p → OneClass b x y → M f x ≡ M f y
@@ -111,7 +111,7 @@ module _ (u : Question) (b : Branch) (m : List ℤ) (h : ByClasses u b m) where
 
       go : AnyHeld b m (lValidChildren u x) → pos 0 ≤ℤ M len x
       go (inl (c, _)) = subst (λ z. pos 0 ≤ℤ z) (sym (literal-value len x 0 hx (empty c))) (≤ℤ-refl (pos 0))
-      go (inr (inl (e, _))) = ≤ℤ-trans (pos-≤ℤ {m = 0} {n = 1} (omega arith)) (-ℤ-nonneg→ (subst (λ z. pos 0 ≤ℤ z) (less-in u m x) e))
+      go (inr (inl (e, _))) = ≤ℤ-trans (pos-≤ℤ {m = 0} {n = 1} (omega arith)) (-ℤ-nonneg→ (subst (λ z. pos 0 ≤ℤ z) (above-in u m x) e))
       go (inr (inr z)) = absurd z
 
   -- C-Valid: the code is a character's where the length is 1, and −1 elsewhere
@@ -123,12 +123,12 @@ module _ (u : Question) (b : Branch) (m : List ℤ) (h : ByClasses u b m) where
   code-valid n x hx = go (some→any b m _ (h .c-valid x hx _ refl))
     where
       go : AnyHeld b m (cValidChildren u x) → CodeValid x
-      go (inl (p, (q, _))) = inl ((λ e. p (less-in u m x ∙ →-ℤ-zero e)), -ℤ-zero→ (sym (number-in u m code x (negsuc 0)) ∙ q))
+      go (inl (p, (q, _))) = inl ((λ e. p (above-in u m x ∙ →-ℤ-zero e)), -ℤ-zero→ (sym (number-in u m code x (negsuc 0)) ∙ q))
       go (inr (inl (p, (q, (s, _))))) =
           let e : M code x ≡ pos (natAbs (M code x)) = abs-nonneg (M code x) (subst (λ z. pos 0 ≤ℤ z) (apply-in u m code x) q) in
           let k : M code x ≤ℤ pos (lastCharacter (u .n)) = -ℤ-nonneg→ (subst (λ z. pos 0 ≤ℤ z) (last-in u m x) s) in
           let l : natAbs (M code x) ≤ lastCharacter (u .n) = ≤ℤ-pos (subst (λ z. z ≤ℤ pos (lastCharacter (u .n))) e k) in
-          inr (-ℤ-zero→ (sym (less-in u m x) ∙ p), (natAbs (M code x), e, omega arith))
+          inr (-ℤ-zero→ (sym (above-in u m x) ∙ p), (natAbs (M code x), e, omega arith))
       go (inr (inr z)) = absurd z
 
   -- C-Inj: a character is the code of one class only

@@ -1,7 +1,7 @@
 pub mod InRange
 pub mod Cases
 pub mod Tests
-pub mod Rows
+pub mod LinearForms
 pub mod Relations
 pub mod Entries
 pub mod Classes

@@ -7,22 +7,22 @@ use mathlib.Core.Path.{_≡_, refl, sym, subst}
 use mathlib.Core.Bool.{Bool, true, false}
 use lib.Dec.{leb}
 use borrow.Author.Tests.{leb-true, leb-false}
-use Rattle.calculus.specs.Rules.{logUp}
+use Rattle.calculus.specs.Rules.{leastPower}
 use Rattle.calculus.specs.Instances.{LeastPower}
 
-log-reaches : (d n m j : ℕ) → m ≤ n ^ (d + j) → m ≤ n ^ logUp d n m j
+log-reaches : (d n m j : ℕ) → m ≤ n ^ (d + j) → m ≤ n ^ leastPower d n m j
 log-reaches zero n m j h = subst (λ k. m ≤ n ^ k) (let z : 0 + j ≡ j = omega arith in z) h
 log-reaches (suc d) n m j h = go (leb m (n ^ j)) refl (log-reaches d n m (suc j) (subst (λ k. m ≤ n ^ k) (let z : suc d + j ≡ d + suc j = omega arith in z) h))
   where
-    go : (t : Bool) → leb m (n ^ j) ≡ t → m ≤ n ^ logUp d n m (suc j) → m ≤ n ^ (elim t as (λ _. ℕ) [ true ↦ j | false ↦ logUp d n m (suc j) ])
+    go : (t : Bool) → leb m (n ^ j) ≡ t → m ≤ n ^ leastPower d n m (suc j) → m ≤ n ^ (elim t as (λ _. ℕ) [ true ↦ j | false ↦ leastPower d n m (suc j) ])
     go true e ih = leb-true m (n ^ j) e
     go false e ih = ih
 
-log-least : (d n m j k : ℕ) → m ≤ n ^ k → j ≤ k → logUp d n m j ≤ k
+log-least : (d n m j k : ℕ) → m ≤ n ^ k → j ≤ k → leastPower d n m j ≤ k
 log-least zero n m j k h g = g
 log-least (suc d) n m j k h g = go (leb m (n ^ j)) refl (ℕ-discrete j k) (log-least d n m (suc j) k h)
   where
-    go : (t : Bool) → leb m (n ^ j) ≡ t → Dec (j ≡ k) → (suc j ≤ k → logUp d n m (suc j) ≤ k) → (elim t as (λ _. ℕ) [ true ↦ j | false ↦ logUp d n m (suc j) ]) ≤ k
+    go : (t : Bool) → leb m (n ^ j) ≡ t → Dec (j ≡ k) → (suc j ≤ k → leastPower d n m (suc j) ≤ k) → (elim t as (λ _. ℕ) [ true ↦ j | false ↦ leastPower d n m (suc j) ]) ≤ k
     go true e c ih = g
     go false e (yes p) ih = absurd (let f : n ^ j < m = leb-false m (n ^ j) e in let c : m ≤ n ^ j = subst (λ i. m ≤ n ^ i) (sym p) h in omega arith)
     go false e (no f) ih = ih (omega arith)
@@ -35,7 +35,7 @@ power-grows n (suc m) h =
     let k : 2 * n ^ m ≤ n * n ^ m = mul-le-mul-right (n ^ m) h in
     omega arith
 
-pub least-power : (n m : ℕ) → 2 ≤ n → LeastPower n m (logUp m n m 0)
+pub least-power : (n m : ℕ) → 2 ≤ n → LeastPower n m (leastPower m n m 0)
 least-power n m h = record {
   reaches = log-reaches m n m 0 (subst (λ k. m ≤ n ^ k) (let z : m ≡ m + 0 = omega arith in z) (omega (arith, power-grows n m h)));
   least = λ k g. log-least m n m 0 k g (omega arith);

@@ -9,13 +9,13 @@ use lib.IntN.{ℤ, pos, negsuc}
 use Rattle.lists.specs.Lists.{All}
 use Rattle.lists.proofs.Lists.{all-at}
 use Rattle.calculus.specs.Alphabet.{lastCharacter}
-use Rattle.calculus.specs.Rows.{number, minus}
+use Rattle.calculus.specs.LinearForms.{number, minus}
 use Rattle.calculus.specs.Facts.{Question, Fact, Branch, Function, len, code, literal, apply, valueOf}
-use Rattle.calculus.specs.Steps.{Step, Sum, Split, Apart, AConf, SConf, SProp, LIntro, LValid, CCollapse, CValid, CInj, Card, Join}
-use Rattle.calculus.specs.Children.{pairsWith, pairs}
+use Rattle.calculus.specs.Steps.{Step, Sum, BranchOn, Apart, AConf, SConf, SProp, LIntro, LValid, CCollapse, CValid, CInj, Card, Join}
+use Rattle.calculus.specs.Children.{pairChildrenWith, pairChildren}
 use Rattle.calculus.specs.Instances.{LastChild, Instance, StepInRange}
 use Rattle.calculus.proofs.InRange.{HeadInRange, FactInRange, FactsInRange}
-use Rattle.calculus.proofs.Entries.{Whole, whole-number, whole-column, whole-minus, whole-less, whole-below}
+use Rattle.calculus.proofs.Entries.{Whole, whole-number, whole-column, whole-minus, whole-above, whole-below}
 
 module _ (u : Question) (w : HeadInRange u) where
   whole-apply : (f : Function) (x : ℕ) → x < u .p → Whole (apply u f x)
@@ -31,13 +31,13 @@ module _ (u : Question) (w : HeadInRange u) where
   abbrev InRange : List (List Fact) → Type 0
   InRange cs = All (FactsInRange u) cs
 
-  pairs-with-range : (x : ℕ) (ys : List ℕ) (more : List (List Fact)) → x < u .p → All (λ y. y < u .p) ys → InRange more → InRange (pairsWith x ys more)
+  pairs-with-range : (x : ℕ) (ys : List ℕ) (more : List (List Fact)) → x < u .p → All (λ y. y < u .p) ys → InRange more → InRange (pairChildrenWith x ys more)
   pairs-with-range x [] more h g m = m
   pairs-with-range x (y ∷ ys) more h (gy, g) m = (((h, gy), tt), pairs-with-range x ys more h g m)
 
-  pairs-range : (xs : List ℕ) (more : List (List Fact)) → All (λ y. y < u .p) xs → InRange more → InRange (pairs xs more)
+  pairs-range : (xs : List ℕ) (more : List (List Fact)) → All (λ y. y < u .p) xs → InRange more → InRange (pairChildren xs more)
   pairs-range [] more g m = m
-  pairs-range (x ∷ xs) more (gx, g) m = pairs-with-range x xs (pairs xs more) gx g (pairs-range xs more g m)
+  pairs-range (x ∷ xs) more (gx, g) m = pairs-with-range x xs (pairChildren xs more) gx g (pairs-range xs more g m)
 
   last-range : (x m : ℕ) (cs : List (List Fact)) → x < u .p → LastChild u x m cs → InRange cs
   last-range x m cs h (inl (e, p)) = subst InRange (sym p) tt
@@ -46,17 +46,17 @@ module _ (u : Question) (w : HeadInRange u) where
   pub children-in-range : (b : Branch) (st : Step) (cs : List (List Fact)) → FactsInRange u b → StepInRange u st → Instance u b st cs → All (FactsInRange u) cs
   unfolding Instance StepInRange
   children-in-range b (Sum d ts) cs r g i = subst InRange (sym (i .adds)) ((i .size, tt), tt)
-  children-in-range b (Split e) cs r g i = subst InRange (sym i) ((g, tt), ((whole-below e g, tt), tt))
+  children-in-range b (BranchOn e) cs r g i = subst InRange (sym i) ((g, tt), ((whole-below e g, tt), tt))
   children-in-range b (Apart k) cs r g i = let h : Whole (i .form) = all-at (FactInRange u) b k r (i .named) in
-      subst InRange (sym (i .adds)) ((whole-less (i .form) h, tt), ((whole-below (i .form) h, tt), tt))
+      subst InRange (sym (i .adds)) ((whole-above (i .form) h, tt), ((whole-below (i .form) h, tt), tt))
   children-in-range b (AConf k) cs r g i = subst InRange (sym (i .closes)) tt
   children-in-range b SConf cs r g i = subst InRange (sym (i .closes)) tt
   children-in-range b (SProp f x y) cs r (hx, hy) i = subst InRange (sym (i .adds)) ((whole-difference f x y hx hy, tt), tt)
   children-in-range b (LIntro x) cs r g i = subst InRange (sym (i .adds)) ((whole-value len x (valueOf len (literal u (i .held))) g, tt), tt)
-  children-in-range b (LValid x) cs r g i = subst InRange (sym i) (((g, omega arith), tt), ((whole-less (apply u len x) (whole-apply len x g), tt), tt))
+  children-in-range b (LValid x) cs r g i = subst InRange (sym i) (((g, omega arith), tt), ((whole-above (apply u len x) (whole-apply len x g), tt), tt))
   children-in-range b (CCollapse x) cs r g i = subst InRange (sym (i .adds)) ((whole-value code x (valueOf code (literal u (i .held))) g, tt), tt)
   children-in-range b (CValid x) cs r g i =
-      let l = whole-less (apply u len x) (whole-apply len x g) in
+      let l = whole-above (apply u len x) (whole-apply len x g) in
       let c = whole-apply code x g in
       let k = number (pos (lastCharacter (u .n))) in
       subst InRange (sym i) ((l, (whole-value code x (negsuc 0) g, tt)), ((l, (c, (whole-minus k (apply u code x) (whole-number (pos (lastCharacter (u .n)))) c, tt))), tt))

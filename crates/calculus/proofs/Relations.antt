@@ -8,9 +8,9 @@ use lib.Dec.{T, T-not, not-T, le→leb}
 use lib.IntN.{ℤ, pos, negsuc}
 use lib.Signed.{_≤ℤ_, leZ, nonNeg}
 use borrow.Author.Tests.{le-leb}
-use Rattle.calculus.specs.Rows.{isZero}
+use Rattle.calculus.specs.LinearForms.{isZero}
 use Rattle.calculus.specs.Facts.{Relation, ge, eq, ne, holds, Holds}
-use Rattle.calculus.proofs.Rows.{isZero→, →isZero}
+use Rattle.calculus.proofs.LinearForms.{isZero→, →isZero}
 
 pub nonneg→ : (z : ℤ) → T (nonNeg z) → pos 0 ≤ℤ z
 nonneg→ (pos n) t = record { le = le→leb 0 n (omega arith) }

@@ -18,19 +18,19 @@ use Rattle.lists.proofs.Lists.{In, all-map, at-most, map-same, any→, →any, 
 use Rattle.lists.proofs.Tests.{→true, true→, and→, or→, →or-right}
 use Rattle.lists.proofs.Below.{all-below→, →all-below}
 use Rattle.calculus.specs.Alphabet.{characterCount}
-use Rattle.calculus.specs.Rows.{number, valueIn}
-use Rattle.calculus.specs.Facts.{Question, Fact, same, apart, isLiteral, arithmetic, Branch, Function, len, code, apply}
+use Rattle.calculus.specs.LinearForms.{number, valueIn}
+use Rattle.calculus.specs.Facts.{Question, Fact, same, notSame, isLiteral, arithmetic, Branch, Function, len, code, apply}
 use Rattle.calculus.specs.Chains.{varNode, litNode}
 use Rattle.calculus.specs.Classes.{labels, sameClass, conflict}
-use Rattle.calculus.specs.Steps.{Step, Sum, Split, Apart, AConf, SConf, SProp, LIntro, LValid, CCollapse, CValid, CInj, Card, Join}
-use Rattle.calculus.specs.Children.{pairs, boundChild}
-use Rattle.calculus.specs.Rules.{children, logUp, lastChild}
+use Rattle.calculus.specs.Steps.{Step, Sum, BranchOn, Apart, AConf, SConf, SProp, LIntro, LValid, CCollapse, CValid, CInj, Card, Join}
+use Rattle.calculus.specs.Children.{pairChildren, boundChild}
+use Rattle.calculus.specs.Rules.{children, leastPower, lastChild}
 use Rattle.calculus.specs.Instances.{LastChild, Instance, StepInRange, IsCard}
-use Rattle.calculus.specs.Model.{modelOf}
+use Rattle.calculus.specs.Model.{modelValue}
 use Rattle.calculus.specs.Saturation.{HoldsAlready, SomeChild, LengthsEqual, LeafInstance, Saturated}
-use Rattle.calculus.specs.SaturationTest.{held, heldSome, byChildren, saturatedStep, lowestVar, lowestOf, saturatedCard, saturated}
+use Rattle.calculus.specs.SaturationTest.{held, heldSome, byChildren, saturatedStep, lowestVariable, lowestOfLength, saturatedCard, saturated}
 use Rattle.calculus.proofs.InRange.{HeadInRange, FactsInRange}
-use Rattle.calculus.proofs.Rows.{dot-minus, dot-number}
+use Rattle.calculus.proofs.LinearForms.{dot-minus, dot-number}
 use Rattle.calculus.proofs.Relations.{holds→, →holds}
 use Rattle.calculus.proofs.Classes.{class→chain, chain→class, conflict→, →conflict}
 use Rattle.calculus.proofs.Powers.{least-power, power-enough}
@@ -44,13 +44,13 @@ module _ (u : Question) (w : HeadInRange u) (b : Branch) (r : FactsInRange u b) 
 
   held→ : (f : Fact) → T (held (labels b) m f) → HoldsAlready b m f
   held→ (same x y) t = class→chain b (varNode x) (varNode y) t
-  held→ (apart x y) t = λ c. T-not (sameClass (labels b) (varNode x) (varNode y)) t (chain→class u w b r (varNode x) (varNode y) c)
+  held→ (notSame x y) t = λ c. T-not (sameClass (labels b) (varNode x) (varNode y)) t (chain→class u w b r (varNode x) (varNode y) c)
   held→ (isLiteral x l) t = class→chain b (varNode x) (litNode l) t
   held→ (arithmetic s e) t = holds→ s (valueIn m e) t
 
   →held : (f : Fact) → HoldsAlready b m f → T (held (labels b) m f)
   →held (same x y) h = chain→class u w b r (varNode x) (varNode y) h
-  →held (apart x y) h = not-T (sameClass (labels b) (varNode x) (varNode y)) (λ t. h (class→chain b (varNode x) (varNode y) t))
+  →held (notSame x y) h = not-T (sameClass (labels b) (varNode x) (varNode y)) (λ t. h (class→chain b (varNode x) (varNode y) t))
   →held (isLiteral x l) h = chain→class u w b r (varNode x) (litNode l) h
   →held (arithmetic s e) h = →holds s (valueIn m e) h
 
@@ -75,17 +75,17 @@ module _ (u : Question) (w : HeadInRange u) (b : Branch) (r : FactsInRange u b) 
   -- ---- Card
 
   abbrev low : ℕ → ℕ
-  low x = lowestVar (labels b) x
+  low x = lowestVariable (labels b) x
 
   abbrev M : ℕ → ℤ
-  M x = modelOf u m len x
+  M x = modelValue u m len x
 
   -- the lowest variables of the classes whose length is that of x
   abbrev ofLength : ℕ → List ℕ
-  ofLength x = lowestOf u (labels b) m (M x) (u .p)
+  ofLength x = lowestOfLength u (labels b) m (M x) (u .p)
 
   abbrev least : ℕ → ℕ
-  least k = logUp k (characterCount (u .n)) k 0
+  least k = leastPower k (characterCount (u .n)) k 0
 
   -- one class of that length only, or two characters and a length that is large enough
   abbrev Few : ℕ → Type 0
@@ -132,7 +132,7 @@ module _ (u : Question) (w : HeadInRange u) (b : Branch) (r : FactsInRange u b) 
     card-chosen x xs cs g l t i = any→some b m cs (subst (AnyHeld b m) (sym (i .adds))
         (go (pairs-or-distinct low (All (HoldsAlready b m)) ℕ-discrete (λ x y e. (lowest→class b x y e, tt)) (x ∷ xs) (i .last))))
       where
-        go : AnyHeld b m (pairs (x ∷ xs) (i .last)) ⊎ Distinct (map low (x ∷ xs)) → AnyHeld b m (pairs (x ∷ xs) (i .last))
+        go : AnyHeld b m (pairChildren (x ∷ xs) (i .last)) ⊎ Distinct (map low (x ∷ xs)) → AnyHeld b m (pairChildren (x ∷ xs) (i .last))
         go (inl s) = s
         go (inr d) =
             let few : length (map low (x ∷ xs)) ≤ length (ofLength x) = at-most (map low (x ∷ xs)) (ofLength x) d (lows-in x (x ∷ xs) g (refl, i .lengths)) in
@@ -164,7 +164,7 @@ module _ (u : Question) (w : HeadInRange u) (b : Branch) (r : FactsInRange u b) 
             (some→any b m _ (s .some-child (Card rs) (all-map rs (λ y h. h .0) h, omega arith) _
             (record { different = d; lengths = all-map (z ∷ ys) (λ v p. p .1 ∙ sym (h .0 .1)) (h .1); last = lastChild u y k; last-child = last→ u y k (w .alphabet); adds = refl })))))
 
-    pub enough : (x : ℕ) → length (lowestOf u (labels b) m (modelOf u m len x) (u .p)) ≤ u .n ^ natAbs (modelOf u m len x)
+    pub enough : (x : ℕ) → length (lowestOfLength u (labels b) m (modelValue u m len x) (u .p)) ≤ u .n ^ natAbs (modelValue u m len x)
     enough x = card-enough x (card-test x)
 
     pub by-classes : ByClasses u b m
@@ -243,7 +243,7 @@ module _ (u : Question) (w : HeadInRange u) (b : Branch) (r : FactsInRange u b) 
     some-child : (st : Step) → StepInRange u st → (cs : List (List Fact)) → LeafInstance u b m st cs → SomeChild b m cs
     unfolding LeafInstance StepInRange
     some-child (Sum d ts) g cs i = absurd i
-    some-child (Split e) g cs i = absurd i
+    some-child (BranchOn e) g cs i = absurd i
     some-child (Apart k) g cs i = absurd i
     some-child (AConf k) g cs i = absurd i
     some-child SConf g cs i = absurd i

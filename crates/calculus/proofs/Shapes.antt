@@ -12,13 +12,13 @@ use lib.IntN.{negsuc}
 use borrow.Author.Tests.{lt-leb}
 use Rattle.lists.proofs.Options.{some-injective, none-some}
 use Rattle.calculus.specs.Alphabet.{characterCount}
-use Rattle.calculus.specs.Facts.{Question, Fact, same, apart, isLiteral, arithmetic, ge, eq, ne, Branch}
+use Rattle.calculus.specs.Facts.{Question, Fact, same, notSame, isLiteral, arithmetic, ge, eq, ne, Branch}
 use Rattle.calculus.specs.Classes.{labels, sameClass, classLiteral, conflict}
 use Rattle.calculus.specs.Chains.{varNode}
-use Rattle.calculus.specs.Steps.{Step, Sum, Split, Apart, AConf, SConf, SProp, LIntro, LValid, CCollapse, CValid, CInj, Card, Join, pairCount, lastCount, shape}
-use Rattle.calculus.specs.Rows.{scale, eqRow}
-use Rattle.calculus.specs.Children.{pairsWith, pairs, boundChild}
-use Rattle.calculus.specs.Rules.{sumOf, divided, parted, falsum, joined, neighbours, distinct, logUp, lastChild, cardChildren, children}
+use Rattle.calculus.specs.Steps.{Step, Sum, BranchOn, Apart, AConf, SConf, SProp, LIntro, LValid, CCollapse, CValid, CInj, Card, Join, pairCount, lastCount, shape}
+use Rattle.calculus.specs.LinearForms.{scale, eqIntegers}
+use Rattle.calculus.specs.Children.{pairChildrenWith, pairChildren, boundChild}
+use Rattle.calculus.specs.Rules.{sumOf, divided, apartOf, isFalse, joinOf, neighbours, distinct, leastPower, lastChild, cardChildren, children}
 use Rattle.calculus.specs.Instances.{LastChild, Instance}
 use Rattle.calculus.specs.Walk.{Waiting, Walk, working, closed, wait, cutBack, enter}
 use Rattle.calculus.proofs.Tests.{guard→, then→}
@@ -26,14 +26,14 @@ use Rattle.calculus.proofs.Tests.{guard→, then→}
 recount : (cs : List (List Fact)) (j k : ℕ) → j ≡ k → map length cs ≡ replicate j 1 → map length cs ≡ replicate k 1
 recount cs j k e h = h ∙ ap (λ n. replicate n 1) e
 
-pairs-with-sizes : (x : ℕ) (ys : List ℕ) (more : List (List Fact)) (k : ℕ) → map length more ≡ replicate k 1 → map length (pairsWith x ys more) ≡ replicate (length ys + k) 1
+pairs-with-sizes : (x : ℕ) (ys : List ℕ) (more : List (List Fact)) (k : ℕ) → map length more ≡ replicate k 1 → map length (pairChildrenWith x ys more) ≡ replicate (length ys + k) 1
 pairs-with-sizes x [] more k h = recount more k (0 + k) (omega arith) h
-pairs-with-sizes x (y ∷ ys) more k h = recount (pairsWith x (y ∷ ys) more) (suc (length ys + k)) (suc (length ys) + k) (omega arith) (ap (λ l. 1 ∷ l) (pairs-with-sizes x ys more k h))
+pairs-with-sizes x (y ∷ ys) more k h = recount (pairChildrenWith x (y ∷ ys) more) (suc (length ys + k)) (suc (length ys) + k) (omega arith) (ap (λ l. 1 ∷ l) (pairs-with-sizes x ys more k h))
 
-pairs-sizes : (xs : List ℕ) (more : List (List Fact)) (k : ℕ) → map length more ≡ replicate k 1 → map length (pairs xs more) ≡ replicate (pairCount (length xs) + k) 1
+pairs-sizes : (xs : List ℕ) (more : List (List Fact)) (k : ℕ) → map length more ≡ replicate k 1 → map length (pairChildren xs more) ≡ replicate (pairCount (length xs) + k) 1
 pairs-sizes [] more k h = recount more k (0 + k) (omega arith) h
-pairs-sizes (x ∷ xs) more k h = recount (pairs (x ∷ xs) more) (length xs + (pairCount (length xs) + k)) ((length xs + pairCount (length xs)) + k) (omega arith)
-    (pairs-with-sizes x xs (pairs xs more) (pairCount (length xs) + k) (pairs-sizes xs more k h))
+pairs-sizes (x ∷ xs) more k h = recount (pairChildren (x ∷ xs) more) (length xs + (pairCount (length xs) + k)) ((length xs + pairCount (length xs)) + k) (omega arith)
+    (pairs-with-sizes x xs (pairChildren xs more) (pairCount (length xs) + k) (pairs-sizes xs more k h))
 
 last-sizes : (u : Question) (x m : ℕ) (cs : List (List Fact)) → 1 ≤ u .n → LastChild u x m cs → map length cs ≡ replicate (lastCount (characterCount (u .n))) 1
 last-sizes u x m cs h (inl (e, p)) = ap (map length) p ∙ ap (λ n. replicate (lastCount n) 1) (sym e)
@@ -48,7 +48,7 @@ last-sizes u x m cs h (inr (e, p)) = ap (map length) (p .adds) ∙ ap (λ k. rep
 pub instance-shape : (u : Question) → 1 ≤ u .n → (b : Branch) (st : Step) (cs : List (List Fact)) → Instance u b st cs → map length cs ≡ shape (u .n) st
 unfolding Instance shape
 instance-shape u h b (Sum d ts) cs i = ap (map length) (i .adds)
-instance-shape u h b (Split e) cs i = ap (map length) i
+instance-shape u h b (BranchOn e) cs i = ap (map length) i
 instance-shape u h b (Apart k) cs i = ap (map length) (i .adds)
 instance-shape u h b (AConf k) cs i = ap (map length) (i .closes)
 instance-shape u h b SConf cs i = ap (map length) (i .closes)
@@ -100,7 +100,7 @@ last-count (suc (suc n)) = rw (lt-leb (suc (suc n)) 1 (omega arith))
 last-shape : (u : Question) (x m : ℕ) → map length (lastChild u x m) ≡ replicate (lastCount (characterCount (u .n))) 1
 last-shape u x m = by-test (leb (characterCount (u .n)) 1) ∙ ap (λ k. replicate k 1) (sym (last-count (characterCount (u .n))))
   where
-    by-test : (t : Bool) → map (length {A = Fact}) (elim t as (λ _. List (List Fact)) [ true ↦ [] | false ↦ boundChild u x (logUp m (characterCount (u .n)) m 0) ]) ≡ replicate (elim t as (λ _. ℕ) [ true ↦ 0 | false ↦ 1 ]) 1
+    by-test : (t : Bool) → map (length {A = Fact}) (elim t as (λ _. List (List Fact)) [ true ↦ [] | false ↦ boundChild u x (leastPower m (characterCount (u .n)) m 0) ]) ≡ replicate (elim t as (λ _. ℕ) [ true ↦ 0 | false ↦ 1 ]) 1
     by-test true = refl
     by-test false = refl
 
@@ -111,25 +111,25 @@ card-shape u b (x ∷ y ∷ xs) e =
     let m : ℕ = length (x ∷ y ∷ xs) in
     ap (map length) (sym (guard→ (distinct (x ∷ y ∷ xs) && neighbours u b x (y ∷ xs)) e .1)) ∙ pairs-sizes (x ∷ y ∷ xs) (lastChild u x m) (lastCount (characterCount (u .n))) (last-shape u x m)
 
-parted-shape : (f : Fact) {cs : List (List Fact)} → parted f ≡ some cs → map length cs ≡ 1 ∷ 1 ∷ []
+parted-shape : (f : Fact) {cs : List (List Fact)} → apartOf f ≡ some cs → map length cs ≡ 1 ∷ 1 ∷ []
 parted-shape (same x y) e = absurd (none-some e)
-parted-shape (apart x y) e = absurd (none-some e)
+parted-shape (notSame x y) e = absurd (none-some e)
 parted-shape (isLiteral x l) e = absurd (none-some e)
 parted-shape (arithmetic ge g) e = absurd (none-some e)
 parted-shape (arithmetic eq g) e = absurd (none-some e)
 parted-shape (arithmetic ne g) e = ap (map length) (sym (some-injective e))
 
-joined-shape : (f g : Fact) {cs : List (List Fact)} → joined f g ≡ some cs → map length cs ≡ 1 ∷ []
-joined-shape (arithmetic ge d) (arithmetic ge g) e = ap (map length) (sym (guard→ (eqRow (scale (negsuc 0) d) g) e .1))
+joined-shape : (f g : Fact) {cs : List (List Fact)} → joinOf f g ≡ some cs → map length cs ≡ 1 ∷ []
+joined-shape (arithmetic ge d) (arithmetic ge g) e = ap (map length) (sym (guard→ (eqIntegers (scale (negsuc 0) d) g) e .1))
 joined-shape (arithmetic ge d) (arithmetic eq g) e = absurd (none-some e)
 joined-shape (arithmetic ge d) (arithmetic ne g) e = absurd (none-some e)
 joined-shape (arithmetic ge d) (same x y) e = absurd (none-some e)
-joined-shape (arithmetic ge d) (apart x y) e = absurd (none-some e)
+joined-shape (arithmetic ge d) (notSame x y) e = absurd (none-some e)
 joined-shape (arithmetic ge d) (isLiteral x l) e = absurd (none-some e)
 joined-shape (arithmetic eq d) g e = absurd (none-some e)
 joined-shape (arithmetic ne d) g e = absurd (none-some e)
 joined-shape (same x y) g e = absurd (none-some e)
-joined-shape (apart x y) g e = absurd (none-some e)
+joined-shape (notSame x y) g e = absurd (none-some e)
 joined-shape (isLiteral x l) g e = absurd (none-some e)
 
 -- a step that fits has the shape that it shows
@@ -139,9 +139,9 @@ children-shape u b (Sum d ts) cs e =
     let (r, _, e2) = then→ (sumOf b ts) _ e in
     let (g, _, e3) = then→ (divided d r) _ e2 in
     ap (map length) (sym (some-injective e3))
-children-shape u b (Split g) cs e = ap (map length) (sym (some-injective e))
+children-shape u b (BranchOn g) cs e = ap (map length) (sym (some-injective e))
 children-shape u b (Apart k) cs e = let (f, _, e2) = then→ (getElem? b k) _ e in parted-shape f e2
-children-shape u b (AConf k) cs e = let (f, _, e2) = then→ (getElem? b k) _ e in ap (map length) (sym (guard→ (falsum f) e2 .1))
+children-shape u b (AConf k) cs e = let (f, _, e2) = then→ (getElem? b k) _ e in ap (map length) (sym (guard→ (isFalse f) e2 .1))
 children-shape u b SConf cs e = ap (map length) (sym (guard→ (conflict u b) e .1))
 children-shape u b (SProp f x y) cs e = ap (map length) (sym (guard→ (not (eqb x y) && sameClass (labels b) (varNode x) (varNode y)) e .1))
 children-shape u b (LIntro x) cs e = let (l, _, e2) = then→ (classLiteral u b x) _ e in ap (map length) (sym (some-injective e2))

@@ -14,14 +14,14 @@ use Rattle.integers.proofs.Laws.{minus-one-*ℤ, pos-injective, pos-≤ℤ, ≤
 use Rattle.lists.specs.Lists.{All, Distinct}
 use Rattle.lists.proofs.Lists.{Any, all-at, distinct-at}
 use Rattle.calculus.specs.Alphabet.{lastCharacter, Over}
-use Rattle.calculus.specs.Rows.{scale, number, minus, less, below, dot}
-use Rattle.calculus.specs.Facts.{Question, Fact, same, apart, isLiteral, arithmetic, Branch, Relation, ge, eq, ne, Holds, Function, len, code, literal, columnOf, apply, codeOf, valueOf}
+use Rattle.calculus.specs.LinearForms.{scale, number, minus, above, below, dot}
+use Rattle.calculus.specs.Facts.{Question, Fact, same, notSame, isLiteral, arithmetic, Branch, Relation, ge, eq, ne, Holds, Function, len, code, literal, columnOf, apply, codeOf, valueOf}
 use Rattle.calculus.specs.Chains.{varNode, litNode, Edge, AnyEdge, Chain, here, along, back}
-use Rattle.calculus.specs.Steps.{Step, Sum, Split, Apart, AConf, SConf, SProp, LIntro, LValid, CCollapse, CValid, CInj, Card, Join}
-use Rattle.calculus.specs.Children.{pairs, cValidChildren, cInjChildren}
-use Rattle.calculus.specs.Instances.{entry, FactAt, Multiplier, Summands, total, IsSum, IsAConf, LiteralsMeet, ApartMeet, IsLiteral, LengthsStated, Neighbours, LastChild, IsCard, IsJoin, Instance, StepInRange}
+use Rattle.calculus.specs.Steps.{Step, Sum, BranchOn, Apart, AConf, SConf, SProp, LIntro, LValid, CCollapse, CValid, CInj, Card, Join}
+use Rattle.calculus.specs.Children.{pairChildren, cValidChildren, cInjChildren}
+use Rattle.calculus.specs.Instances.{entry, FactAt, Multiplier, Summands, total, IsSum, IsAConf, LiteralsMeet, SidesMeet, IsClassLiteral, LengthsStated, Neighbours, LastChild, IsCard, IsJoin, Instance, StepInRange}
 use Rattle.calculus.specs.Meaning.{Assignment, str, For, columns, value, Meets, Met}
-use Rattle.calculus.proofs.Rows.{dot-plus, dot-scale, dot-neg, dot-minus, dot-number, dot-column, dot-less, dot-below}
+use Rattle.calculus.proofs.LinearForms.{dot-plus, dot-scale, dot-neg, dot-minus, dot-number, dot-column, dot-above, dot-below}
 use Rattle.calculus.proofs.Entries.{entry-scale, entry-tail, dot-entries, dot-split, summed, entry-summed}
 use Rattle.calculus.proofs.Powers.{one-power}
 use Rattle.calculus.proofs.Columns.{column-value}
@@ -54,8 +54,8 @@ module _ (u : Question) (a : Assignment) (f : For u a) where
   apply-value : (g : Function) (x : ℕ) → x < u .p → value a (apply u g x) ≡ valueOf g (str a x)
   apply-value g x h = dot-column v (columnOf u g x) ∙ column-value u a (f .strings) (f .integers) g x h
 
-  less-length : (x : ℕ) → x < u .p → value a (less (apply u len x)) ≡ pos (length (str a x)) -ℤ pos 1
-  less-length x h = dot-less v (apply u len x) (apply-value len x h)
+  above-length : (x : ℕ) → x < u .p → value a (above (apply u len x)) ≡ pos (length (str a x)) -ℤ pos 1
+  above-length x h = dot-above v (apply u len x) (apply-value len x h)
 
   -- an equation f(x) − k = 0 holds where f(x) is k
   equals-number : (g : Function) (x : ℕ) (k : ℤ) → x < u .p → valueOf g (str a x) ≡ k → Meets u a (arithmetic eq (minus (apply u g x) (number k)))
@@ -120,7 +120,7 @@ module _ (u : Question) (a : Assignment) (f : For u a) where
 
   edge-met : (g : Fact) (i j : ℕ) → Meets u a g → Edge g i j → node i ≡ node j
   edge-met (same x y) i j h (p, q) = ap node p ∙ node-variable x ∙ h ∙ sym (node-variable y) ∙ ap node (sym q)
-  edge-met (apart x y) i j h e = absurd e
+  edge-met (notSame x y) i j h e = absurd e
   edge-met (isLiteral x l) i j h (p, q) = ap node p ∙ node-variable x ∙ h ∙ sym (node-literal l) ∙ ap node (sym q)
   edge-met (arithmetic r t) i j h e = absurd e
 
@@ -134,10 +134,10 @@ module _ (u : Question) (a : Assignment) (f : For u a) where
   chain-met {b} m (along {i = i} {j = j} e c) = any-edge-met b i j m e ∙ chain-met m c
   chain-met {b} m (back {i = i} {j = j} e c) = sym (any-edge-met b j i m e) ∙ chain-met m c
 
-  literal-met : (b : Branch) (g : Function) (x : ℕ) (cs : List (List Fact)) → Met u a b → x < u .p → IsLiteral u b g x cs → AnyMet u a cs
+  literal-met : (b : Branch) (g : Function) (x : ℕ) (cs : List (List Fact)) → Met u a b → x < u .p → IsClassLiteral u b g x cs → AnyMet u a cs
   literal-met b g x cs m h i = subst (AnyMet u a) (sym (i .adds)) (inl (equals-number g x (valueOf g (literal u (i .held))) h (ap (valueOf g) (sym (node-variable x) ∙ chain-met m (i .counts .held) ∙ node-literal (i .held))), tt))
 
-  clash-dead : (b : Branch) → Distinct ([] ∷ u .literals) → Met u a b → LiteralsMeet u b ⊎ ApartMeet b → ⊥
+  clash-dead : (b : Branch) → Distinct ([] ∷ u .literals) → Met u a b → LiteralsMeet u b ⊎ SidesMeet b → ⊥
   clash-dead b d m (inl i) = distinct-at [] ([] ∷ u .literals) (i .first) (i .second) d (omega (arith, i .first-defined)) (omega (arith, i .second-defined)) (i .different)
       (sym (node-literal (i .first)) ∙ chain-met m (i .joined) ∙ node-literal (i .second))
   clash-dead b d m (inr i) = all-at (Meets u a) b (i .stands .0) m (i .stands .1) (sym (node-variable (i .left)) ∙ chain-met m (i .joined) ∙ node-variable (i .right))
@@ -172,7 +172,7 @@ module _ (u : Question) (a : Assignment) (f : For u a) where
       few d = subst (λ k. k ≤ u .n ^ length (str a x)) (length-map (x ∷ xs) (str a))
           (count (u .n) (length (str a x)) (map (str a) (x ∷ xs)) ((f .over x, refl), words-met b (length (str a x)) x xs m hx g (i .lengths) refl) d)
 
-      go : AnyMet u a (pairs (x ∷ xs) (i .last)) ⊎ Distinct (map (str a) (x ∷ xs)) → AnyMet u a (pairs (x ∷ xs) (i .last))
+      go : AnyMet u a (pairChildren (x ∷ xs) (i .last)) ⊎ Distinct (map (str a) (x ∷ xs)) → AnyMet u a (pairChildren (x ∷ xs) (i .last))
       go (inl h) = h
       go (inr d) = pairs-last (str a) (Met u a) (x ∷ xs) (i .last) (last-met x (length (x ∷ xs)) (i .last) hx l (few d) (i .last-child))
 
@@ -188,9 +188,9 @@ module _ (u : Question) (a : Assignment) (f : For u a) where
   pub instance-sound : Distinct ([] ∷ u .literals) → (b : Branch) (st : Step) (cs : List (List Fact)) → StepInRange u st → Instance u b st cs → Met u a b → AnyMet u a cs
   unfolding Instance StepInRange
   instance-sound d b (Sum k ts) cs g i m = subst (AnyMet u a) (sym (i .adds)) (inl ((new-met b k ts cs m i), tt))
-  instance-sound d b (Split e) cs g i m = subst (AnyMet u a) (sym i) (two (arithmetic ge e) (arithmetic ge (below e)) (at-least e refl) (at-least (below e) (dot-below v e refl)) (split-cases (value a e)))
+  instance-sound d b (BranchOn e) cs g i m = subst (AnyMet u a) (sym i) (two (arithmetic ge e) (arithmetic ge (below e)) (at-least e refl) (at-least (below e) (dot-below v e refl)) (split-cases (value a e)))
   instance-sound d b (Apart k) cs g i m = let e = i .form in
-      subst (AnyMet u a) (sym (i .adds)) (two (arithmetic ge (less e)) (arithmetic ge (below e)) (at-least (less e) (dot-less v e refl)) (at-least (below e) (dot-below v e refl))
+      subst (AnyMet u a) (sym (i .adds)) (two (arithmetic ge (above e)) (arithmetic ge (below e)) (at-least (above e) (dot-above v e refl)) (at-least (below e) (dot-below v e refl))
       (apart-cases (value a e) (all-at (Meets u a) b k m (i .named))))
   instance-sound d b (AConf k) cs g i m = absurd (conf-dead b k cs m i)
   instance-sound d b SConf cs g i m = absurd (clash-dead b d m (i .clash))
@@ -199,7 +199,7 @@ module _ (u : Question) (a : Assignment) (f : For u a) where
     tt,
   ))
   instance-sound d b (LIntro x) cs g i m = literal-met b len x cs m g i
-  instance-sound d b (LValid x) cs g i m = subst (AnyMet u a) (sym i) (two (isLiteral x 0) (arithmetic ge (less (apply u len x))) (λ e. e) (at-least (less (apply u len x)) (less-length x g)) (empty-or-longer (str a x)))
+  instance-sound d b (LValid x) cs g i m = subst (AnyMet u a) (sym i) (two (isLiteral x 0) (arithmetic ge (above (apply u len x))) (λ e. e) (at-least (above (apply u len x)) (above-length x g)) (empty-or-longer (str a x)))
     where
       empty-or-longer : (s : List ℕ) → (s ≡ []) ⊎ (pos 0 ≤ℤ (pos (length s) -ℤ pos 1))
       empty-or-longer [] = inl refl
@@ -212,9 +212,9 @@ module _ (u : Question) (a : Assignment) (f : For u a) where
 
       go : ((c : ℕ) × (str a x ≡ c ∷ [])) ⊎ ((length (str a x) ≢ 1) × (codeOf (str a x) ≡ negsuc 0))
           → AnyMet u a (cValidChildren u x)
-      go (inr (h, e)) = inl ((λ z. h (pos-injective (-ℤ-zero→ (sym (less-length x g) ∙ z)))), (equals-number code x (negsuc 0) g e, tt))
+      go (inr (h, e)) = inl ((λ z. h (pos-injective (-ℤ-zero→ (sym (above-length x g) ∙ z)))), (equals-number code x (negsuc 0) g e, tt))
       go (inl (c, e)) = inr (inl (
-        (less-length x g ∙ →-ℤ-zero (ap (λ s. pos (length s)) e)),
+        (above-length x g ∙ →-ℤ-zero (ap (λ s. pos (length s)) e)),
         (
           at-least (apply u code x) (apply-value code x g ∙ ap codeOf e) (pos-≤ℤ {m = 0} {n = c} (omega arith)),
           (

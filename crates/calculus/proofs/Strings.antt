@@ -18,18 +18,18 @@ use Rattle.lists.proofs.Options.{some-injective, none-some, some-none}
 use Rattle.lists.proofs.Lists.{In, in-map, in-append, in-left, in-right, in-at, distinct-at, without, length-without, in-without, at-most, getD-map, all-getD}
 use Rattle.lists.proofs.Tests.{→true, true→}
 use Rattle.calculus.specs.Alphabet.{Character, Over}
-use Rattle.calculus.specs.Rows.{eqℤ, valueIn}
-use Rattle.calculus.specs.Facts.{Question, Fact, same, apart, isLiteral, arithmetic, Branch, Function, len, code, literal, codeOf, valueOf, Holds}
+use Rattle.calculus.specs.LinearForms.{eqℤ, valueIn}
+use Rattle.calculus.specs.Facts.{Question, Fact, same, notSame, isLiteral, arithmetic, Branch, Function, len, code, literal, codeOf, valueOf, Holds}
 use Rattle.calculus.specs.Chains.{varNode, litNode, Edge, AnyEdge, Chain, here, along, OneClass, Counts}
 use Rattle.calculus.specs.Classes.{labels, classLiteral}
 use Rattle.calculus.specs.Instances.{FactAt, Instance}
-use Rattle.calculus.specs.Model.{modelOf}
+use Rattle.calculus.specs.Model.{modelValue}
 use Rattle.calculus.specs.Saturation.{Saturated, MeetsArithmetic}
-use Rattle.calculus.specs.SaturationTest.{lowestVar, lowestOf}
+use Rattle.calculus.specs.SaturationTest.{lowestVariable, lowestOfLength}
 use Rattle.calculus.specs.Strings.{word, freshFrom, oneChar, fixedBy, fixedString, fixedStrings, stringOf, stringsTo, strings}
 use Rattle.calculus.specs.Meaning.{Assignment, str, For, columns, Meets, Met}
 use Rattle.calculus.proofs.InRange.{HeadInRange, FactInRange, FactsInRange}
-use Rattle.calculus.proofs.Rows.{eqℤ→, →eqℤ}
+use Rattle.calculus.proofs.LinearForms.{eqℤ→, →eqℤ}
 use Rattle.calculus.proofs.Classes.{chain-trans, chain-sym, literal→counts, no-literal, literal-same}
 use Rattle.calculus.proofs.Words.{one-or-no-code, length-word, word-over, words, length-words, in-words→, words-distinct, Fresh, fresh, length-fresh}
 use Rattle.calculus.proofs.Lowest.{lowest-joined, lowest-le, lowest→class, class→lowest, lowest-lowest, in-lowests, lowests-few}
@@ -101,32 +101,32 @@ module _ (u : Question) (b : Branch) (m : List ℤ) where
       go (no f) ih = behind (fixedString u b m k) (ih (omega arith) e)
 
   abbrev L : ℕ → ℕ
-  L x = natAbs (modelOf u m len x)
+  L x = natAbs (modelValue u m len x)
 
   -- what is given before the string of x
   abbrev before : ℕ → List (List ℕ)
   before x = fixedStrings u b m (u .p) ++ stringsTo u b m x
 
   abbrev chosen : ℕ → Option (List ℕ) → Bool → List ℕ
-  chosen x o t = elim o as (λ _. List ℕ) [ some s ↦ s | none ↦ elim t as (λ _. List ℕ) [ true ↦ getD (stringsTo u b m x) (lowestVar (labels b) x) [] | false ↦ freshFrom (u .p) (u .n) (L x) (before x) 0 ] ]
+  chosen x o t = elim o as (λ _. List ℕ) [ some s ↦ s | none ↦ elim t as (λ _. List ℕ) [ true ↦ getD (stringsTo u b m x) (lowestVariable (labels b) x) [] | false ↦ freshFrom (u .p) (u .n) (L x) (before x) 0 ] ]
 
   pub S-fixed : (x : ℕ) (s : List ℕ) → fixedString u b m x ≡ some s → S x ≡ s
-  S-fixed x s e = ap (λ o. chosen x o (ltb (lowestVar (labels b) x) x)) e
+  S-fixed x s e = ap (λ o. chosen x o (ltb (lowestVariable (labels b) x) x)) e
 
-  pub S-copied : (x : ℕ) → fixedString u b m x ≡ none → lowestVar (labels b) x < x → S x ≡ S (lowestVar (labels b) x)
-  S-copied x e h = ap₂ (chosen x) e (lt-ltb (lowestVar (labels b) x) x h) ∙ strings-at x (lowestVar (labels b) x) h
+  pub S-copied : (x : ℕ) → fixedString u b m x ≡ none → lowestVariable (labels b) x < x → S x ≡ S (lowestVariable (labels b) x)
+  S-copied x e h = ap₂ (chosen x) e (lt-ltb (lowestVariable (labels b) x) x h) ∙ strings-at x (lowestVariable (labels b) x) h
 
-  pub S-new : (x : ℕ) → fixedString u b m x ≡ none → lowestVar (labels b) x ≡ x → S x ≡ freshFrom (u .p) (u .n) (L x) (before x) 0
-  S-new x e h = ap₂ (chosen x) e (le-ltb (lowestVar (labels b) x) x (omega arith))
+  pub S-new : (x : ℕ) → fixedString u b m x ≡ none → lowestVariable (labels b) x ≡ x → S x ≡ freshFrom (u .p) (u .n) (L x) (before x) 0
+  S-new x e h = ap₂ (chosen x) e (le-ltb (lowestVariable (labels b) x) x (omega arith))
 
 -- ---- a saturated leaf
 
 module _ (u : Question) (w : HeadInRange u) (b : Branch) (r : FactsInRange u b) (m : List ℤ) (sat : Saturated u b m) where
   abbrev M : Function → ℕ → ℤ
-  M f x = modelOf u m f x
+  M f x = modelValue u m f x
 
   abbrev low : ℕ → ℕ
-  low x = lowestVar (labels b) x
+  low x = lowestVariable (labels b) x
 
   abbrev string : ℕ → List ℕ
   string x = S u b m x
@@ -232,7 +232,7 @@ module _ (u : Question) (w : HeadInRange u) (b : Branch) (r : FactsInRange u b) 
 
   -- the lowest variables of the classes of the length of x
   abbrev ofLength : ℕ → List ℕ
-  ofLength x = lowestOf u (labels b) m (M len x) (u .p)
+  ofLength x = lowestOfLength u (labels b) m (M len x) (u .p)
 
   in-length : (x y : ℕ) → y < u .p → M len y ≡ M len x → In (low y) (ofLength x)
   in-length x y h e = in-lowests u (labels b) m (M len x) (u .p) (low y) (low-below y h, sym (class-value u b m held len y (low y) h (low-below y h) (lowest-joined b y)) ∙ e, lowest-lowest u w b r y)
@@ -358,7 +358,7 @@ module _ (u : Question) (w : HeadInRange u) (b : Branch) (r : FactsInRange u b) 
           go x (no f) = subst (Over (u .n)) (sym (List·getD-eq-default (stringsTo u b m (u .p)) [] (omega (arith, length-strings u b m (u .p))))) tt
 
       -- the values of the strings are a stretch of the model
-      stretch : (f : Function) (l : List ℤ) → length l ≡ u .p → ((x : ℕ) → x < u .p → modelOf u m f x ≡ getD l x (pos 0)) → map (valueOf f) (strings u b m) ≡ l
+      stretch : (f : Function) (l : List ℤ) → length l ≡ u .p → ((x : ℕ) → x < u .p → modelValue u m f x ≡ getD l x (pos 0)) → map (valueOf f) (strings u b m) ≡ l
       stretch f l e h = ext-getD (pos 0) (map (valueOf f) (strings u b m)) l (long ∙ sym e) (λ x k. go x (subst (λ n. x < n) long k))
         where
           long : length (map (valueOf f) (strings u b m)) ≡ u .p
@@ -405,7 +405,7 @@ module _ (u : Question) (w : HeadInRange u) (b : Branch) (r : FactsInRange u b) 
       meets : (k : ℕ) (f : Fact) → FactAt b k f → FactInRange u f → MeetsArithmetic m f → Meets u (answer u b m) f
       unfolding Instance
       meets k (same x y) h (hx, hy) a = str-is x hx ∙ string-class x y hx hy (along (joined b k (same x y) (varNode x) (varNode y) h (refl, refl)) here) ∙ sym (str-is y hy)
-      meets k (apart x y) h (hx, hy) a = λ e. classes-differ x y hx hy (λ c. sat .no-conflict [] (record { clash = inr (record { left = x; right = y; stands = (k, h); joined = c }); closes = refl })) (sym (str-is x hx) ∙ e ∙ str-is y hy)
+      meets k (notSame x y) h (hx, hy) a = λ e. classes-differ x y hx hy (λ c. sat .no-conflict [] (record { clash = inr (record { left = x; right = y; stands = (k, h); joined = c }); closes = refl })) (sym (str-is x hx) ∙ e ∙ str-is y hy)
       meets k (isLiteral x l) h (hx, hl) a = str-is x hx ∙ string-literal x l hl (along (joined b k (isLiteral x l) (varNode x) (litNode l) h (refl, refl)) here)
       meets k (arithmetic s e) h n a = subst (Holds s) (sym (ap (λ v. valueIn v e) columns-are)) a
 
@@ -418,7 +418,7 @@ module _ (u : Question) (w : HeadInRange u) (b : Branch) (r : FactsInRange u b) 
 -- what the strings of a leaf are, with the model's integers
 pub record Answers (u : Question) (b : Branch) (m : List ℤ) (a : Assignment) : Type 0 where
   pub for-question : For u a
-  pub values : (f : Function) (x : ℕ) → x < u .p → valueOf f (str a x) ≡ modelOf u m f x
+  pub values : (f : Function) (x : ℕ) → x < u .p → valueOf f (str a x) ≡ modelValue u m f x
   pub equal : (x y : ℕ) → x < u .p → y < u .p → OneClass b x y → str a x ≡ str a y
   pub differ : (x y : ℕ) → x < u .p → y < u .p → (OneClass b x y → ⊥) → str a x ≢ str a y
   pub met : Met u a b

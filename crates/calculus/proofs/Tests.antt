@@ -9,7 +9,7 @@ use lib.Dec.{T, T-not, not-T, eqb, eqb→eq, eqb-refl}
 use Rattle.lists.specs.Lists.{NotIn, Distinct}
 use Rattle.lists.proofs.Options.{some-injective, none-some}
 use Rattle.lists.proofs.Tests.{and→, →and, nor→, →nor}
-use Rattle.calculus.specs.Rules.{guard, then, elem, distinct}
+use Rattle.calculus.specs.Rules.{guard, then, among, distinct}
 
 -- ---- partial results
 
@@ -36,18 +36,18 @@ differ→ x y t e = T-not (eqb x y) t (subst (λ z. T (eqb x z)) e (eqb-refl x))
 pub →differ : (x y : ℕ) → x ≢ y → T (not (eqb x y))
 →differ x y h = not-T (eqb x y) (λ t. h (eqb→eq x y t))
 
-elem→ : (x : ℕ) (ys : List ℕ) → T (not (elem x ys)) → NotIn x ys
-elem→ x [] t = tt
-elem→ x (y ∷ ys) t = let (h, hs) = nor→ (eqb x y) (elem x ys) t in (differ→ x y h, elem→ x ys hs)
+among→ : (x : ℕ) (ys : List ℕ) → T (not (among x ys)) → NotIn x ys
+among→ x [] t = tt
+among→ x (y ∷ ys) t = let (h, hs) = nor→ (eqb x y) (among x ys) t in (differ→ x y h, among→ x ys hs)
 
-→elem : (x : ℕ) (ys : List ℕ) → NotIn x ys → T (not (elem x ys))
-→elem x [] h = tt
-→elem x (y ∷ ys) (h, hs) = →nor (eqb x y) (elem x ys) (→differ x y h) (→elem x ys hs)
+→among : (x : ℕ) (ys : List ℕ) → NotIn x ys → T (not (among x ys))
+→among x [] h = tt
+→among x (y ∷ ys) (h, hs) = →nor (eqb x y) (among x ys) (→differ x y h) (→among x ys hs)
 
 pub distinct→ : (xs : List ℕ) → T (distinct xs) → Distinct xs
 distinct→ [] t = tt
-distinct→ (x ∷ xs) t = let (h, g) = and→ (not (elem x xs)) (distinct xs) t in (elem→ x xs h, distinct→ xs g)
+distinct→ (x ∷ xs) t = let (h, g) = and→ (not (among x xs)) (distinct xs) t in (among→ x xs h, distinct→ xs g)
 
 pub →distinct : (xs : List ℕ) → Distinct xs → T (distinct xs)
 →distinct [] h = tt
-→distinct (x ∷ xs) (h, hs) = →and (not (elem x xs)) (distinct xs) (→elem x xs h) (→distinct xs hs)
+→distinct (x ∷ xs) (h, hs) = →and (not (among x xs)) (distinct xs) (→among x xs h) (→distinct xs hs)

@@ -4,7 +4,7 @@ use mathlib.Core.Path.{_≡_}
 use mathlib.Core.Logic.{_⊎_}
 use mathlib.Core.List.{[], _∷_}
 use lib.ListN.{length}
-use Rattle.calculus.specs.Facts.{Question, Fact, same, apart, isLiteral, arithmetic, Branch}
+use Rattle.calculus.specs.Facts.{Question, Fact, same, notSame, isLiteral, arithmetic, Branch}
 
 -- nodes: the even for the variables, the odd for the literals
 abbrev pub varNode : ℕ → ℕ
@@ -16,7 +16,7 @@ litNode l = 2 * l + 1
 -- the fact f joins the nodes i and j
 abbrev pub Edge : Fact → ℕ → ℕ → Type 0
 Edge (same x y) i j = (i ≡ varNode x) × (j ≡ varNode y)
-Edge (apart x y) i j = ⊥
+Edge (notSame x y) i j = ⊥
 Edge (isLiteral x l) i j = (i ≡ varNode x) × (j ≡ litNode l)
 Edge (arithmetic r e) i j = ⊥
 

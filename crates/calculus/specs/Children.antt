@@ -5,7 +5,7 @@ use mathlib.Core.List.{List, [], _∷_}
 use lib.ListN.{getElem?}
 use lib.IntN.{ℤ, pos, negsuc}
 use Rattle.calculus.specs.Alphabet.{lastCharacter}
-use Rattle.calculus.specs.Rows.{number, minus, less, below}
+use Rattle.calculus.specs.LinearForms.{number, minus, above, below}
 use Rattle.calculus.specs.Facts.{Question, Fact, same, isLiteral, arithmetic, ge, eq, ne, Function, len, code, literal, apply, valueOf}
 
 -- the child of number k: "the child taken, from 1"
@@ -22,12 +22,12 @@ abbrev pub sumChild : List ℤ → List (List Fact)
 sumChild e = one (arithmetic ge e)
 
 -- Branch: "Children e ≥ 0; −e−1 ≥ 0"
-abbrev pub splitChildren : List ℤ → List (List Fact)
-splitChildren e = (arithmetic ge e ∷ []) ∷ (arithmetic ge (below e) ∷ []) ∷ []
+abbrev pub branchChildren : List ℤ → List (List Fact)
+branchChildren e = (arithmetic ge e ∷ []) ∷ (arithmetic ge (below e) ∷ []) ∷ []
 
 -- Apart: "Children e−1 ≥ 0; −e−1 ≥ 0"
 abbrev pub apartChildren : List ℤ → List (List Fact)
-apartChildren e = (arithmetic ge (less e) ∷ []) ∷ (arithmetic ge (below e) ∷ []) ∷ []
+apartChildren e = (arithmetic ge (above e) ∷ []) ∷ (arithmetic ge (below e) ∷ []) ∷ []
 
 -- S-Prop: "Adds f(x) − f(y) = 0"
 abbrev pub sPropChild : Question → Function → ℕ → ℕ → List (List Fact)
@@ -39,13 +39,13 @@ literalChild u f x l = one (arithmetic eq (minus (apply u f x) (number (valueOf 
 
 -- L-Valid: "Children x ≈ literal 0; len(x) − 1 ≥ 0"
 abbrev pub lValidChildren : Question → ℕ → List (List Fact)
-lValidChildren u x = (isLiteral x 0 ∷ []) ∷ (arithmetic ge (less (apply u len x)) ∷ []) ∷ []
+lValidChildren u x = (isLiteral x 0 ∷ []) ∷ (arithmetic ge (above (apply u len x)) ∷ []) ∷ []
 
 -- C-Valid: "Children len(x) ≠ 1 and code(x) = −1; len(x) = 1, code(x) ≥ 0 and n−1−code(x) ≥ 0"
 abbrev pub cValidChildren : Question → ℕ → List (List Fact)
 cValidChildren u x =
-    (arithmetic ne (less (apply u len x)) ∷ arithmetic eq (minus (apply u code x) (number (negsuc 0))) ∷ [])
-    ∷ (arithmetic eq (less (apply u len x)) ∷ arithmetic ge (apply u code x) ∷ arithmetic ge (minus (number (pos (lastCharacter (u .n)))) (apply u code x)) ∷ [])
+    (arithmetic ne (above (apply u len x)) ∷ arithmetic eq (minus (apply u code x) (number (negsuc 0))) ∷ [])
+    ∷ (arithmetic eq (above (apply u len x)) ∷ arithmetic ge (apply u code x) ∷ arithmetic ge (minus (number (pos (lastCharacter (u .n)))) (apply u code x)) ∷ [])
     ∷ []
 
 -- C-Inj: "Children code(x) = −1; code(x) − code(y) ≠ 0; x ≈ y"
@@ -57,13 +57,13 @@ cInjChildren u x y =
     ∷ []
 
 -- Card: "Children, for each pair i < j in lexicographic order, x_i ≈ x_j", before more
-abbrev pub pairsWith : ℕ → List ℕ → List (List Fact) → List (List Fact)
-pairsWith x [] more = more
-pairsWith x (y ∷ ys) more = (same x y ∷ []) ∷ pairsWith x ys more
+abbrev pub pairChildrenWith : ℕ → List ℕ → List (List Fact) → List (List Fact)
+pairChildrenWith x [] more = more
+pairChildrenWith x (y ∷ ys) more = (same x y ∷ []) ∷ pairChildrenWith x ys more
 
-abbrev pub pairs : List ℕ → List (List Fact) → List (List Fact)
-pairs [] more = more
-pairs (x ∷ xs) more = pairsWith x xs (pairs xs more)
+abbrev pub pairChildren : List ℕ → List (List Fact) → List (List Fact)
+pairChildren [] more = more
+pairChildren (x ∷ xs) more = pairChildrenWith x xs (pairChildren xs more)
 
 -- Card: "last, len(x_1) ≥ L"
 abbrev pub boundChild : Question → ℕ → ℕ → List (List Fact)

@@ -5,14 +5,14 @@ use mathlib.Core.Option.{Option, none, some}
 use mathlib.Core.List.{List, [], _∷_}
 use lib.ListN.{length, getD}
 use lib.Dec.{eqb}
-use Rattle.lists.specs.Lists.{anyBelow, along}
+use Rattle.lists.specs.Lists.{anyBelow, valuesAlong}
 use Rattle.calculus.specs.Limits.{variableLimit}
-use Rattle.calculus.specs.Facts.{Fact, Branch, Question, same, apart, isLiteral, arithmetic}
+use Rattle.calculus.specs.Facts.{Fact, Branch, Question, same, notSame, isLiteral, arithmetic}
 use Rattle.calculus.specs.Chains.{varNode, litNode}
 
 -- m numbers from k on
 abbrev pub upFrom : ℕ → ℕ → List ℕ
-upFrom k m = along suc (λ i. i) k m
+upFrom k m = valuesAlong suc (λ i. i) k m
 
 -- each label old becomes new
 abbrev pub relabel : ℕ → ℕ → List ℕ → List ℕ
@@ -22,19 +22,19 @@ relabel old new (c ∷ cs) = cond (eqb c old) new c ∷ relabel old new cs
 abbrev pub label : List ℕ → ℕ → ℕ
 label ls i = getD ls i i
 
-abbrev pub joinNodes : List ℕ → ℕ → ℕ → List ℕ
-joinNodes ls i j = relabel (label ls j) (label ls i) ls
+abbrev pub mergeNodes : List ℕ → ℕ → ℕ → List ℕ
+mergeNodes ls i j = relabel (label ls j) (label ls i) ls
 
 -- the labels once a fact more stands
-abbrev pub joinFact : List ℕ → Fact → List ℕ
-joinFact ls (same x y) = joinNodes ls (varNode x) (varNode y)
-joinFact ls (apart x y) = ls
-joinFact ls (isLiteral x l) = joinNodes ls (varNode x) (litNode l)
-joinFact ls (arithmetic r e) = ls
+abbrev pub mergeFact : List ℕ → Fact → List ℕ
+mergeFact ls (same x y) = mergeNodes ls (varNode x) (varNode y)
+mergeFact ls (notSame x y) = ls
+mergeFact ls (isLiteral x l) = mergeNodes ls (varNode x) (litNode l)
+mergeFact ls (arithmetic r e) = ls
 
 abbrev pub labelsFrom : List ℕ → Branch → List ℕ
 labelsFrom ls [] = ls
-labelsFrom ls (f ∷ b) = labelsFrom (joinFact ls f) b
+labelsFrom ls (f ∷ b) = labelsFrom (mergeFact ls f) b
 
 -- 16 variables and 16 literals, the empty one included
 abbrev pub nodeCount : ℕ
@@ -48,13 +48,13 @@ abbrev pub sameClass : List ℕ → ℕ → ℕ → Bool
 sameClass ls i j = eqb (label ls i) (label ls j)
 
 -- the lowest literal from k on in the class of x, among m: "the lowest literal number counts"
-abbrev pub lowest : List ℕ → ℕ → ℕ → ℕ → Option ℕ
-lowest ls x k zero = none
-lowest ls x k (suc m) = elim (sameClass ls (varNode x) (litNode k)) [ true ↦ some k | false ↦ lowest ls x (suc k) m ]
+abbrev pub lowestLiteral : List ℕ → ℕ → ℕ → ℕ → Option ℕ
+lowestLiteral ls x k zero = none
+lowestLiteral ls x k (suc m) = elim (sameClass ls (varNode x) (litNode k)) [ true ↦ some k | false ↦ lowestLiteral ls x (suc k) m ]
 
 -- that of the class of x, on a branch with the labels ls
 abbrev pub literalIn : Question → List ℕ → ℕ → Option ℕ
-literalIn u ls x = lowest ls x 0 (suc (length (u .literals)))
+literalIn u ls x = lowestLiteral ls x 0 (suc (length (u .literals)))
 
 abbrev pub classLiteral : Question → Branch → ℕ → Option ℕ
 classLiteral u b x = literalIn u (labels b) x
@@ -67,16 +67,16 @@ abbrev pub literalsMeet : ℕ → List ℕ → Bool
 literalsMeet m ls = anyBelow m (literalMeets ls)
 
 -- "a ≉ fact has both sides in one"
-abbrev pub apartMeet : List ℕ → Branch → Bool
-apartMeet ls [] = false
-apartMeet ls (same x y ∷ b) = apartMeet ls b
-apartMeet ls (apart x y ∷ b) = sameClass ls (varNode x) (varNode y) || apartMeet ls b
-apartMeet ls (isLiteral x l ∷ b) = apartMeet ls b
-apartMeet ls (arithmetic r e ∷ b) = apartMeet ls b
+abbrev pub sidesMeet : List ℕ → Branch → Bool
+sidesMeet ls [] = false
+sidesMeet ls (same x y ∷ b) = sidesMeet ls b
+sidesMeet ls (notSame x y ∷ b) = sameClass ls (varNode x) (varNode y) || sidesMeet ls b
+sidesMeet ls (isLiteral x l ∷ b) = sidesMeet ls b
+sidesMeet ls (arithmetic r e ∷ b) = sidesMeet ls b
 
 -- S-Conf fits on a branch with the labels ls, where there are m literals, the empty one included
 abbrev pub clash : ℕ → List ℕ → Branch → Bool
-clash m ls b = literalsMeet m ls || apartMeet ls b
+clash m ls b = literalsMeet m ls || sidesMeet ls b
 
 abbrev pub conflict : Question → Branch → Bool
 conflict u b = clash (suc (length (u .literals))) (labels b) b

@@ -7,7 +7,7 @@ use mathlib.Core.List.{List, [], _∷_}
 use lib.ListN.{length, getD}
 use lib.IntN.{ℤ, pos, negsuc}
 use lib.Signed.{_≤ℤ_, nonNeg}
-use Rattle.calculus.specs.Rows.{column, isZero}
+use Rattle.calculus.specs.LinearForms.{column, isZero}
 
 -- "relation (0 is ≥ 0, 1 is = 0, 2 is ≠ 0)"
 pub data Relation : Type 0 where
@@ -27,20 +27,20 @@ holds ne z = not (isZero z)
 -- variable ≈ variable, variable ≉ variable, variable ≈ literal, and a form related to 0
 pub data Fact : Type 0 where
   same : ℕ → ℕ → Fact
-  apart : ℕ → ℕ → Fact
+  notSame : ℕ → ℕ → Fact
   isLiteral : ℕ → ℕ → Fact
   arithmetic : Relation → List ℤ → Fact
 
 -- what is asked of arithmetic facts alone, in words and as a test
 abbrev pub OnArithmetic : (Relation → List ℤ → Type 0) → Fact → Type 0
 OnArithmetic P (same x y) = Unit {0}
-OnArithmetic P (apart x y) = Unit {0}
+OnArithmetic P (notSame x y) = Unit {0}
 OnArithmetic P (isLiteral x l) = Unit {0}
 OnArithmetic P (arithmetic r e) = P r e
 
 abbrev pub onArithmetic : (Relation → List ℤ → Bool) → Fact → Bool
 onArithmetic t (same x y) = true
-onArithmetic t (apart x y) = true
+onArithmetic t (notSame x y) = true
 onArithmetic t (isLiteral x l) = true
 onArithmetic t (arithmetic r e) = t r e
 

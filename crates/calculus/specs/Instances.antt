@@ -10,11 +10,11 @@ use lib.Signed.{_≤ℤ_, _<ℤ_}
 use Rattle.lists.specs.Lists.{All, Distinct}
 use Rattle.calculus.specs.Limits.{columnLimit}
 use Rattle.calculus.specs.Alphabet.{characterCount}
-use Rattle.calculus.specs.Rows.{minus}
-use Rattle.calculus.specs.Facts.{Question, Fact, apart, arithmetic, Branch, Relation, ge, eq, ne, Holds, Function, len, code, apply}
+use Rattle.calculus.specs.LinearForms.{minus}
+use Rattle.calculus.specs.Facts.{Question, Fact, notSame, arithmetic, Branch, Relation, ge, eq, ne, Holds, Function, len, code, apply}
 use Rattle.calculus.specs.Chains.{litNode, Chain, OneClass, Counts}
-use Rattle.calculus.specs.Steps.{Step, Sum, Split, Apart, AConf, SConf, SProp, LIntro, LValid, CCollapse, CValid, CInj, Card, Join}
-use Rattle.calculus.specs.Children.{sumChild, splitChildren, apartChildren, sPropChild, literalChild, lValidChildren, cValidChildren, cInjChildren, pairs, boundChild, joinChild}
+use Rattle.calculus.specs.Steps.{Step, Sum, BranchOn, Apart, AConf, SConf, SProp, LIntro, LValid, CCollapse, CValid, CInj, Card, Join}
+use Rattle.calculus.specs.Children.{sumChild, branchChildren, apartChildren, sPropChild, literalChild, lValidChildren, cValidChildren, cInjChildren, pairChildren, boundChild, joinChild}
 
 -- a form's number in place j: the constant in place 0, the coefficient of column i in place i + 1
 abbrev pub entry : List ℤ → ℕ → ℤ
@@ -95,14 +95,14 @@ pub record LiteralsMeet (u : Question) (b : Branch) : Type 0 where
   pub different : first ≢ second
   pub joined : Chain b (litNode first) (litNode second)
 
-pub record ApartMeet (b : Branch) : Type 0 where
+pub record SidesMeet (b : Branch) : Type 0 where
   pub left : ℕ
   pub right : ℕ
-  pub stands : Stands b (apart left right)
+  pub stands : Stands b (notSame left right)
   pub joined : OneClass b left right
 
 pub record IsSConf (u : Question) (b : Branch) (cs : List (List Fact)) : Type 0 where
-  pub clash : LiteralsMeet u b ⊎ ApartMeet b
+  pub clash : LiteralsMeet u b ⊎ SidesMeet b
   pub closes : cs ≡ []
 
 -- ---- 6 S-Prop: "different variables x, y of one class"
@@ -114,7 +114,7 @@ pub record IsSProp (u : Question) (b : Branch) (f : Function) (x y : ℕ) (cs : 
 
 -- ---- 7 L-Intro and 9 C-Collapse: "x, whose class holds a literal l (no operand)"
 
-pub record IsLiteral (u : Question) (b : Branch) (f : Function) (x : ℕ) (cs : List (List Fact)) : Type 0 where
+pub record IsClassLiteral (u : Question) (b : Branch) (f : Function) (x : ℕ) (cs : List (List Fact)) : Type 0 where
   pub held : ℕ
   pub counts : Counts u b x held
   pub adds : cs ≡ literalChild u f x held
@@ -156,7 +156,7 @@ pub record IsCard (u : Question) (Lengths : Type 0) (x : ℕ) (xs : List ℕ) (c
   pub lengths : Lengths
   pub last : List (List Fact)
   pub last-child : LastChild u x (suc (length xs)) last
-  pub adds : cs ≡ pairs (x ∷ xs) last
+  pub adds : cs ≡ pairChildren (x ∷ xs) last
 
 -- ---- 13 Join: "two ≥ facts, one the negative of the other"
 
@@ -174,14 +174,14 @@ pub record IsJoin (b : Branch) (j k : ℕ) (cs : List (List Fact)) : Type 0 wher
 -- Document 01: "A step is proper when it fits its rule, as worded above, on the branch where it stands".
 unfoldable pub Instance : Question → Branch → Step → List (List Fact) → Type 0
 Instance u b (Sum d ts) cs = IsSum b d ts cs
-Instance u b (Split e) cs = cs ≡ splitChildren e
+Instance u b (BranchOn e) cs = cs ≡ branchChildren e
 Instance u b (Apart k) cs = IsApart b k cs
 Instance u b (AConf k) cs = IsAConf b k cs
 Instance u b SConf cs = IsSConf u b cs
 Instance u b (SProp f x y) cs = IsSProp u b f x y cs
-Instance u b (LIntro x) cs = IsLiteral u b len x cs
+Instance u b (LIntro x) cs = IsClassLiteral u b len x cs
 Instance u b (LValid x) cs = cs ≡ lValidChildren u x
-Instance u b (CCollapse x) cs = IsLiteral u b code x cs
+Instance u b (CCollapse x) cs = IsClassLiteral u b code x cs
 Instance u b (CValid x) cs = cs ≡ cValidChildren u x
 Instance u b (CInj x y) cs = IsCInj u x y cs
 Instance u b (Card []) cs = ⊥
@@ -194,7 +194,7 @@ Instance u b (Join j k) cs = IsJoin b j k cs
 -- multipliers' ranges and greatest counts are not in it; Card's 16 holds since its variables differ and p is at most 16
 unfoldable pub StepInRange : Question → Step → Type 0
 StepInRange u (Sum d ts) = (1 ≤ d) × (1 ≤ length ts)
-StepInRange u (Split e) = length e ≡ suc columnLimit
+StepInRange u (BranchOn e) = length e ≡ suc columnLimit
 StepInRange u (Apart k) = Unit {0}
 StepInRange u (AConf k) = Unit {0}
 StepInRange u SConf = Unit {0}

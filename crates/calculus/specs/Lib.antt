@@ -1,6 +1,6 @@
 pub mod Limits
 pub mod Alphabet
-pub mod Rows
+pub mod LinearForms
 pub mod Facts
 pub mod Chains
 pub mod Classes

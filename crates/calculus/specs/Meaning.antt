@@ -8,8 +8,8 @@ use lib.ListN.{length, getD}
 use lib.IntN.{ℤ}
 use Rattle.lists.specs.Lists.{All}
 use Rattle.calculus.specs.Alphabet.{Over}
-use Rattle.calculus.specs.Rows.{valueIn}
-use Rattle.calculus.specs.Facts.{Question, Fact, same, apart, isLiteral, arithmetic, Branch, Holds, literal, valueOf, len, code}
+use Rattle.calculus.specs.LinearForms.{valueIn}
+use Rattle.calculus.specs.Facts.{Question, Fact, same, notSame, isLiteral, arithmetic, Branch, Holds, literal, valueOf, len, code}
 
 pub record Assignment : Type 0 where
   pub strs : List (List ℕ)
@@ -33,7 +33,7 @@ value a e = valueIn (columns a) e
 
 abbrev pub Meets : Question → Assignment → Fact → Type 0
 Meets u a (same x y) = str a x ≡ str a y
-Meets u a (apart x y) = str a x ≢ str a y
+Meets u a (notSame x y) = str a x ≢ str a y
 Meets u a (isLiteral x l) = str a x ≡ literal u l
 Meets u a (arithmetic r e) = Holds r (value a e)
 

@@ -6,5 +6,5 @@ use lib.IntN.{ℤ, pos}
 use Rattle.calculus.specs.Facts.{Question, Function, columnOf}
 
 -- the model's value of f(x)
-abbrev pub modelOf : Question → List ℤ → Function → ℕ → ℤ
-modelOf u m f x = getD m (columnOf u f x) (pos 0)
+abbrev pub modelValue : Question → List ℤ → Function → ℕ → ℤ
+modelValue u m f x = getD m (columnOf u f x) (pos 0)

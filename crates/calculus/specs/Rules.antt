@@ -9,12 +9,12 @@ use lib.IntN.{ℤ, pos, negsuc}
 use lib.Signed.{nonNeg}
 use Rattle.lists.specs.Lists.{any}
 use Rattle.calculus.specs.Alphabet.{characterCount}
-use Rattle.calculus.specs.Rows.{plus, scale, minus, isZero, eqRow, allZero, floorDiv, divRow, column}
-use Rattle.calculus.specs.Facts.{holds, Fact, Branch, Question, ge, eq, ne, same, apart, isLiteral, arithmetic, len, code, columnOf, Function}
+use Rattle.calculus.specs.LinearForms.{plus, scale, minus, isZero, eqIntegers, allZero, floorDiv, floorDivAll, column}
+use Rattle.calculus.specs.Facts.{holds, Fact, Branch, Question, ge, eq, ne, same, notSame, isLiteral, arithmetic, len, code, columnOf, Function}
 use Rattle.calculus.specs.Chains.{varNode}
 use Rattle.calculus.specs.Classes.{labels, sameClass, classLiteral, conflict}
-use Rattle.calculus.specs.Children.{sumChild, splitChildren, apartChildren, sPropChild, literalChild, lValidChildren, cValidChildren, cInjChildren, pairs, boundChild, joinChild}
-use Rattle.calculus.specs.Steps.{Step, Sum, Split, Apart, AConf, SConf, SProp, LIntro, LValid, CCollapse, CValid, CInj, Card, Join}
+use Rattle.calculus.specs.Children.{sumChild, branchChildren, apartChildren, sPropChild, literalChild, lValidChildren, cValidChildren, cInjChildren, pairChildren, boundChild, joinChild}
+use Rattle.calculus.specs.Steps.{Step, Sum, BranchOn, Apart, AConf, SConf, SProp, LIntro, LValid, CCollapse, CValid, CInj, Card, Join}
 
 -- a where the test is passed
 abbrev pub guard : {A : Type 0} → Bool → A → Option A
@@ -29,7 +29,7 @@ then (some a) f = f a
 -- a fact as a summand with multiplier m: "at least 1 on a ≥ fact, nonzero on an equation; ≠ facts and string facts do not fit"
 abbrev pub summand : ℤ → Fact → Option (List ℤ)
 summand m (same x y) = none
-summand m (apart x y) = none
+summand m (notSame x y) = none
 summand m (isLiteral x l) = none
 summand m (arithmetic ge e) = guard (nonNeg m && not (isZero m)) (scale m e)
 summand m (arithmetic eq e) = guard (not (isZero m)) (scale m e)
@@ -42,46 +42,46 @@ sumOf b (t ∷ ts) = then (getElem? b (t .0)) (λ f. then (summand (t .1) f) (λ
 -- "Column sums must divide exactly; the constant is divided rounding down"
 abbrev pub divided : ℕ → List ℤ → Option (List ℤ)
 divided d [] = none
-divided d (c ∷ cs) = guard (leb 1 d && eqRow (scale (pos d) (divRow cs d)) cs) (floorDiv c d ∷ divRow cs d)
+divided d (c ∷ cs) = guard (leb 1 d && eqIntegers (scale (pos d) (floorDivAll cs d)) cs) (floorDiv c d ∷ floorDivAll cs d)
 
 -- Apart: "a fact e ≠ 0"
-abbrev pub parted : Fact → Option (List (List Fact))
-parted (same x y) = none
-parted (apart x y) = none
-parted (isLiteral x l) = none
-parted (arithmetic ge e) = none
-parted (arithmetic eq e) = none
-parted (arithmetic ne e) = some (apartChildren e)
+abbrev pub apartOf : Fact → Option (List (List Fact))
+apartOf (same x y) = none
+apartOf (notSame x y) = none
+apartOf (isLiteral x l) = none
+apartOf (arithmetic ge e) = none
+apartOf (arithmetic eq e) = none
+apartOf (arithmetic ne e) = some (apartChildren e)
 
 -- A-Conf: "an arithmetic fact without coefficients and false"
-abbrev pub falsum : Fact → Bool
-falsum (same x y) = false
-falsum (apart x y) = false
-falsum (isLiteral x l) = false
-falsum (arithmetic r []) = not (holds r (pos 0))
-falsum (arithmetic r (c ∷ cs)) = allZero cs && not (holds r c)
+abbrev pub isFalse : Fact → Bool
+isFalse (same x y) = false
+isFalse (notSame x y) = false
+isFalse (isLiteral x l) = false
+isFalse (arithmetic r []) = not (holds r (pos 0))
+isFalse (arithmetic r (c ∷ cs)) = allZero cs && not (holds r c)
 
 -- Join: two ≥ facts, one the negative of the other
-abbrev pub joined : Fact → Fact → Option (List (List Fact))
-joined (arithmetic ge e) (arithmetic ge g) = guard (eqRow (scale (negsuc 0) e) g) (joinChild e)
-joined (arithmetic ge e) (arithmetic eq g) = none
-joined (arithmetic ge e) (arithmetic ne g) = none
-joined (arithmetic ge e) (same x y) = none
-joined (arithmetic ge e) (apart x y) = none
-joined (arithmetic ge e) (isLiteral x y) = none
-joined (arithmetic eq e) g = none
-joined (arithmetic ne e) g = none
-joined (same x y) g = none
-joined (apart x y) g = none
-joined (isLiteral x y) g = none
+abbrev pub joinOf : Fact → Fact → Option (List (List Fact))
+joinOf (arithmetic ge e) (arithmetic ge g) = guard (eqIntegers (scale (negsuc 0) e) g) (joinChild e)
+joinOf (arithmetic ge e) (arithmetic eq g) = none
+joinOf (arithmetic ge e) (arithmetic ne g) = none
+joinOf (arithmetic ge e) (same x y) = none
+joinOf (arithmetic ge e) (notSame x y) = none
+joinOf (arithmetic ge e) (isLiteral x y) = none
+joinOf (arithmetic eq e) g = none
+joinOf (arithmetic ne e) g = none
+joinOf (same x y) g = none
+joinOf (notSame x y) g = none
+joinOf (isLiteral x y) g = none
 
 -- Card: a fact states that e = 0
 abbrev pub statesZero : List ℤ → Fact → Bool
 statesZero e (same x y) = false
-statesZero e (apart x y) = false
+statesZero e (notSame x y) = false
 statesZero e (isLiteral x l) = false
 statesZero e (arithmetic ge g) = false
-statesZero e (arithmetic eq g) = eqRow e g
+statesZero e (arithmetic eq g) = eqIntegers e g
 statesZero e (arithmetic ne g) = false
 
 -- a fact states that the difference of the columns i and j is 0, "coefficients 1 and −1 in either order"
@@ -97,27 +97,27 @@ abbrev pub neighbours : Question → Branch → ℕ → List ℕ → Bool
 neighbours u b x [] = true
 neighbours u b x (y ∷ ys) = sameLength u b x y && neighbours u b y ys
 
-abbrev pub elem : ℕ → List ℕ → Bool
-elem x ys = any (eqb x) ys
+abbrev pub among : ℕ → List ℕ → Bool
+among x ys = any (eqb x) ys
 
 abbrev pub distinct : List ℕ → Bool
 distinct [] = true
-distinct (x ∷ xs) = not (elem x xs) && distinct xs
+distinct (x ∷ xs) = not (among x xs) && distinct xs
 
 -- the smallest L from k on with n to the power L at least m, within fuel
-abbrev pub logUp : ℕ → ℕ → ℕ → ℕ → ℕ
-logUp zero n m k = k
-logUp (suc d) n m k = elim (leb m (n ^ k)) [ true ↦ k | false ↦ logUp d n m (suc k) ]
+abbrev pub leastPower : ℕ → ℕ → ℕ → ℕ → ℕ
+leastPower zero n m k = k
+leastPower (suc d) n m k = elim (leb m (n ^ k)) [ true ↦ k | false ↦ leastPower d n m (suc k) ]
 
 -- "with L the smallest number such that n to the power L is at least m. With n = 1 the last child is left out"
 abbrev pub lastChild : Question → ℕ → ℕ → List (List Fact)
-lastChild u x m = elim (leb (characterCount (u .n)) 1) [ true ↦ [] | false ↦ boundChild u x (logUp m (characterCount (u .n)) m 0) ]
+lastChild u x m = elim (leb (characterCount (u .n)) 1) [ true ↦ [] | false ↦ boundChild u x (leastPower m (characterCount (u .n)) m 0) ]
 
 abbrev pub cardChildren : Question → Branch → List ℕ → Option (List (List Fact))
 cardChildren u b [] = none
 cardChildren u b (x ∷ []) = none
 cardChildren u b (x ∷ y ∷ xs) =
-    guard (distinct (x ∷ y ∷ xs) && neighbours u b x (y ∷ xs)) (pairs (x ∷ y ∷ xs) (lastChild u x (length (x ∷ y ∷ xs))))
+    guard (distinct (x ∷ y ∷ xs) && neighbours u b x (y ∷ xs)) (pairChildren (x ∷ y ∷ xs) (lastChild u x (length (x ∷ y ∷ xs))))
 
 -- L-Intro and C-Collapse, by their function
 abbrev pub literalChildren : Question → Branch → Function → ℕ → Option (List (List Fact))
@@ -126,9 +126,9 @@ literalChildren u b f x = then (classLiteral u b x) (λ l. some (literalChild u 
 -- the children of a step on a branch; none where it does not fit; a closing rule has no child
 abbrev pub children : Question → Branch → Step → Option (List (List Fact))
 children u b (Sum d ts) = then (sumOf b ts) (λ r. then (divided d r) (λ e. some (sumChild e)))
-children u b (Split e) = some (splitChildren e)
-children u b (Apart k) = then (getElem? b k) parted
-children u b (AConf k) = then (getElem? b k) (λ f. guard (falsum f) [])
+children u b (BranchOn e) = some (branchChildren e)
+children u b (Apart k) = then (getElem? b k) apartOf
+children u b (AConf k) = then (getElem? b k) (λ f. guard (isFalse f) [])
 children u b SConf = guard (conflict u b) []
 children u b (SProp f x y) = guard (not (eqb x y) && sameClass (labels b) (varNode x) (varNode y)) (sPropChild u f x y)
 children u b (LIntro x) = literalChildren u b len x
@@ -137,4 +137,4 @@ children u b (CCollapse x) = literalChildren u b code x
 children u b (CValid x) = some (cValidChildren u x)
 children u b (CInj x y) = guard (not (eqb x y)) (cInjChildren u x y)
 children u b (Card xs) = cardChildren u b xs
-children u b (Join j k) = then (getElem? b j) (λ f. then (getElem? b k) (λ g. joined f g))
+children u b (Join j k) = then (getElem? b j) (λ f. then (getElem? b k) (λ g. joinOf f g))

@@ -8,17 +8,17 @@ use lib.IntN.{ℤ, pos}
 use lib.Signed.{_≤ℤ_}
 use Rattle.lists.specs.Lists.{All}
 use Rattle.calculus.specs.Limits.{lengthLimit}
-use Rattle.calculus.specs.Rows.{valueIn}
-use Rattle.calculus.specs.Facts.{Question, Fact, same, apart, isLiteral, arithmetic, Branch, Holds, OnArithmetic, len}
+use Rattle.calculus.specs.LinearForms.{valueIn}
+use Rattle.calculus.specs.Facts.{Question, Fact, same, notSame, isLiteral, arithmetic, Branch, Holds, OnArithmetic, len}
 use Rattle.calculus.specs.Chains.{OneClass, ClassHolds}
-use Rattle.calculus.specs.Steps.{Step, Sum, Split, Apart, AConf, SConf, SProp, LIntro, LValid, CCollapse, CValid, CInj, Card, Join}
+use Rattle.calculus.specs.Steps.{Step, Sum, BranchOn, Apart, AConf, SConf, SProp, LIntro, LValid, CCollapse, CValid, CInj, Card, Join}
 use Rattle.calculus.specs.Instances.{IsCard, Instance, StepInRange}
-use Rattle.calculus.specs.Model.{modelOf}
+use Rattle.calculus.specs.Model.{modelValue}
 
 -- "holds already: an arithmetic fact by the model's values, an ≈ by classes"; no child has a ≉ fact
 abbrev pub HoldsAlready : Branch → List ℤ → Fact → Type 0
 HoldsAlready b m (same x y) = OneClass b x y
-HoldsAlready b m (apart x y) = OneClass b x y → ⊥
+HoldsAlready b m (notSame x y) = OneClass b x y → ⊥
 HoldsAlready b m (isLiteral x l) = ClassHolds b x l
 HoldsAlready b m (arithmetic r e) = Holds r (valueIn m e)
 
@@ -31,12 +31,12 @@ pub record SomeChild (b : Branch) (m : List ℤ) (cs : List (List Fact)) : Type 
 
 -- "Card's premise is equal model lengths"
 abbrev pub LengthsEqual : Question → List ℤ → ℕ → List ℕ → Type 0
-LengthsEqual u m x xs = All (λ y. modelOf u m len y ≡ modelOf u m len x) xs
+LengthsEqual u m x xs = All (λ y. modelValue u m len y ≡ modelValue u m len x) xs
 
 -- the choices of operands "whose premise holds in rules 6 to 12", with their children; "S-Prop's and the others' are by classes"
 unfoldable pub LeafInstance : Question → Branch → List ℤ → Step → List (List Fact) → Type 0
 LeafInstance u b m (Sum d ts) cs = ⊥
-LeafInstance u b m (Split e) cs = ⊥
+LeafInstance u b m (BranchOn e) cs = ⊥
 LeafInstance u b m (Apart k) cs = ⊥
 LeafInstance u b m (AConf k) cs = ⊥
 LeafInstance u b m SConf cs = ⊥
@@ -62,7 +62,7 @@ MeetsArithmetic m f = OnArithmetic (λ r e. Holds r (valueIn m e)) f
 
 -- no "length passes 64"
 abbrev pub ShortLengths : Question → List ℤ → Type 0
-ShortLengths u m = (x : ℕ) → x < u .p → modelOf u m len x ≤ℤ pos lengthLimit
+ShortLengths u m = (x : ℕ) → x < u .p → modelValue u m len x ≤ℤ pos lengthLimit
 
 -- what demand 3 asks of a leaf and its model
 pub record AcceptedLeaf (u : Question) (b : Branch) (m : List ℤ) : Type 0 where

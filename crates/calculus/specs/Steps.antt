@@ -9,7 +9,7 @@ use Rattle.calculus.specs.Facts.{Function}
 -- the 13 rules with their operands; Split is document 01's rule Branch
 pub data Step : Type 0 where
   Sum : ℕ → List (ℕ × ℤ) → Step
-  Split : List ℤ → Step
+  BranchOn : List ℤ → Step
   Apart : ℕ → Step
   AConf : ℕ → Step
   SConf : Step
@@ -37,7 +37,7 @@ lastCount (suc (suc k)) = 1
 
 unfoldable pub shape : ℕ → Step → List ℕ
 shape n (Sum d ts) = 1 ∷ []
-shape n (Split e) = 1 ∷ 1 ∷ []
+shape n (BranchOn e) = 1 ∷ 1 ∷ []
 shape n (Apart k) = 1 ∷ 1 ∷ []
 shape n (AConf k) = []
 shape n SConf = []

@@ -8,11 +8,11 @@ use lib.Dec.{ltb, eqb}
 use lib.IntN.{ℤ, pos, natAbs}
 use Rattle.lists.specs.Lists.{any, eqList}
 use Rattle.calculus.specs.Alphabet.{characterCount, character}
-use Rattle.calculus.specs.Rows.{eqℤ}
+use Rattle.calculus.specs.LinearForms.{eqℤ}
 use Rattle.calculus.specs.Facts.{Question, Branch, len, code, literal}
 use Rattle.calculus.specs.Classes.{labels, classLiteral}
-use Rattle.calculus.specs.Model.{modelOf}
-use Rattle.calculus.specs.SaturationTest.{lowestVar}
+use Rattle.calculus.specs.Model.{modelValue}
+use Rattle.calculus.specs.SaturationTest.{lowestVariable}
 
 -- the k-th string of length l over n characters: "smallest .. by code points" is lexicographic
 abbrev pub word : ℕ → ℕ → ℕ → List ℕ
@@ -40,7 +40,7 @@ fixedBy u (some l) z c = some (literal u l)
 fixedBy u none z c = oneChar (eqℤ z (pos 1)) c
 
 abbrev pub fixedString : Question → Branch → List ℤ → ℕ → Option (List ℕ)
-fixedString u b m x = fixedBy u (classLiteral u b x) (modelOf u m len x) (modelOf u m code x)
+fixedString u b m x = fixedBy u (classLiteral u b x) (modelValue u m len x) (modelValue u m code x)
 
 -- what the first two rounds give to the first k variables
 abbrev pub fixedStrings : Question → Branch → List ℤ → ℕ → List (List ℕ)
@@ -53,9 +53,9 @@ abbrev pub stringOf : Question → Branch → List ℤ → ℕ → List (List �
 stringOf u b m x done = elim (fixedString u b m x) [
   | some s ↦ s
   | none ↦
-      elim (ltb (lowestVar (labels b) x) x) [
-        | true ↦ getD done (lowestVar (labels b) x) []
-        | false ↦ freshFrom (u .p) (u .n) (natAbs (modelOf u m len x)) (fixedStrings u b m (u .p) ++ done) 0
+      elim (ltb (lowestVariable (labels b) x) x) [
+        | true ↦ getD done (lowestVariable (labels b) x) []
+        | false ↦ freshFrom (u .p) (u .n) (natAbs (modelValue u m len x)) (fixedStrings u b m (u .p) ++ done) 0
       ]
 ]
 

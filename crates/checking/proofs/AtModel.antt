@@ -8,7 +8,7 @@ use Rattle.calculus.specs.Facts.{Question, Fact, Branch}
 use Rattle.format.specs.Records.{kind, size, next}
 use Rattle.format.specs.Reading.{taking, modelled, modelAt, modelFault, Ticket, Faulty, Done, stepsOn}
 use Rattle.format.specs.Checking.{checker, leafFault}
-use Rattle.claims.specs.Numbers.{endNumber}
+use Rattle.claims.specs.Numbers.{endFault}
 use Rattle.claims.proofs.Ends.{model-refused, model-taken, modelled-refused, modelled-done}
 use Rattle.checking.proofs.Outcomes.{nonzero}
 
@@ -26,8 +26,8 @@ module _ (b : List ℕ) (u : Question) (br : Branch) (r at m : ℕ) (em : m ≡ 
     onward : fromHere ≡ stepsOn (checker u) b u (modelled br (modelAt b u (at + 6))) (suc r) (at + 6 + m)
     onward = model-taken b u br r at k h (sym (ap numberOf em) ∙ e) ∙ ap (λ x. stepsOn (checker u) b u (modelled br (modelAt b u (at + 6))) (suc r) (at + 6 + x)) (sym em)
 
-    pub unended : (c : ℕ) → c ≡ endNumber b (at + 6 + m) → (c ≡ 0 → ⊥) → fromHere ≡ Faulty c (r + 1)
+    pub unended : (c : ℕ) → c ≡ endFault b (at + 6 + m) → (c ≡ 0 → ⊥) → fromHere ≡ Faulty c (r + 1)
     unended c f n = onward ∙ nonzero (modelled-refused b u (suc r) (at + 6 + m) br (modelAt b u (at + 6))) c f n ∙ ap (Faulty c) (sym (add-one r))
 
-    pub ended : endNumber b (at + 6 + m) ≡ 0 → fromHere ≡ Done u (modelled br (modelAt b u (at + 6)))
+    pub ended : endFault b (at + 6 + m) ≡ 0 → fromHere ≡ Done u (modelled br (modelAt b u (at + 6)))
     ended f = onward ∙ modelled-done b u (suc r) (at + 6 + m) br (modelAt b u (at + 6)) f

@@ -18,8 +18,8 @@ use Rattle.calculus.specs.Walk.{working, closed}
 use Rattle.format.specs.Fields.{u16, allWithin}
 use Rattle.format.specs.Records.{need, kind, next, whole, records, size}
 use Rattle.format.specs.Question as question
-use Rattle.format.specs.Question.{Progress, Reading, Stopped, Ended, fresh, headRange, textOf, stringRange, formRange}
-use Rattle.format.specs.StepForms.{rule, child, lengthFits, operandsInRange, stepAt, childInRange}
+use Rattle.format.specs.Question.{Progress, Reading, Stopped, Ended, unread, headRange, textOf, stringRange, formRange}
+use Rattle.format.specs.StepForms.{rule, childField, lengthFits, operandsInRange, stepAt, childInRange}
 use Rattle.format.specs.Reading.{State, proving, taking, modelled, Ticket, Faulty, Done, fault, advanced, readSteps, claimFault, claimAt, begin, bodyFault, lastFault, stepFault, modelAt, modelFault, readBehind, stepsOn}
 use Rattle.format.specs.Checking as format
 use Rattle.format.specs.Checking.{checker, outcomeOf, fits, orNone, factsWithin, childrenWithin, room, roomForAll, roomToPend, allTried, takenTried, keeps, shortLengths, leafFault, complete, takenFacts}
@@ -58,7 +58,7 @@ module _ (b : List ℕ) where
   formed : (x y : Bool) → Other (need 5 x (need 6 y 0))
   formed x y = then 3 x (then 4 y zero-other)
 
-  body-other : (u : Question) (k at m : ℕ) → Other (question.bodyFault b u k at m)
+  body-other : (u : Question) (k at m : ℕ) → Other (question.questionBodyFault b u k at m)
   body-other u k at m =
       pick-other (eqb k 1) _ _ (formed (eqb m 8) (headRange b at))
       (pick-other (eqb k 2) _ _ (then 3 (leb 4 m && (leb m (4 * lengthLimit) && eqb (m % 4) 0)) (then 4 (allCharacters (u .n) (textOf b at m)) (then 5 (not (given (textOf b at m) (u .literals))) zero-other)))
@@ -69,19 +69,19 @@ module _ (b : List ℕ) where
   crowded-other zero x p = then 8 x zero-other
   crowded-other (suc c) x p = p
 
-  question-other : (s : Progress) (at : ℕ) → Other (question.fault b s at)
-  unfolding question.fault question.formFault
+  question-other : (s : Progress) (at : ℕ) → Other (question.questionFault b s at)
+  unfolding question.questionFault question.formFault
   question-other s at =
       crowded-other (question.formFault b s at) (question.roomFor (s .question) (kind b at))
       (then 1 (whole b at) (then 2 (question.inPlace s (kind b at)) (body-other (s .question) (kind b at) (at + 6) (size b at))))
 
-  from-other : (ats : List ℕ) (s : Progress) (r : ℕ) → ReadingOther (question.readFrom question.fault b s r ats)
+  from-other : (ats : List ℕ) (s : Progress) (r : ℕ) → ReadingOther (question.readFrom question.questionFault b s r ats)
   unfolding question.readFrom
   from-other [] s r = number 1
-  from-other (at ∷ ats) s r = go (question.ending (kind b at)) (question.fault b s at) (question-other s at) (from-other ats (question.advanced b s at) (suc r))
+  from-other (at ∷ ats) s r = go (question.ending (kind b at)) (question.questionFault b s at) (question-other s at) (from-other ats (question.questionAdvanced b s at) (suc r))
     where
-      go : (x : Bool) (f : ℕ) → Other f → ReadingOther (question.readFrom question.fault b (question.advanced b s at) (suc r) ats)
-          → ReadingOther (elim x as (λ _. Reading) [ true ↦ Ended s at r | false ↦ elim f as (λ _. Reading) [ zero ↦ question.readFrom question.fault b (question.advanced b s at) (suc r) ats | suc c ↦ Stopped (suc c) r ] ])
+      go : (x : Bool) (f : ℕ) → Other f → ReadingOther (question.readFrom question.questionFault b (question.questionAdvanced b s at) (suc r) ats)
+          → ReadingOther (elim x as (λ _. Reading) [ true ↦ Ended s at r | false ↦ elim f as (λ _. Reading) [ zero ↦ question.readFrom question.questionFault b (question.questionAdvanced b s at) (suc r) ats | suc c ↦ Stopped (suc c) r ] ])
       go true f p q = tt
       go false zero p q = q
       go false (suc c) p q = p
@@ -90,9 +90,9 @@ module _ (b : List ℕ) where
   unfolding question.readBy
   reading-other = go (leb (length b) ticketBytes)
     where
-      go : (x : Bool) → ReadingOther (elim x as (λ _. Reading) [ false ↦ Stopped 2 0 | true ↦ question.readOn question.fault b fresh 0 0 ])
+      go : (x : Bool) → ReadingOther (elim x as (λ _. Reading) [ false ↦ Stopped 2 0 | true ↦ question.readOn question.questionFault b unread 0 0 ])
       go false = number 0
-      go true = from-other (records b 0) fresh 0
+      go true = from-other (records b 0) unread 0
 
 -- ---- the records behind the claim
 
@@ -121,11 +121,11 @@ module _ (b : List ℕ) (u : Question) where
 
   behind-other : (s : State Branch (List Fact)) (k at m : ℕ) → Other (bodyFault (checker u) b u s k at m)
   behind-other (proving (working br ss)) k at m =
-      then 2 (eqb k 6) (step-other (eqb (child b at) 0) (allTried br (length ss) (children u br (stepAt b at m))) at m (tried-other br (length ss) (children u br (stepAt b at m))))
+      then 2 (eqb k 6) (step-other (eqb (childField b at) 0) (allTried br (length ss) (children u br (stepAt b at m))) at m (tried-other br (length ss) (children u br (stepAt b at m))))
   behind-other (proving closed) k at m = number 2
   behind-other (taking br) k at m =
       pick-other (eqb k 6) _ _
-      (step-other (childInRange (u .n) (stepAt b at m) (child b at)) (takenTried br (takenFacts u br (stepAt b at m) (child b at))) at m (taken-other br (takenFacts u br (stepAt b at m) (child b at))))
+      (step-other (childInRange (u .n) (stepAt b at m) (childField b at)) (takenTried br (takenFacts u br (stepAt b at m) (childField b at))) at m (taken-other br (takenFacts u br (stepAt b at m) (childField b at))))
       (then 2 (eqb k 7) (model-other (leafFault u br (modelAt b u at)) at m (leaf-other br (modelAt b u at))))
   behind-other (modelled br v) k at m = number 2
 

@@ -13,7 +13,7 @@ use Rattle.format.specs.Question.{question}
 use Rattle.format.specs.Answer.{encode}
 use Rattle.format.specs.Reading.{proving, modelled, Ticket, Faulty, Done, readBehind}
 use Rattle.format.specs.Checking as format
-use Rattle.format.specs.Checking.{checker, outcomeOf, answerOf, large, verdict}
+use Rattle.format.specs.Checking.{checker, outcomeOf, answerOf, largeEnough, verdict}
 use Rattle.format.specs.Demands.{workAfter}
 use Rattle.checking.specs.declared.Outcome.{Outcome}
 use Rattle.checking.specs.declared.Outcome.the-variants.{Refused, NoSolution, Strings}
@@ -53,12 +53,12 @@ module _ (b : List ℕ) (w : List ℤ) (a : List ℕ) where
   abbrev bySize : Bool → format.Outcome
   bySize x = elim x as (λ _. format.Outcome) [ false ↦ format.Refused 1 0 | true ↦ outcomeOf (readBehind checker b (question b)) ]
 
-  sized : {x : Bool} → large (length w) (length a) ≡ x → verdict (length w) (length a) b ≡ bySize x
+  sized : {x : Bool} → largeEnough (length w) (length a) ≡ x → verdict (length w) (length a) b ≡ bySize x
   unfolding verdict
   sized e = ap bySize e
 
   -- "1 when the work area has under 6,400 numbers or the answer buffer under 4,268 bytes"
-  small : large (length w) (length a) ≡ false → Promised b w w a a (Refused 1 0)
+  small : largeEnough (length w) (length a) ≡ false → Promised b w w a a (Refused 1 0)
   unfolding told
   small e = record {
     outcome = format.Refused 1 0;

@@ -13,7 +13,7 @@ use Rattle.calculus.specs.Facts.{Fact, Branch}
 use Rattle.calculus.specs.Walk.{working}
 use Rattle.format.specs.Records.{kind, size, next}
 use Rattle.format.specs.Question as format
-use Rattle.format.specs.Question.{fault, fresh, ending, readOn, question, advanced}
+use Rattle.format.specs.Question.{questionFault, unread, ending, readOn, question, questionAdvanced}
 use Rattle.format.specs.Reading.{State, proving, taking, Ticket, claimFault, claimAt, begin, readClaim, stepsOn}
 use Rattle.format.specs.Checking.{checker}
 use Rattle.format.proofs.Faults.{none-applies, and-true, clash}
@@ -28,22 +28,22 @@ use Rattle.question.proofs.Standing.{question-stands, question-short}
 -- ---- the question
 
 -- each record takes six bytes at least
-numbered : (d : ℕ) (b : List ℕ) (s t : format.Progress) (r at to q : ℕ) → length b ≤ at + d → r ≤ at → readOn fault b s r at ≡ format.Ended t to q → q ≤ to
-numbered zero b s t r at to q l h e = let g = read-none fault b s r at (omega arith) in clash cc
+numbered : (d : ℕ) (b : List ℕ) (s t : format.Progress) (r at to q : ℕ) → length b ≤ at + d → r ≤ at → readOn questionFault b s r at ≡ format.Ended t to q → q ≤ to
+numbered zero b s t r at to q l h e = let g = read-none questionFault b s r at (omega arith) in clash cc
 numbered (suc d) b s t r at to q l h e =
-    go (leb (at + 6) (length b)) (ending (kind b at)) (fault b s at) refl refl refl
-    (numbered d b (advanced b s at) t (suc r) (next b at) to q (omega arith) (omega arith))
+    go (leb (at + 6) (length b)) (ending (kind b at)) (questionFault b s at) refl refl refl
+    (numbered d b (questionAdvanced b s at) t (suc r) (next b at) to q (omega arith) (omega arith))
   where
-    go : (x y : Bool) (f : ℕ) → leb (at + 6) (length b) ≡ x → ending (kind b at) ≡ y → fault b s at ≡ f
-        → (readOn fault b (advanced b s at) (suc r) (next b at) ≡ format.Ended t to q → q ≤ to) → q ≤ to
-    go false y f ex ey ef later = let g = read-none fault b s r at (leb-false _ _ ex) in clash cc
+    go : (x y : Bool) (f : ℕ) → leb (at + 6) (length b) ≡ x → ending (kind b at) ≡ y → questionFault b s at ≡ f
+        → (readOn questionFault b (questionAdvanced b s at) (suc r) (next b at) ≡ format.Ended t to q → q ≤ to) → q ≤ to
+    go false y f ex ey ef later = let g = read-none questionFault b s r at (leb-false _ _ ex) in clash cc
     go true true f ex ey ef later =
-        let g = read-ended fault b s r at (leb-true _ _ ex) ey in
+        let g = read-ended questionFault b s r at (leb-true _ _ ex) ey in
         let here : at ≡ to = cc in
         let number : r ≡ q = cc in
         omega arith
-    go true false (suc f) ex ey ef later = let g = read-stopped fault b s r at f (leb-true _ _ ex) ey ef in clash cc
-    go true false zero ex ey ef later = later (sym (read-more fault b s r at (leb-true _ _ ex) ey ef) ∙ e)
+    go true false (suc f) ex ey ef later = let g = read-stopped questionFault b s r at f (leb-true _ _ ex) ey ef in clash cc
+    go true false zero ex ey ef later = later (sym (read-more questionFault b s r at (leb-true _ _ ex) ey ef) ∙ e)
 
 -- what holds where reading ended
 pub record Read (b : List ℕ) (s : Progress) (at r : ℕ) : Type 0 where
@@ -60,7 +60,7 @@ read-question b s at r e =
       stands = stands;
       headed = headed;
       short = short;
-      few = numbered (length b) b fresh (progressOf b s) 0 0 at r (omega arith) (omega arith) (sym (read-begin fault b short) ∙ e);
+      few = numbered (length b) b unread (progressOf b s) 0 0 at r (omega arith) (omega arith) (sym (read-begin questionFault b short) ∙ e);
     }
 
 -- ---- the claim

@@ -19,7 +19,7 @@ ghost use Rattle.checking.specs.Outcomes.{outcomeFrom, Decided, Promised
 use claims::Followed;
 use claims::Walked;
 use claims::claim_fault;
-use claims::end_number;
+use claims::end_fault;
 use claims::follow;
 use claims::walk;
 use constraints::load;
@@ -51,7 +51,7 @@ fn prove(ticket: &[u8], s: Progress, at: usize, r: usize, work: &mut [i64]) -> O
     match walk(ticket, s, at, r, work) {
         Walked::Refused(c, k) => Outcome::Refused(c, k),
         Walked::Closed(to, k) => {
-            let c = end_number(ticket, to);
+            let c = end_fault(ticket, to);
             if c != 0 {
                 return Outcome::Refused(c, k);
             }
@@ -81,7 +81,7 @@ fn at_model(
     if f != 0 {
         return Outcome::Refused(f, r);
     }
-    let c = end_number(ticket, at + 6 + size);
+    let c = end_fault(ticket, at + 6 + size);
     if c != 0 {
         return Outcome::Refused(c, r + 1);
     }

@@ -15,7 +15,7 @@ use Rattle.format.specs.Reading.{State, proving, taking, modelled, modelAt, mod
 use Rattle.format.specs.Checking.{leafFault, checker}
 use Rattle.format.proofs.Faults.{none-applies}
 use Rattle.format.proofs.StepTurns.{steps-none, steps-faulty, steps-done, steps-more}
-use Rattle.claims.specs.Numbers.{endNumber}
+use Rattle.claims.specs.Numbers.{endFault}
 
 -- ---- the model's record, whole
 
@@ -48,9 +48,9 @@ must-end true last = refl
 must-end false last = refl
 
 -- a state with nothing left to read but the end
-module _ (b : List ℕ) (u : Question) (st : State Branch (List Fact)) (r at : ℕ) (same : fault (checker u) b u st at ≡ endNumber b at) where
-  end-refused : (c : ℕ) → endNumber b at ≡ suc c → stepsOn (checker u) b u st r at ≡ Faulty (suc c) r
-  unfolding endNumber
+module _ (b : List ℕ) (u : Question) (st : State Branch (List Fact)) (r at : ℕ) (same : fault (checker u) b u st at ≡ endFault b at) where
+  end-refused : (c : ℕ) → endFault b at ≡ suc c → stepsOn (checker u) b u st r at ≡ Faulty (suc c) r
+  unfolding endFault
   end-refused c e = go (leb (at + 6) (length b)) refl
     where
       go : (t : Bool) → leb (at + 6) (length b) ≡ t → stepsOn (checker u) b u st r at ≡ Faulty (suc c) r
@@ -60,32 +60,32 @@ module _ (b : List ℕ) (u : Question) (st : State Branch (List Fact)) (r at : �
           let three : 3 ≡ suc c = sym (rw (lt-leb (next b at) (length b) (omega arith))) ∙ e in
           steps-none (checker u) b u st r at short ∙ ap (λ n. Faulty n r) three
 
-  end-done : endNumber b at ≡ 0 → stepsOn (checker u) b u st r at ≡ Done u st
-  unfolding endNumber
+  end-done : endFault b at ≡ 0 → stepsOn (checker u) b u st r at ≡ Done u st
+  unfolding endFault
   end-done e =
       let a3 = none-applies 2 (whole b at) (need 4 (eqb (kind b at) 8) (endForm (length b) (next b at) (size b at) 0)) e in
       let h : next b at ≤ length b = leb-true _ _ (a3 .0) in
       steps-done (checker u) b u st r at (omega arith) (same ∙ e) (none-applies 3 (eqb (kind b at) 8) _ (a3 .1) .0)
 
 module _ (b : List ℕ) (u : Question) (r at : ℕ) where
-  at-end-closed : fault (checker u) b u (proving closed) at ≡ endNumber b at
-  unfolding fault endNumber
+  at-end-closed : fault (checker u) b u (proving closed) at ≡ endFault b at
+  unfolding fault endFault
   at-end-closed = ap (need 3 (whole b at)) (must-end (eqb (kind b at) 8) _)
 
-  at-end-modelled : (br : Branch) (m : List ℤ) → fault (checker u) b u (modelled br m) at ≡ endNumber b at
-  unfolding fault endNumber
+  at-end-modelled : (br : Branch) (m : List ℤ) → fault (checker u) b u (modelled br m) at ≡ endFault b at
+  unfolding fault endFault
   at-end-modelled br m = ap (need 3 (whole b at)) (must-end (eqb (kind b at) 8) _)
 
   -- claim 1: every branch is closed
-  pub closed-refused : (c : ℕ) → endNumber b at ≡ suc c → stepsOn (checker u) b u (proving closed) r at ≡ Faulty (suc c) r
+  pub closed-refused : (c : ℕ) → endFault b at ≡ suc c → stepsOn (checker u) b u (proving closed) r at ≡ Faulty (suc c) r
   closed-refused c e = end-refused b u (proving closed) r at at-end-closed c e
 
-  pub closed-done : endNumber b at ≡ 0 → stepsOn (checker u) b u (proving closed) r at ≡ Done u (proving closed)
+  pub closed-done : endFault b at ≡ 0 → stepsOn (checker u) b u (proving closed) r at ≡ Done u (proving closed)
   closed-done e = end-done b u (proving closed) r at at-end-closed e
 
   -- claim 2: behind the model
-  pub modelled-refused : (br : Branch) (m : List ℤ) (c : ℕ) → endNumber b at ≡ suc c → stepsOn (checker u) b u (modelled br m) r at ≡ Faulty (suc c) r
+  pub modelled-refused : (br : Branch) (m : List ℤ) (c : ℕ) → endFault b at ≡ suc c → stepsOn (checker u) b u (modelled br m) r at ≡ Faulty (suc c) r
   modelled-refused br m c e = end-refused b u (modelled br m) r at (at-end-modelled br m) c e
 
-  pub modelled-done : (br : Branch) (m : List ℤ) → endNumber b at ≡ 0 → stepsOn (checker u) b u (modelled br m) r at ≡ Done u (modelled br m)
+  pub modelled-done : (br : Branch) (m : List ℤ) → endFault b at ≡ 0 → stepsOn (checker u) b u (modelled br m) r at ≡ Done u (modelled br m)
   modelled-done br m e = end-done b u (modelled br m) r at (at-end-modelled br m) e

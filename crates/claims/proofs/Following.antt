@@ -8,7 +8,7 @@ use lib.ListN.{length}
 use lib.IntN.{ℤ}
 use Rattle.calculus.specs.Facts.{Fact, Branch}
 use Rattle.format.specs.Records.{size, kind, next}
-use Rattle.format.specs.StepForms.{child}
+use Rattle.format.specs.StepForms.{childField}
 use Rattle.format.specs.Reading.{taking, fault, Ticket, stepsOn}
 use Rattle.format.specs.Checking.{checker}
 use Rattle.rows.specs.Rows.{branchOf}
@@ -61,14 +61,14 @@ module _ (b : List ℕ) (s : Progress) where
       going-refused f e z v = sym (turn-faulty b (asked b s) k i (all-there b i j m r) (taking br) f e z) ∙ g .rest
 
       pub going-taken : (f : ℕ) → f ≡ itsFault → f ≡ 0 → (j ≡ 7 → ⊥) → (v : List ℤ) (more : ℕ) → length v ≡ length w
-          → branchOf v more ≡ br ++ offeredChild b (asked b s) br (i + 6) m (child b (i + 6)) → Fine v more → Going n outcome v more (i + 6 + m) (k + 1)
+          → branchOf v more ≡ br ++ offeredChild b (asked b s) br (i + 6) m (childField b (i + 6)) → Fine v more → Going n outcome v more (i + 6 + m) (k + 1)
       going-taken f e z k7 v more same added fine = record {
         kept = same ∙ g .kept;
         low = omega (arith, g .low);
         fine = fine;
         rest =
             ap₂ (λ (l : Branch) (z : ℕ). left l z (i + 6 + m)) added (add-one k)
-            ∙ ap (λ l. left (br ++ offeredChild b (asked b s) br (i + 6) l (child b (i + 6))) (suc k) (i + 6 + l)) (r .1)
+            ∙ ap (λ l. left (br ++ offeredChild b (asked b s) br (i + 6) l (childField b (i + 6))) (suc k) (i + 6 + l)) (r .1)
             ∙ sym (turn-taken b (asked b s) k i (all-there b i j m r) br (λ q. k7 (r .0 ∙ q)) (sym e ∙ z))
             ∙ g .rest;
       }

@@ -10,13 +10,13 @@ use borrow.Author.Tests.{le-leb, ne-eqb, eqb-true}
 use Rattle.calculus.specs.Facts.{Question, Fact, Branch}
 use Rattle.calculus.specs.Walk.{Waiting, working}
 use Rattle.format.specs.Records.{size, kind, next, need}
-use Rattle.format.specs.StepForms.{child, stepAt, childInRange}
+use Rattle.format.specs.StepForms.{childField, stepAt, childInRange}
 use Rattle.format.specs.Reading.{proving, taking, stepFault, fault, endForm}
-use Rattle.format.specs.Checking.{nth, allTried, takenTried, checker}
+use Rattle.format.specs.Checking.{childIn, allTried, takenTried, checker}
 use Rattle.steps.specs.Offered.{offered}
 use Rattle.steps.proofs.Faults.{applies, neither-applies}
 use Rattle.derivation.specs.State.{offeredIn}
-use Rattle.claims.specs.Numbers.{openNumber}
+use Rattle.claims.specs.Numbers.{openFault}
 
 -- ---- where a branch is open
 
@@ -32,7 +32,7 @@ end-some true false e = omega arith
 end-some false y e = omega arith
 
 -- no number: a step
-pub open-step : (n to k m step : ℕ) → openNumber n to k m step ≡ 0 → k ≡ 6
+pub open-step : (n to k m step : ℕ) → openFault n to k m step ≡ 0 → k ≡ 6
 open-step n to k m step e = go (eqb k 8) (eqb k 6) refl e
   where
     go : (x y : Bool) → eqb k 6 ≡ y → cond x (endForm n to m 11) (need 4 y step) ≡ 0 → k ≡ 6
@@ -40,7 +40,7 @@ open-step n to k m step e = go (eqb k 8) (eqb k 6) refl e
     go false true h e = eqb-true k 6 h
     go false false h e = absurd (omega arith)
 
-at-step : (n to k m step : ℕ) → k ≡ 6 → openNumber n to k m step ≡ step
+at-step : (n to k m step : ℕ) → k ≡ 6 → openFault n to k m step ≡ step
 at-step n to k m step e = rw e
 
 -- ---- claim 1, at a whole record
@@ -50,9 +50,9 @@ module _ (b : List ℕ) (u : Question) (br : Branch) (ss : List (Waiting Branch 
   walkFault = fault (checker u) b u (proving (working br ss)) at
 
   abbrev formOne : ℕ → ℕ
-  formOne later = stepFault b u (eqb (child b (at + 6)) 0) later (at + 6) (size b at)
+  formOne later = stepFault b u (eqb (childField b (at + 6)) 0) later (at + 6) (size b at)
 
-  walk-fault : walkFault ≡ openNumber (length b) (next b at) (kind b at) (size b at) (formOne (allTried br (length ss) (offeredIn b u br at)))
+  walk-fault : walkFault ≡ openFault (length b) (next b at) (kind b at) (size b at) (formOne (allTried br (length ss) (offeredIn b u br at)))
   unfolding fault offered
   walk-fault = rw (le-leb (next b at) (length b) h)
 
@@ -60,7 +60,7 @@ module _ (b : List ℕ) (u : Question) (br : Branch) (ss : List (Waiting Branch 
   pub walk-kind : walkFault ≡ 0 → kind b at ≡ 6
   walk-kind e = open-step (length b) (next b at) (kind b at) (size b at) _ (sym walk-fault ∙ e)
 
-  pub walk-place : (f : ℕ) → f ≡ openNumber (length b) (next b at) (kind b at) (size b at) 0 → (f ≡ 0 → ⊥) → f ≡ walkFault
+  pub walk-place : (f : ℕ) → f ≡ openFault (length b) (next b at) (kind b at) (size b at) 0 → (f ≡ 0 → ⊥) → f ≡ walkFault
   walk-place f e n = open-other (eqb (kind b at) 8) (eqb (kind b at) 6) f _ _ e n ∙ sym walk-fault
 
   module _ (k : kind b at ≡ 6) where
@@ -68,10 +68,10 @@ module _ (b : List ℕ) (u : Question) (br : Branch) (ss : List (Waiting Branch 
     walk-formed = walk-fault ∙ at-step (length b) (next b at) (kind b at) (size b at) _ k
 
     pub walk-form : (f : ℕ) → f ≡ formOne 0 → (f ≡ 0 → ⊥) → f ≡ walkFault
-    walk-form f e n = applies b u (eqb (child b (at + 6)) 0) (at + 6) (size b at) f _ e n ∙ sym walk-formed
+    walk-form f e n = applies b u (eqb (childField b (at + 6)) 0) (at + 6) (size b at) f _ e n ∙ sym walk-formed
 
     pub walk-step : 0 ≡ formOne 0 → allTried br (length ss) (offeredIn b u br at) ≡ walkFault
-    walk-step e = neither-applies b u (eqb (child b (at + 6)) 0) (at + 6) (size b at) _ e ∙ sym walk-formed
+    walk-step e = neither-applies b u (eqb (childField b (at + 6)) 0) (at + 6) (size b at) _ e ∙ sym walk-formed
 
 -- ---- claim 2, at a whole record that is no model
 
@@ -80,19 +80,19 @@ module _ (b : List ℕ) (u : Question) (br : Branch) (at : ℕ) (h : next b at �
   pathFault = fault (checker u) b u (taking br) at
 
   abbrev itsChild : Bool
-  itsChild = childInRange (u .n) (stepAt b (at + 6) (size b at)) (child b (at + 6))
+  itsChild = childInRange (u .n) (stepAt b (at + 6) (size b at)) (childField b (at + 6))
 
   abbrev formTwo : ℕ → ℕ
   formTwo later = stepFault b u itsChild later (at + 6) (size b at)
 
   abbrev tried : ℕ
-  tried = takenTried br (nth (offered b u br (at + 6) (size b at)) (child b (at + 6)))
+  tried = takenTried br (childIn (offered b u br (at + 6) (size b at)) (childField b (at + 6)))
 
   no-model : (y : Bool) (step later : ℕ) → cond y step (need 4 false later) ≡ need 4 y step
   no-model true step later = refl
   no-model false step later = refl
 
-  path-fault : pathFault ≡ openNumber (length b) (next b at) (kind b at) (size b at) (formTwo tried)
+  path-fault : pathFault ≡ openFault (length b) (next b at) (kind b at) (size b at) (formTwo tried)
   unfolding fault offered
   path-fault = rw (le-leb (next b at) (length b) h, ne-eqb (kind b at) 7 k7) (ap (λ f. cond (eqb (kind b at) 8) (endForm (length b) (next b at) (size b at) 11) f) (no-model (eqb (kind b at) 6) _ 0))
 
@@ -100,7 +100,7 @@ module _ (b : List ℕ) (u : Question) (br : Branch) (at : ℕ) (h : next b at �
   pub path-kind : pathFault ≡ 0 → kind b at ≡ 6
   path-kind e = open-step (length b) (next b at) (kind b at) (size b at) _ (sym path-fault ∙ e)
 
-  pub path-place : (f : ℕ) → f ≡ openNumber (length b) (next b at) (kind b at) (size b at) 0 → (f ≡ 0 → ⊥) → f ≡ pathFault
+  pub path-place : (f : ℕ) → f ≡ openFault (length b) (next b at) (kind b at) (size b at) 0 → (f ≡ 0 → ⊥) → f ≡ pathFault
   path-place f e n = open-other (eqb (kind b at) 8) (eqb (kind b at) 6) f _ _ e n ∙ sym path-fault
 
   module _ (k : kind b at ≡ 6) where

@@ -8,23 +8,23 @@ use lib.Dec.{eqb}
 use Rattle.calculus.specs.Facts.{Question, Fact, Branch}
 use Rattle.calculus.specs.Walk.{Waiting, working}
 use Rattle.format.specs.Records.{size, kind}
-use Rattle.format.specs.StepForms.{child, stepAt, childInRange}
+use Rattle.format.specs.StepForms.{childField, stepAt, childInRange}
 use Rattle.format.specs.Reading.{proving, taking, stepFault, fault}
-use Rattle.format.specs.Checking.{nth, allTried, takenTried, checker}
+use Rattle.format.specs.Checking.{childIn, allTried, takenTried, checker}
 use Rattle.steps.specs.Forms.{Formed}
 use Rattle.steps.specs.Offered.{offered}
 use Rattle.steps.proofs.Faults.{formed, child-passed}
 use Rattle.derivation.specs.State.{offeredIn}
-use Rattle.claims.specs.Numbers.{openNumber}
+use Rattle.claims.specs.Numbers.{openFault}
 use Rattle.claims.proofs.Found.{all-there}
 use Rattle.claims.proofs.Numbers.{open-step, walk-place, walk-form, walk-step, path-place, path-form, path-step}
 
 module _ (b : List ℕ) (u : Question) (at k m : ℕ) (w : (k ≡ kind b at) × (m ≡ size b at) × (at + 6 + m ≤ length b)) where
   abbrev placeOf : ℕ
-  placeOf = openNumber (length b) (at + 6 + m) k m 0
+  placeOf = openFault (length b) (at + 6 + m) k m 0
 
-  by-record : placeOf ≡ openNumber (length b) (at + 6 + size b at) (kind b at) (size b at) 0
-  by-record = ap₂ (λ j n. openNumber (length b) (at + 6 + n) j n 0) (w .0) (w .1)
+  by-record : placeOf ≡ openFault (length b) (at + 6 + size b at) (kind b at) (size b at) 0
+  by-record = ap₂ (λ j n. openFault (length b) (at + 6 + n) j n 0) (w .0) (w .1)
 
   is-step : 0 ≡ placeOf → kind b at ≡ 6
   is-step e = sym (w .0) ∙ open-step (length b) (at + 6 + m) k m 0 (sym e)
@@ -37,10 +37,10 @@ module _ (b : List ℕ) (u : Question) (at k m : ℕ) (w : (k ≡ kind b at) × 
   -- ---- claim 1
 
   abbrev formOne : ℕ
-  formOne = stepFault b u (eqb (child b (at + 6)) 0) 0 (at + 6) m
+  formOne = stepFault b u (eqb (childField b (at + 6)) 0) 0 (at + 6) m
 
-  one-same : formOne ≡ stepFault b u (eqb (child b (at + 6)) 0) 0 (at + 6) (size b at)
-  one-same = ap (stepFault b u (eqb (child b (at + 6)) 0) 0 (at + 6)) (w .1)
+  one-same : formOne ≡ stepFault b u (eqb (childField b (at + 6)) 0) 0 (at + 6) (size b at)
+  one-same = ap (stepFault b u (eqb (childField b (at + 6)) 0) 0 (at + 6)) (w .1)
 
   module _ (br : Branch) (ss : List (Waiting Branch (List Fact))) where
     abbrev walkFault : ℕ
@@ -58,13 +58,13 @@ module _ (b : List ℕ) (u : Question) (at k m : ℕ) (w : (k ≡ kind b at) × 
   -- ---- claim 2, at no model
 
   abbrev childOk : Bool
-  childOk = childInRange (u .n) (stepAt b (at + 6) m) (child b (at + 6))
+  childOk = childInRange (u .n) (stepAt b (at + 6) m) (childField b (at + 6))
 
   abbrev formTwo : ℕ
   formTwo = stepFault b u childOk 0 (at + 6) m
 
-  two-same : formTwo ≡ stepFault b u (childInRange (u .n) (stepAt b (at + 6) (size b at)) (child b (at + 6))) 0 (at + 6) (size b at)
-  two-same = ap (λ n. stepFault b u (childInRange (u .n) (stepAt b (at + 6) n) (child b (at + 6))) 0 (at + 6) n) (w .1)
+  two-same : formTwo ≡ stepFault b u (childInRange (u .n) (stepAt b (at + 6) (size b at)) (childField b (at + 6))) 0 (at + 6) (size b at)
+  two-same = ap (λ n. stepFault b u (childInRange (u .n) (stepAt b (at + 6) n) (childField b (at + 6))) 0 (at + 6) n) (w .1)
 
   -- its child is in range
   pub its-child : 0 ≡ formTwo → childOk ≡ true
@@ -83,7 +83,7 @@ module _ (b : List ℕ) (u : Question) (at k m : ℕ) (w : (k ≡ kind b at) × 
     pub taken-form : 0 ≡ placeOf → (f : ℕ) → f ≡ formTwo → (f ≡ 0 → ⊥) → f ≡ pathFault
     taken-form p f e n = path-form b u br at (all-there b at k m w) no-model (is-step p) f (e ∙ two-same) n
 
-    pub taken-step : 0 ≡ placeOf → 0 ≡ formTwo → takenTried br (nth (offered b u br (at + 6) m) (child b (at + 6))) ≡ pathFault
+    pub taken-step : 0 ≡ placeOf → 0 ≡ formTwo → takenTried br (childIn (offered b u br (at + 6) m) (childField b (at + 6))) ≡ pathFault
     taken-step p e =
-        ap (λ n. takenTried br (nth (offered b u br (at + 6) n) (child b (at + 6)))) (w .1)
+        ap (λ n. takenTried br (childIn (offered b u br (at + 6) n) (childField b (at + 6)))) (w .1)
         ∙ path-step b u br at (all-there b at k m w) no-model (is-step p) (e ∙ two-same)

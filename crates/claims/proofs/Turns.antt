@@ -10,7 +10,7 @@ use borrow.Author.Tests.{leb-true, leb-false, lt-leb}
 use Rattle.calculus.specs.Facts.{Question, Fact, Branch}
 use Rattle.calculus.specs.Walk.{Waiting, working, enter}
 use Rattle.format.specs.Records.{size, kind, next}
-use Rattle.format.specs.StepForms.{child}
+use Rattle.format.specs.StepForms.{childField}
 use Rattle.format.specs.Reading.{State, proving, taking, modelled, modelAt, fault, advanced, Ticket, Faulty, stepsOn}
 use Rattle.format.specs.Checking.{checker}
 use Rattle.format.proofs.StepTurns.{steps-none, steps-faulty, steps-more}
@@ -58,12 +58,12 @@ module _ (b : List ℕ) (u : Question) where
     -- ---- claim 2
 
     module _ (br : Branch) where
-      taken-on : kind b at ≡ 6 → advanced (checker u) b u (taking br) at ≡ taking (br ++ offeredChild b u br (at + 6) (size b at) (child b (at + 6)))
+      taken-on : kind b at ≡ 6 → advanced (checker u) b u (taking br) at ≡ taking (br ++ offeredChild b u br (at + 6) (size b at) (childField b (at + 6)))
       unfolding advanced offered
-      taken-on k = ap (λ j. cond (eqb j 6) (taking (br ++ offeredChild b u br (at + 6) (size b at) (child b (at + 6)))) (modelled br (modelAt b u (at + 6)))) k
+      taken-on k = ap (λ j. cond (eqb j 6) (taking (br ++ offeredChild b u br (at + 6) (size b at) (childField b (at + 6)))) (modelled br (modelAt b u (at + 6)))) k
 
       pub turn-taken : (kind b at ≡ 7 → ⊥) → fault (checker u) b u (taking br) at ≡ 0
-          → on (taking br) r at ≡ on (taking (br ++ offeredChild b u br (at + 6) (size b at) (child b (at + 6)))) (suc r) (next b at)
+          → on (taking br) r at ≡ on (taking (br ++ offeredChild b u br (at + 6) (size b at) (childField b (at + 6)))) (suc r) (next b at)
       turn-taken k7 f =
           let k = path-kind b u br at h k7 f in
           steps-more (checker u) b u (taking br) r at headed f (no-end (kind b at) k)

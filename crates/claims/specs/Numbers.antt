@@ -8,9 +8,9 @@ use Rattle.format.specs.Records.{size, kind, next, whole, need}
 use Rattle.format.specs.Reading.{endForm}
 
 -- a record of kind k where a branch is open: "11 when the end comes before every branch closed, or before a model". At a step it is what is asked next.
-abbrev pub openNumber : ℕ → ℕ → ℕ → ℕ → ℕ → ℕ
-openNumber n to k m step = cond (eqb k 8) (endForm n to m 11) (need 4 (eqb k 6) step)
+abbrev pub openFault : ℕ → ℕ → ℕ → ℕ → ℕ → ℕ
+openFault n to k m step = cond (eqb k 8) (endForm n to m 11) (need 4 (eqb k 6) step)
 
 -- the record that must be the end, behind the last closed branch or a model; 0 where it is
-unfoldable pub endNumber : List ℕ → ℕ → ℕ
-endNumber b at = need 3 (whole b at) (need 4 (eqb (kind b at) 8) (endForm (length b) (next b at) (size b at) 0))
+unfoldable pub endFault : List ℕ → ℕ → ℕ
+endFault b at = need 3 (whole b at) (need 4 (eqb (kind b at) 8) (endForm (length b) (next b at) (size b at) 0))

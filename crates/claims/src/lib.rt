@@ -6,7 +6,7 @@ ghost use lib.ListN.{length};
 ghost use Rattle.calculus.specs.Facts.{Fact};
 ghost use Rattle.calculus.specs.Walk.{Waiting, working};
 ghost use Rattle.format.specs.Records.{size as sizeAt, kind as kindAt, records};
-ghost use Rattle.format.specs.StepForms.{child};
+ghost use Rattle.format.specs.StepForms.{childField};
 ghost use Rattle.format.specs.Reading.{proving, taking, fault, readSteps, claimFault, endForm};
 ghost use Rattle.format.specs.Checking.{checker};
 ghost use Rattle.rows.specs.Rows.{branchOf};
@@ -15,7 +15,7 @@ ghost use Rattle.question.specs.Progress.{progressOf};
 ghost use Rattle.question.specs.Posed.{asked, Posed};
 ghost use Rattle.steps.specs.Offered.{offeredChild};
 ghost use Rattle.derivation.specs.Actions.{numberOf, Acts};
-ghost use Rattle.claims.specs.Numbers.{openNumber, endNumber};
+ghost use Rattle.claims.specs.Numbers.{openFault, endFault};
 ghost use Rattle.claims.specs.Outcomes.{walkedOf, followedOf, LeafAt};
 use branch::Branch;
 use derivation::Action;
@@ -74,8 +74,8 @@ fn last_fault(length: usize, to: usize, size: usize, later: usize) -> usize
 }
 
 // The number at the record that must be the end, behind the last closed branch or a model; 0 for none.
-pub fn end_number(ticket: &[u8], at: usize) -> usize
-    ensures { λ r. ⌜ r ≡ endNumber (now (ticket .entry)) at ⌝ }
+pub fn end_fault(ticket: &[u8], at: usize) -> usize
+    ensures { λ r. ⌜ r ≡ endFault (now (ticket .entry)) at ⌝ }
 {
     let Found::Whole(kind, size) = read_at(ticket, at) else {
         return 3;
@@ -88,7 +88,7 @@ pub fn end_number(ticket: &[u8], at: usize) -> usize
 
 // A record where a branch is open, 0 at a step: "11 when the end comes before every branch closed, or before a model".
 fn open_fault(length: usize, to: usize, kind: usize, size: usize) -> usize
-    ensures { λ r. ⌜ r ≡ openNumber length to kind size 0 ⌝ }
+    ensures { λ r. ⌜ r ≡ openFault length to kind size 0 ⌝ }
 {
     if kind == 8 {
         return last_fault(length, to, size, 11);
@@ -186,7 +186,7 @@ fn follow_record(
     requires { ⌜ Fine (now work) count ⌝ }
     requires { ⌜ (kind ≡ kindAt (now ticket) at) × (size ≡ sizeAt (now ticket) at) × (at + 6 + size ≤ length (now ticket)) × (kind ≡ 7 → ⊥) ⌝ }
     ensures fault { λ r. ⌜ r .fault ≡ fault (checker (asked (now (ticket .entry)) s)) (now (ticket .entry)) (asked (now (ticket .entry)) s) (taking (branchOf (now (work .entry)) count)) at ⌝ }
-    ensures added { λ r. ⌜ (r .fault ≡ 0 → branchOf (now (work .exit)) (r .count) ≡ branchOf (now (work .entry)) count ++ offeredChild (now (ticket .entry)) (asked (now (ticket .entry)) s) (branchOf (now (work .entry)) count) (at + 6) size (child (now (ticket .entry)) (at + 6))) ⌝ }
+    ensures added { λ r. ⌜ (r .fault ≡ 0 → branchOf (now (work .exit)) (r .count) ≡ branchOf (now (work .entry)) count ++ offeredChild (now (ticket .entry)) (asked (now (ticket .entry)) s) (branchOf (now (work .entry)) count) (at + 6) size (childField (now (ticket .entry)) (at + 6))) ⌝ }
     ensures fine { λ r. ⌜ (r .fault ≡ 0 → Fine (now (work .exit)) (r .count)) ⌝ }
 {
     let place = open_fault(ticket.len(), at + 6 + size, kind, size);

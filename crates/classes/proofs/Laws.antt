@@ -13,14 +13,14 @@ use lib.ListN.{length, getD}
 use lib.IntN.{ℤ, pos}
 use Rattle.lists.specs.Lists.{anyBelow}
 use Rattle.lists.proofs.Options.{some-injective, none-some}
-use Rattle.calculus.specs.Facts.{Fact, Branch, same, apart, isLiteral, arithmetic}
+use Rattle.calculus.specs.Facts.{Fact, Branch, same, notSame, isLiteral, arithmetic}
 use Rattle.calculus.specs.Chains.{varNode, litNode}
-use Rattle.calculus.specs.Classes.{upFrom, relabel, joinNodes, joinFact, labelsFrom, labels, sameClass, lowest, apartMeet}
-use Rattle.calculus.specs.Rules.{logUp}
+use Rattle.calculus.specs.Classes.{upFrom, relabel, mergeNodes, mergeFact, labelsFrom, labels, sameClass, lowestLiteral, sidesMeet}
+use Rattle.calculus.specs.Rules.{leastPower}
 use Rattle.calculus.specs.SaturationTest.{lowestFrom}
 use Rattle.format.proofs.Fields.{down}
 use Rattle.rows.specs.Rows.{index, factOf}
-use Rattle.rows.specs.Work.{kindOf}
+use Rattle.rows.specs.Work.{tagOf}
 use Rattle.rows.proofs.Tags.{row-string}
 
 -- ---- labels
@@ -36,27 +36,27 @@ getD-relabel old new [] i d h = absurd (omega arith)
 getD-relabel old new (c ∷ ls) zero d h = refl
 getD-relabel old new (c ∷ ls) (suc i) d h = getD-relabel old new ls i d (omega arith)
 
-from-snoc : (ls : List ℕ) (b : Branch) (f : Fact) → labelsFrom ls (b ++ f ∷ []) ≡ joinFact (labelsFrom ls b) f
+from-snoc : (ls : List ℕ) (b : Branch) (f : Fact) → labelsFrom ls (b ++ f ∷ []) ≡ mergeFact (labelsFrom ls b) f
 from-snoc ls [] f = refl
-from-snoc ls (g ∷ b) f = from-snoc (joinFact ls g) b f
+from-snoc ls (g ∷ b) f = from-snoc (mergeFact ls g) b f
 
-pub labels-snoc : (b : Branch) (f : Fact) → labels (b ++ f ∷ []) ≡ joinFact (labels b) f
+pub labels-snoc : (b : Branch) (f : Fact) → labels (b ++ f ∷ []) ≡ mergeFact (labels b) f
 labels-snoc b f = from-snoc (upFrom 0 32) b f
 
 -- ---- the lowest literal
 
 module _ (ls : List ℕ) (x k : ℕ) where
-  pub lowest-done : (m : ℕ) → m ≤ 0 → lowest ls x k m ≡ none
+  pub lowest-done : (m : ℕ) → m ≤ 0 → lowestLiteral ls x k m ≡ none
   lowest-done zero h = refl
   lowest-done (suc m) h = absurd (omega arith)
 
-  pub lowest-yes : (m : ℕ) → 0 < m → sameClass ls (varNode x) (litNode k) ≡ true → lowest ls x k m ≡ some k
+  pub lowest-yes : (m : ℕ) → 0 < m → sameClass ls (varNode x) (litNode k) ≡ true → lowestLiteral ls x k m ≡ some k
   lowest-yes zero h e = absurd (omega arith)
-  lowest-yes (suc m) h e = rw (e, lowest)
+  lowest-yes (suc m) h e = rw (e, lowestLiteral)
 
-  pub lowest-no : (m : ℕ) → 0 < m → sameClass ls (varNode x) (litNode k) ≡ false → lowest ls x k m ≡ lowest ls x (k + 1) (m - 1)
+  pub lowest-no : (m : ℕ) → 0 < m → sameClass ls (varNode x) (litNode k) ≡ false → lowestLiteral ls x k m ≡ lowestLiteral ls x (k + 1) (m - 1)
   lowest-no zero h e = absurd (omega arith)
-  lowest-no (suc m) h e = rw (e, lowest) (ap (λ (i : ℕ). lowest ls x i m) one ∙ ap (λ (i : ℕ). lowest ls x (k + 1) i) less)
+  lowest-no (suc m) h e = rw (e, lowestLiteral) (ap (λ (i : ℕ). lowestLiteral ls x i m) one ∙ ap (λ (i : ℕ). lowestLiteral ls x (k + 1) i) less)
     where
       one : suc k ≡ k + 1
       one = omega arith
@@ -64,16 +64,16 @@ module _ (ls : List ℕ) (x k : ℕ) where
       less : m ≡ suc m - 1
       less = omega arith
 
-from-below : (ls : List ℕ) (x m k l : ℕ) → lowest ls x k m ≡ some l → l < k + m
+from-below : (ls : List ℕ) (x m k l : ℕ) → lowestLiteral ls x k m ≡ some l → l < k + m
 from-below ls x zero k l e = absurd (none-some e)
 from-below ls x (suc m) k l e = go (sameClass ls (varNode x) (litNode k)) refl (λ h. from-below ls x m (k + 1) l h)
   where
-    go : (t : Bool) → sameClass ls (varNode x) (litNode k) ≡ t → (lowest ls x (k + 1) m ≡ some l → l < k + 1 + m) → l < k + suc m
+    go : (t : Bool) → sameClass ls (varNode x) (litNode k) ≡ t → (lowestLiteral ls x (k + 1) m ≡ some l → l < k + 1 + m) → l < k + suc m
     go true h ih = let f : k ≡ l = some-injective (sym (lowest-yes ls x k (suc m) (omega arith) h) ∙ e) in omega arith
-    go false h ih = omega (arith, ih (ap (λ (i : ℕ). lowest ls x (k + 1) i) (sym (down m)) ∙ sym (lowest-no ls x k (suc m) (omega arith) h) ∙ e))
+    go false h ih = omega (arith, ih (ap (λ (i : ℕ). lowestLiteral ls x (k + 1) i) (sym (down m)) ∙ sym (lowest-no ls x k (suc m) (omega arith) h) ∙ e))
 
 -- a literal that was found is one of the m
-pub literal-below : (ls : List ℕ) (x m l : ℕ) → lowest ls x 0 m ≡ some l → l < m
+pub literal-below : (ls : List ℕ) (x m l : ℕ) → lowestLiteral ls x 0 m ≡ some l → l < m
 literal-below ls x m l e = omega (arith, from-below ls x m 0 l e)
 
 -- ---- the lowest variable
@@ -114,17 +114,17 @@ module _ (t : ℕ → Bool) where
 -- ---- the smallest power that is enough
 
 module _ (n m k : ℕ) where
-  pub log-done : (d : ℕ) → d ≤ 0 → logUp d n m k ≡ k
+  pub log-done : (d : ℕ) → d ≤ 0 → leastPower d n m k ≡ k
   log-done zero h = refl
   log-done (suc d) h = absurd (omega arith)
 
-  pub log-yes : (d : ℕ) → m ≤ n ^ k → logUp d n m k ≡ k
+  pub log-yes : (d : ℕ) → m ≤ n ^ k → leastPower d n m k ≡ k
   log-yes zero h = refl
-  log-yes (suc d) h = rw (le-leb m (n ^ k) h, logUp)
+  log-yes (suc d) h = rw (le-leb m (n ^ k) h, leastPower)
 
-  pub log-no : (d : ℕ) → 0 < d → n ^ k < m → logUp d n m k ≡ logUp (d - 1) n m (k + 1)
+  pub log-no : (d : ℕ) → 0 < d → n ^ k < m → leastPower d n m k ≡ leastPower (d - 1) n m (k + 1)
   log-no zero h l = absurd (omega arith)
-  log-no (suc d) h l = rw (lt-leb m (n ^ k) l, logUp) (ap (λ (i : ℕ). logUp d n m i) one ∙ ap (λ (i : ℕ). logUp i n m (k + 1)) less)
+  log-no (suc d) h l = rw (lt-leb m (n ^ k) l, leastPower) (ap (λ (i : ℕ). leastPower d n m i) one ∙ ap (λ (i : ℕ). leastPower i n m (k + 1)) less)
     where
       one : suc k ≡ k + 1
       one = omega arith
@@ -134,56 +134,56 @@ module _ (n m k : ℕ) where
 
 -- ---- ≉ facts
 
-apart-cons : (ls : List ℕ) (f : Fact) (b : Branch) → apartMeet ls (f ∷ b) ≡ (apartMeet ls (f ∷ []) || apartMeet ls b)
+apart-cons : (ls : List ℕ) (f : Fact) (b : Branch) → sidesMeet ls (f ∷ b) ≡ (sidesMeet ls (f ∷ []) || sidesMeet ls b)
 apart-cons ls (same x y) b = refl
-apart-cons ls (apart x y) b = ap (λ (t : Bool). t || apartMeet ls b) (sym (or-false (sameClass ls (varNode x) (varNode y))))
+apart-cons ls (notSame x y) b = ap (λ (t : Bool). t || sidesMeet ls b) (sym (or-false (sameClass ls (varNode x) (varNode y))))
 apart-cons ls (isLiteral x l) b = refl
 apart-cons ls (arithmetic r e) b = refl
 
-pub apart-snoc : (ls : List ℕ) (b : Branch) (f : Fact) → apartMeet ls (b ++ f ∷ []) ≡ (apartMeet ls b || apartMeet ls (f ∷ []))
+pub apart-snoc : (ls : List ℕ) (b : Branch) (f : Fact) → sidesMeet ls (b ++ f ∷ []) ≡ (sidesMeet ls b || sidesMeet ls (f ∷ []))
 apart-snoc ls [] f = refl
 apart-snoc ls (g ∷ b) f =
     apart-cons ls g (b ++ f ∷ [])
-    ∙ ap (λ (t : Bool). apartMeet ls (g ∷ []) || t) (apart-snoc ls b f)
-    ∙ sym (or-assoc (apartMeet ls (g ∷ [])) (apartMeet ls b) (apartMeet ls (f ∷ [])))
-    ∙ ap (λ (t : Bool). t || apartMeet ls (f ∷ [])) (sym (apart-cons ls g b))
+    ∙ ap (λ (t : Bool). sidesMeet ls (g ∷ []) || t) (apart-snoc ls b f)
+    ∙ sym (or-assoc (sidesMeet ls (g ∷ [])) (sidesMeet ls b) (sidesMeet ls (f ∷ [])))
+    ∙ ap (λ (t : Bool). t || sidesMeet ls (f ∷ [])) (sym (apart-cons ls g b))
 
-not-apart : (ls : List ℕ) (f : Fact) → (kindOf f ≡ 4 → ⊥) → apartMeet ls (f ∷ []) ≡ false
-unfolding kindOf
+not-apart : (ls : List ℕ) (f : Fact) → (tagOf f ≡ 4 → ⊥) → sidesMeet ls (f ∷ []) ≡ false
+unfolding tagOf
 not-apart ls (same x y) h = refl
-not-apart ls (apart x y) h = absurd (h refl)
+not-apart ls (notSame x y) h = absurd (h refl)
 not-apart ls (isLiteral x l) h = refl
 not-apart ls (arithmetic r e) h = refl
 
 -- ---- what a row says, by its kind
 
-not-joined : (ls : List ℕ) (f : Fact) → (kindOf f ≡ 3 → ⊥) → (kindOf f ≡ 5 → ⊥) → joinFact ls f ≡ ls
-unfolding kindOf
+not-joined : (ls : List ℕ) (f : Fact) → (tagOf f ≡ 3 → ⊥) → (tagOf f ≡ 5 → ⊥) → mergeFact ls f ≡ ls
+unfolding tagOf
 not-joined ls (same x y) h k = absurd (h refl)
-not-joined ls (apart x y) h k = refl
+not-joined ls (notSame x y) h k = refl
 not-joined ls (isLiteral x l) h k = absurd (k refl)
 not-joined ls (arithmetic r e) h k = refl
 
-module _ (row : List ℤ) (ls : List ℕ) (k : ℕ) (kind : k ≡ kindOf (factOf row)) where
+module _ (row : List ℤ) (ls : List ℕ) (k : ℕ) (kind : k ≡ tagOf (factOf row)) where
   abbrev first : ℕ
   first = index (getD row 1 (pos 0))
 
   abbrev second : ℕ
   second = index (getD row 2 (pos 0))
 
-  pub row-same : k ≡ 3 → joinFact ls (factOf row) ≡ joinNodes ls (varNode first) (varNode second)
-  row-same e = ap (joinFact ls) (row-string row 3 (sym e ∙ kind) (omega arith))
+  pub row-same : k ≡ 3 → mergeFact ls (factOf row) ≡ mergeNodes ls (varNode first) (varNode second)
+  row-same e = ap (mergeFact ls) (row-string row 3 (sym e ∙ kind) (omega arith))
 
-  pub row-literal : k ≡ 5 → joinFact ls (factOf row) ≡ joinNodes ls (varNode first) (litNode second)
-  row-literal e = ap (joinFact ls) (row-string row 5 (sym e ∙ kind) (omega arith))
+  pub row-literal : k ≡ 5 → mergeFact ls (factOf row) ≡ mergeNodes ls (varNode first) (litNode second)
+  row-literal e = ap (mergeFact ls) (row-string row 5 (sym e ∙ kind) (omega arith))
 
-  pub row-joins-none : (k ≡ 3 → ⊥) → (k ≡ 5 → ⊥) → joinFact ls (factOf row) ≡ ls
+  pub row-joins-none : (k ≡ 3 → ⊥) → (k ≡ 5 → ⊥) → mergeFact ls (factOf row) ≡ ls
   row-joins-none h g = not-joined ls (factOf row) (λ e. h (kind ∙ e)) (λ e. g (kind ∙ e))
 
-  pub row-apart : k ≡ 4 → apartMeet ls (factOf row ∷ []) ≡ sameClass ls (varNode first) (varNode second)
+  pub row-apart : k ≡ 4 → sidesMeet ls (factOf row ∷ []) ≡ sameClass ls (varNode first) (varNode second)
   row-apart e =
-      ap (λ (f : Fact). apartMeet ls (f ∷ [])) (row-string row 4 (sym e ∙ kind) (omega arith))
+      ap (λ (f : Fact). sidesMeet ls (f ∷ [])) (row-string row 4 (sym e ∙ kind) (omega arith))
       ∙ or-false (sameClass ls (varNode first) (varNode second))
 
-  pub row-not-apart : (k ≡ 4 → ⊥) → apartMeet ls (factOf row ∷ []) ≡ false
+  pub row-not-apart : (k ≡ 4 → ⊥) → sidesMeet ls (factOf row ∷ []) ≡ false
   row-not-apart h = not-apart ls (factOf row) (λ e. h (kind ∙ e))

@@ -8,15 +8,15 @@ ghost use lib.Dec.{eqb};
 ghost use Rattle.lists.specs.Lists.{anyBelow};
 ghost use Rattle.calculus.specs.Limits.{alphabetLimit, variableLimit, factLimit};
 ghost use Rattle.calculus.specs.Classes as classes;
-ghost use Rattle.calculus.specs.Classes.{nodeCount, upFrom, joinNodes, joinFact, sameClass, lowest, apartMeet, literalMeets, clash};
-ghost use Rattle.calculus.specs.Rules.{logUp};
-ghost use Rattle.calculus.specs.SaturationTest.{lowestVar};
+ghost use Rattle.calculus.specs.Classes.{nodeCount, upFrom, mergeNodes, mergeFact, sameClass, lowestLiteral, sidesMeet, literalMeets, clash};
+ghost use Rattle.calculus.specs.Rules.{leastPower};
+ghost use Rattle.calculus.specs.SaturationTest.{lowestVariable};
 ghost use Rattle.rows.specs.Rows.{rowLength, factOf, branchOf};
 ghost use Rattle.classes.specs.Classes.{literalOf};
 use limits::NODE_COUNT;
-use rows::kind_of;
 use rows::operand;
 use rows::row_at;
+use rows::tag_of;
 
 // The lowest literal of a class, if it holds one.
 pub enum Lowest {
@@ -90,9 +90,9 @@ fn relabel(old: u8, new: u8, labels: [u8; NODE_COUNT]) -> [u8; NODE_COUNT]
 }
 
 // The classes of two nodes become one.
-fn join(labels: [u8; NODE_COUNT], i: usize, j: usize) -> [u8; NODE_COUNT]
+fn merge(labels: [u8; NODE_COUNT], i: usize, j: usize) -> [u8; NODE_COUNT]
     requires { ⌜ (i < nodeCount) × (j < nodeCount) ⌝ }
-    ensures { λ r. ⌜ r ≡ joinNodes labels i j ⌝ }
+    ensures { λ r. ⌜ r ≡ mergeNodes labels i j ⌝ }
 {
     let new = labels[i];
     let old = labels[j];
@@ -100,20 +100,20 @@ fn join(labels: [u8; NODE_COUNT], i: usize, j: usize) -> [u8; NODE_COUNT]
 }
 
 // The labels once the fact of a row stands: variable ≈ variable is of kind 3, variable ≈ literal of kind 5.
-fn join_row(row: &[i64], labels: [u8; NODE_COUNT]) -> [u8; NODE_COUNT]
+fn merge_row(row: &[i64], labels: [u8; NODE_COUNT]) -> [u8; NODE_COUNT]
     requires { ⌜ length (now row) ≡ rowLength ⌝ }
-    ensures { λ r. ⌜ r ≡ joinFact labels (factOf (now (row .entry))) ⌝ }
+    ensures { λ r. ⌜ r ≡ mergeFact labels (factOf (now (row .entry))) ⌝ }
 {
-    let kind = kind_of(row);
+    let kind = tag_of(row);
     if kind == 3 {
         let a = operand(row, 1);
         let b = operand(row, 2);
-        return join(labels, 2 * a, 2 * b);
+        return merge(labels, 2 * a, 2 * b);
     }
     if kind == 5 {
         let a = operand(row, 1);
         let b = operand(row, 2);
-        return join(labels, 2 * a, 2 * b + 1);
+        return merge(labels, 2 * a, 2 * b + 1);
     }
     labels
 }
@@ -126,7 +126,7 @@ pub fn labels(work: &[i64], count: usize) -> [u8; NODE_COUNT]
     let mut out = first_labels();
     let mut k = 0;
     while k < count {
-        let next = join_row(row_at(work, k), out);
+        let next = merge_row(row_at(work, k), out);
         out = next;
         k += 1;
     }
@@ -146,7 +146,7 @@ pub fn same_class(labels: [u8; NODE_COUNT], i: usize, j: usize) -> bool
 // The lowest of the first m literals in the class of variable x: "the lowest literal number counts".
 pub fn class_literal(labels: [u8; NODE_COUNT], m: usize, x: usize) -> Lowest
     requires { ⌜ (m ≤ variableLimit) × (x < variableLimit) ⌝ }
-    ensures { λ r. ⌜ literalOf r ≡ lowest labels x 0 m ⌝ }
+    ensures { λ r. ⌜ literalOf r ≡ lowestLiteral labels x 0 m ⌝ }
 {
     let mut l = 0;
     let mut left = m;
@@ -161,9 +161,9 @@ pub fn class_literal(labels: [u8; NODE_COUNT], m: usize, x: usize) -> Lowest
 }
 
 // The lowest variable in the class of variable x.
-pub fn lowest_var(labels: [u8; NODE_COUNT], x: usize) -> usize
+pub fn lowest_variable(labels: [u8; NODE_COUNT], x: usize) -> usize
     requires { ⌜ x < variableLimit ⌝ }
-    ensures { λ r. ⌜ r ≡ lowestVar labels x ⌝ }
+    ensures { λ r. ⌜ r ≡ lowestVariable labels x ⌝ }
 {
     let mut y = 0;
     let mut left = x;
@@ -208,11 +208,11 @@ fn literals_meet(labels: [u8; NODE_COUNT], m: usize) -> bool
 }
 
 // Is a row a fact a ≉ b, of kind 4, with both sides in one class?
-fn apart_meets(row: &[i64], labels: [u8; NODE_COUNT]) -> bool
+fn row_sides_meet(row: &[i64], labels: [u8; NODE_COUNT]) -> bool
     requires { ⌜ length (now row) ≡ rowLength ⌝ }
-    ensures { λ r. ⌜ r ≡ apartMeet labels (factOf (now (row .entry)) ∷ []) ⌝ }
+    ensures { λ r. ⌜ r ≡ sidesMeet labels (factOf (now (row .entry)) ∷ []) ⌝ }
 {
-    if kind_of(row) == 4 {
+    if tag_of(row) == 4 {
         let a = operand(row, 1);
         let b = operand(row, 2);
         return same_class(labels, 2 * a, 2 * b);
@@ -221,14 +221,14 @@ fn apart_meets(row: &[i64], labels: [u8; NODE_COUNT]) -> bool
 }
 
 // "a ≉ fact has both sides in one", among the first `count` facts.
-fn apart_meet(work: &[i64], count: usize, labels: [u8; NODE_COUNT]) -> bool
+fn sides_meet(work: &[i64], count: usize, labels: [u8; NODE_COUNT]) -> bool
     requires { ⌜ (count ≤ factLimit) × (rowLength * count ≤ length (now work)) ⌝ }
-    ensures { λ r. ⌜ r ≡ apartMeet labels (branchOf (now (work .entry)) count) ⌝ }
+    ensures { λ r. ⌜ r ≡ sidesMeet labels (branchOf (now (work .entry)) count) ⌝ }
 {
     let mut found = false;
     let mut k = 0;
     while k < count {
-        let one = apart_meets(row_at(work, k), labels);
+        let one = row_sides_meet(row_at(work, k), labels);
         found = found | one;
         k += 1;
     }
@@ -243,13 +243,13 @@ pub fn conflict(work: &[i64], count: usize, labels: [u8; NODE_COUNT], m: usize) 
     if literals_meet(labels, m) {
         return true;
     }
-    apart_meet(work, count, labels)
+    sides_meet(work, count, labels)
 }
 
 // Card's bound: "the smallest number such that n to the power L is at least m". The power stops once m is reached.
-pub fn log_up(n: usize, m: usize) -> usize
+pub fn least_power(n: usize, m: usize) -> usize
     requires { ⌜ (n ≤ alphabetLimit) × (m ≤ variableLimit) ⌝ }
-    ensures { λ r. ⌜ r ≡ logUp m n m 0 ⌝ }
+    ensures { λ r. ⌜ r ≡ leastPower m n m 0 ⌝ }
     ensures { λ r. ⌜ r ≤ m ⌝ }
 {
     let mut power = 1;

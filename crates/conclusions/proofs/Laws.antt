@@ -7,10 +7,10 @@ use mathlib.Core.Option.{Option, none, some}
 use mathlib.Core.List.{List}
 use lib.IntN.{ℤ, pos, negℤ}
 use borrow.Author.Tests.{eq-eqb, ne-eqb}
-use Rattle.calculus.specs.Rows.{column, number, minus}
+use Rattle.calculus.specs.LinearForms.{column, number, minus}
 use Rattle.calculus.specs.Facts.{Question, Fact, Branch, arithmetic, eq, Function, literal, codeOf, valueOf}
 use Rattle.calculus.specs.Chains.{varNode}
-use Rattle.calculus.specs.Classes.{labels, sameClass, lowest, classLiteral}
+use Rattle.calculus.specs.Classes.{labels, sameClass, lowestLiteral, classLiteral}
 use Rattle.calculus.specs.Children.{one, sPropChild, literalChild}
 use Rattle.calculus.specs.Steps.{Sum, SProp}
 use Rattle.calculus.specs.Rules.{guard, then, children, literalChildren}
@@ -76,20 +76,20 @@ value-code (suc f) t n = refl
 
 -- the lowest literal of the class, among those of the question
 module _ (b : List ℕ) (s : Progress) (br : Branch) (ls : List ℕ) (x : ℕ) (el : ls ≡ labels br) where
-  class-is : lowest ls x 0 (s .literals + 1) ≡ classLiteral (asked b s) br x
+  class-is : lowestLiteral ls x 0 (s .literals + 1) ≡ classLiteral (asked b s) br x
   unfolding asked
   class-is =
-      ap₂ (λ (l : List ℕ) (m : ℕ). lowest l x 0 m) el
+      ap₂ (λ (l : List ℕ) (m : ℕ). lowestLiteral l x 0 m) el
       (add-one (s .literals) ∙ ap suc (sym (length-texts b (s .literals) literalsFrom)))
 
-  pub literal-none : (f : Function) → lowest ls x 0 (s .literals + 1) ≡ none → none ≡ literalChildren (asked b s) br f x
+  pub literal-none : (f : Function) → lowestLiteral ls x 0 (s .literals + 1) ≡ none → none ≡ literalChildren (asked b s) br f x
   literal-none f e = sym (ap (λ (o : Option ℕ). then o (λ l. some (literalChild (asked b s) f x l))) (sym class-is ∙ e))
 
-  literal-some : (f : Function) (l : ℕ) → lowest ls x 0 (s .literals + 1) ≡ some l → some (literalChild (asked b s) f x l) ≡ literalChildren (asked b s) br f x
+  literal-some : (f : Function) (l : ℕ) → lowestLiteral ls x 0 (s .literals + 1) ≡ some l → some (literalChild (asked b s) f x l) ≡ literalChildren (asked b s) br f x
   literal-some f l e = sym (ap (λ (o : Option ℕ). then o (λ l. some (literalChild (asked b s) f x l))) (sym class-is ∙ e))
 
   -- the fact by its column and the literal's text
-  pub literal-adds : (f l i : ℕ) (t : List ℕ) → lowest ls x 0 (s .literals + 1) ≡ some l → i ≡ columnAt (s .p) (s .q) f x → i < 48 → t ≡ literal (asked b s) l
+  pub literal-adds : (f l i : ℕ) (t : List ℕ) → lowestLiteral ls x 0 (s .literals + 1) ≡ some l → i ≡ columnAt (s .p) (s .q) f x → i < 48 → t ≡ literal (asked b s) l
       → some (one (arithmetic eq (single (negℤ (valueOf (functionOf f) t)) i (pos 1)))) ≡ literalChildren (asked b s) br (functionOf f) x
   unfolding asked
   literal-adds f l i t e ei hi et =

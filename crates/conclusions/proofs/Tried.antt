@@ -17,7 +17,7 @@ use Rattle.calculus.specs.Rules.{guard}
 use Rattle.calculus.proofs.Shapes.{children-shape}
 use Rattle.format.specs.Records.{need}
 use Rattle.format.specs.StepForms.{rule, lengthFits, stepAt}
-use Rattle.format.specs.Checking.{factWithin, factsWithin, childrenWithin, roomForAll, allTried, takenTried, nth, orNone}
+use Rattle.format.specs.Checking.{factWithin, factsWithin, childrenWithin, roomForAll, allTried, takenTried, childIn, orNone}
 use Rattle.format.proofs.Faults.{clash}
 use Rattle.rows.specs.Rows.{factOf}
 use Rattle.steps.specs.Conclusions.{conclusionsOf}
@@ -37,20 +37,20 @@ module _ (br : Branch) (o : Option (List (List Fact))) (t : Bool) (row : List �
   unfolding madeOf
   by-fit s f = ap (λ (r : Bool). guard r (one (factOf row))) (sym f) ∙ e
 
-  pub eight : t ≡ false → 8 ≡ takenTried br (nth o 1)
-  eight f = ap (λ (p : Option (List (List Fact))). takenTried br (nth p 1)) (by-fit false f)
+  pub eight : t ≡ false → 8 ≡ takenTried br (childIn o 1)
+  eight f = ap (λ (p : Option (List (List Fact))). takenTried br (childIn p 1)) (by-fit false f)
 
-  pub nine : t ≡ true → factWithin (factOf row) ≡ false → 9 ≡ takenTried br (nth o 1)
-  nine f w = tried br (factOf row) false (leb (length br + 1) factLimit) w refl ∙ ap (λ (p : Option (List (List Fact))). takenTried br (nth p 1)) (by-fit true f)
+  pub nine : t ≡ true → factWithin (factOf row) ≡ false → 9 ≡ takenTried br (childIn o 1)
+  nine f w = tried br (factOf row) false (leb (length br + 1) factLimit) w refl ∙ ap (λ (p : Option (List (List Fact))). takenTried br (childIn p 1)) (by-fit true f)
 
-  pub ten : t ≡ true → factWithin (factOf row) ≡ true → factLimit ≤ length br → 10 ≡ takenTried br (nth o 1)
-  ten f w h = tried br (factOf row) true false w (lt-leb (length br + 1) factLimit (omega arith)) ∙ ap (λ (p : Option (List (List Fact))). takenTried br (nth p 1)) (by-fit true f)
+  pub ten : t ≡ true → factWithin (factOf row) ≡ true → factLimit ≤ length br → 10 ≡ takenTried br (childIn o 1)
+  ten f w h = tried br (factOf row) true false w (lt-leb (length br + 1) factLimit (omega arith)) ∙ ap (λ (p : Option (List (List Fact))). takenTried br (childIn p 1)) (by-fit true f)
 
-  pub none-of-these : t ≡ true → factWithin (factOf row) ≡ true → length br < factLimit → 0 ≡ takenTried br (nth o 1)
-  none-of-these f w h = tried br (factOf row) true true w (le-leb (length br + 1) factLimit (omega arith)) ∙ ap (λ (p : Option (List (List Fact))). takenTried br (nth p 1)) (by-fit true f)
+  pub none-of-these : t ≡ true → factWithin (factOf row) ≡ true → length br < factLimit → 0 ≡ takenTried br (childIn o 1)
+  none-of-these f w h = tried br (factOf row) true true w (le-leb (length br + 1) factLimit (omega arith)) ∙ ap (λ (p : Option (List (List Fact))). takenTried br (childIn p 1)) (by-fit true f)
 
-  pub its-fact : t ≡ true → factOf row ∷ [] ≡ orNone (nth o 1)
-  its-fact f = ap (λ (p : Option (List (List Fact))). orNone (nth p 1)) (by-fit true f)
+  pub its-fact : t ≡ true → factOf row ∷ [] ≡ orNone (childIn o 1)
+  its-fact f = ap (λ (p : Option (List (List Fact))). orNone (childIn p 1)) (by-fit true f)
 
 -- ---- a rule with one conclusion has one child with one fact, where it fits
 
@@ -75,7 +75,7 @@ both-tried true true = refl
 both-tried true false = refl
 both-tried false r = refl
 
-pub tried-once : (br : Branch) (pending : ℕ) (o : Option (List (List Fact))) → Single o → allTried br pending o ≡ takenTried br (nth o 1)
+pub tried-once : (br : Branch) (pending : ℕ) (o : Option (List (List Fact))) → Single o → allTried br pending o ≡ takenTried br (childIn o 1)
 unfolding factsWithin childrenWithin roomForAll
 tried-once br pending o (inl e) = rw e
 tried-once br pending o (inr (f, e)) = rw e (both-tried (factWithin f) (leb (length br + 1) factLimit))

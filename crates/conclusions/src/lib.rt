@@ -6,7 +6,7 @@ ghost use Prim.Native.Nat.{_+_, _*_, _<_, _≤_};
 ghost use lib.ListN.{length};
 ghost use lib.IntN.{negℤ};
 ghost use Rattle.calculus.specs.Limits.{variableLimit, literalLimit};
-ghost use Rattle.calculus.specs.Rows.{zeros};
+ghost use Rattle.calculus.specs.LinearForms.{zeros};
 ghost use Rattle.calculus.specs.Facts.{Question, valueOf};
 ghost use Rattle.calculus.specs.Steps.{Sum, AConf, SConf, SProp, Join};
 ghost use Rattle.calculus.specs.Rules.{children, literalChildren};
@@ -14,7 +14,7 @@ ghost use Rattle.format.specs.Fields.{u32, u32s};
 ghost use Rattle.format.specs.Places.{skip, literalsFrom};
 ghost use Rattle.format.specs.StepForms as forms;
 ghost use Rattle.format.specs.StepForms.{formFor, fitsForm, sumPairs, functionOf, rule, operandsInRange};
-ghost use Rattle.format.specs.Checking.{nth, takenTried};
+ghost use Rattle.format.specs.Checking.{childIn, takenTried};
 ghost use Rattle.question.specs.Posed.{asked};
 ghost use Rattle.rows.specs.Rows.{rowLength, branchOf};
 ghost use Rattle.rows.specs.Work.{Fine};
@@ -216,7 +216,7 @@ pub fn conclude(
 ) -> usize
     requires { ⌜ Ready (now ticket) s at size (now work) count ⌝ }
     requires { ⌜ conclusionsOf (rule (now ticket) at) ≡ One ⌝ }
-    ensures fault { λ r. ⌜ r ≡ takenTried (branchOf (now (work .entry)) count) (nth (offered (now (ticket .entry)) (asked (now (ticket .entry)) s) (branchOf (now (work .entry)) count) at size) 1) ⌝ }
+    ensures fault { λ r. ⌜ r ≡ takenTried (branchOf (now (work .entry)) count) (childIn (offered (now (ticket .entry)) (asked (now (ticket .entry)) s) (branchOf (now (work .entry)) count) at size) 1) ⌝ }
     ensures added { λ r. ⌜ (r ≡ 0 → branchOf (now (work .exit)) (count + 1) ≡ branchOf (now (work .entry)) count ++ offeredChild (now (ticket .entry)) (asked (now (ticket .entry)) s) (branchOf (now (work .entry)) count) at size 1) ⌝ }
     ensures fine { λ r. ⌜ (r ≡ 0 → Fine (now (work .exit)) (count + 1)) ⌝ }
 {

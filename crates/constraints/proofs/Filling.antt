@@ -10,9 +10,9 @@ use lib.Seq.{take-set-le, drop-set-add}
 use lib.Dec.{leb, ltb}
 use lib.IntN.{ℤ}
 use Rattle.calculus.specs.Limits.{columnLimit}
-use Rattle.calculus.specs.Rows.{zeros}
+use Rattle.calculus.specs.LinearForms.{zeros}
 use Rattle.format.specs.Fields.{u16, i32, pairsAt}
-use Rattle.format.specs.Question.{coefficientInRange, pairInRange, rising, fillRow}
+use Rattle.format.specs.Question.{coefficientInRange, pairInRange, rising, fillCoefficients}
 use Rattle.format.proofs.Faults.{and-true}
 use Rattle.format.proofs.Sums.{Ranged, ranged}
 use Rattle.format.proofs.Pairs.{next-pair, no-pair, all-pairs}
@@ -32,7 +32,7 @@ module _ (b : List ℕ) (at n : ℕ) (tag constant : ℤ) where
     pub long : length out ≡ 50
     pub front : take 2 out ≡ tag ∷ constant ∷ []
     pub rises : rising columnLimit 0 (pairsAt b (at + 6 * i) (n - i)) ≡ true
-    pub left : fillRow (drop 2 out) (pairsAt b (at + 6 * i) (n - i)) ≡ fillRow (zeros 48) (pairsAt b at n)
+    pub left : fillCoefficients (drop 2 out) (pairsAt b (at + 6 * i) (n - i)) ≡ fillCoefficients (zeros 48) (pairsAt b at n)
 
   pub filling-start : rising columnLimit 0 (pairsAt b at n) ≡ true → Filling (tag ∷ constant ∷ zeros 48) 0
   filling-start h = record {
@@ -40,7 +40,7 @@ module _ (b : List ℕ) (at n : ℕ) (tag constant : ℤ) where
     long = refl;
     front = refl;
     rises = ap (rising columnLimit 0) (all-pairs b at n) ∙ h;
-    left = ap (fillRow (zeros 48)) (all-pairs b at n);
+    left = ap (fillCoefficients (zeros 48)) (all-pairs b at n);
   }
 
   module _ (out : List ℤ) (i : ℕ) (s : Filling out i) (h : i < n) where
@@ -58,7 +58,7 @@ module _ (b : List ℕ) (at n : ℕ) (tag constant : ℤ) where
     column-small = next .column
 
     pub filling-more : Filling (set out (column + 2) coefficient) (i + 1)
-    unfolding fillRow
+    unfolding fillCoefficients
     filling-more =
         let e : column + 2 ≡ 2 + column = omega arith in
         record {
@@ -67,14 +67,14 @@ module _ (b : List ℕ) (at n : ℕ) (tag constant : ℤ) where
           front = take-set-le 2 out (column + 2) coefficient (omega arith) ∙ s .front;
           rises = rising-low columnLimit (column + 1) (pairsAt b (at + 6 * (i + 1)) (n - (i + 1))) (next .rest);
           left =
-              ap (λ (k : ℕ). fillRow (drop 2 (set out k coefficient)) (pairsAt b (at + 6 * (i + 1)) (n - (i + 1)))) e
-              ∙ ap (λ (l : List ℤ). fillRow l (pairsAt b (at + 6 * (i + 1)) (n - (i + 1)))) (drop-set-add 2 out column coefficient)
-              ∙ sym (sym (s .left) ∙ ap (fillRow (drop 2 out)) (next-pair b at n i h));
+              ap (λ (k : ℕ). fillCoefficients (drop 2 (set out k coefficient)) (pairsAt b (at + 6 * (i + 1)) (n - (i + 1)))) e
+              ∙ ap (λ (l : List ℤ). fillCoefficients l (pairsAt b (at + 6 * (i + 1)) (n - (i + 1)))) (drop-set-add 2 out column coefficient)
+              ∙ sym (sym (s .left) ∙ ap (fillCoefficients (drop 2 out)) (next-pair b at n i h));
         }
 
   -- none is left
-  pub filling-done : (out : List ℤ) (i : ℕ) → Filling out i → n ≤ i → out ≡ tag ∷ constant ∷ fillRow (zeros 48) (pairsAt b at n)
-  unfolding fillRow
+  pub filling-done : (out : List ℤ) (i : ℕ) → Filling out i → n ≤ i → out ≡ tag ∷ constant ∷ fillCoefficients (zeros 48) (pairsAt b at n)
+  unfolding fillCoefficients
   filling-done out i s h =
       sym (take-append-drop 2 out)
-      ∙ ap₂ _++_ (s .front) (sym (ap (fillRow (drop 2 out)) (no-pair b at n i h)) ∙ s .left)
+      ∙ ap₂ _++_ (s .front) (sym (ap (fillCoefficients (drop 2 out)) (no-pair b at n i h)) ∙ s .left)

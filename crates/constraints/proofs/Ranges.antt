@@ -11,10 +11,10 @@ use lib.ListN.{set}
 use lib.Dec.{eqb, leb, ltb}
 use lib.IntN.{ℤ, natAbs}
 use Rattle.calculus.specs.Limits.{variableLimit, literalLimit, columnLimit, numberLimit}
-use Rattle.calculus.specs.Rows.{zeros}
+use Rattle.calculus.specs.LinearForms.{zeros}
 use Rattle.format.specs.Fields.{u16, i32, pairsAt, within, allWithin}
 use Rattle.format.specs.Records.{size, kind, need}
-use Rattle.format.specs.Question.{stringRange, stringFact, stringFault, coefficientInRange, pairInRange, rising, formRange, fillRow, formOf, arithmeticFault, constraintOf}
+use Rattle.format.specs.Question.{stringRange, stringFact, stringFault, coefficientInRange, pairInRange, rising, formRange, fillCoefficients, formOf, arithmeticFault, constraintOf}
 use Rattle.format.specs.Checking.{factWithin}
 use Rattle.format.proofs.Faults.{none-applies, passed, and-true}
 use Rattle.format.proofs.Sums.{ranged}
@@ -92,8 +92,8 @@ within-set [] j z e h = e
 within-set (x ∷ row) zero z e h = ap₂ _&&_ h (and-true (within numberLimit x) (allWithin numberLimit row) e .1)
 within-set (x ∷ row) (suc j) z e h = ap₂ _&&_ (and-true (within numberLimit x) (allWithin numberLimit row) e .0) (within-set row j z (and-true (within numberLimit x) (allWithin numberLimit row) e .1) h)
 
-within-fill : (c low : ℕ) (row : List ℤ) (ts : List (ℕ × ℤ)) → allWithin numberLimit row ≡ true → rising c low ts ≡ true → allWithin numberLimit (fillRow row ts) ≡ true
-unfolding rising fillRow
+within-fill : (c low : ℕ) (row : List ℤ) (ts : List (ℕ × ℤ)) → allWithin numberLimit row ≡ true → rising c low ts ≡ true → allWithin numberLimit (fillCoefficients row ts) ≡ true
+unfolding rising fillCoefficients
 within-fill c low row [] e h = e
 within-fill c low row (t ∷ ts) e h =
     let r = ranged c low t ts h in

@@ -13,7 +13,7 @@ use Rattle.calculus.specs.Limits.{factLimit}
 use Rattle.calculus.specs.Facts.{Question, Fact, Branch}
 use Rattle.calculus.specs.Children.{childAt}
 use Rattle.format.specs.Records.{need}
-use Rattle.format.specs.Checking.{orNone, factsWithin, childrenWithin, room, roomForAll, nth, takenTried}
+use Rattle.format.specs.Checking.{orNone, factsWithin, childrenWithin, room, roomForAll, childIn, takenTried}
 use Rattle.steps.proofs.Offered.{child-there, fitted, nth-within}
 use Rattle.derivation.specs.State.{offeredIn, childrenOn, childOn}
 use Rattle.derivation.specs.Ok.{Splits}
@@ -39,14 +39,14 @@ module _ {b : List ℕ} {u : Question} {br : Branch} {at n : ℕ} (sp : Splits b
   its-all = ap orNone (sp .fit)
 
   pub child-of : (k : ℕ) → childOn b u br at k ≡ orNone (childAt (sp .its-children) k)
-  child-of k = ap (λ o. orNone (nth o k)) (sp .fit)
+  child-of k = ap (λ o. orNone (childIn o k)) (sp .fit)
 
   child-at : (k : ℕ) → 1 ≤ k → k ≤ n → childAt (sp .its-children) k ≡ some (childOn b u br at k)
   child-at k l h = fitted (childAt (sp .its-children) k) (child-there (sp .its-children) k l (omega (arith, sp .number))) ∙ ap some (sym (child-of k))
 
   -- child k is there
-  pub taken-there : (k : ℕ) → 1 ≤ k → k ≤ n → nth (offeredIn b u br at) k ≡ some (childOn b u br at k)
-  taken-there k l h = ap (λ o. nth o k) (sp .fit) ∙ child-at k l h
+  pub taken-there : (k : ℕ) → 1 ≤ k → k ≤ n → childIn (offeredIn b u br at) k ≡ some (childOn b u br at k)
+  taken-there k l h = ap (λ o. childIn o k) (sp .fit) ∙ child-at k l h
 
   -- its numbers are within the limit, and it finds room
   pub child-within : (k : ℕ) → factsWithin (childOn b u br at k) ≡ true
@@ -56,7 +56,7 @@ module _ {b : List ℕ} {u : Question} {br : Branch} {at n : ℕ} (sp : Splits b
   child-room k l h = leb-true _ factLimit (room-at (length br) (sp .its-children) k (childOn b u br at k) (sp .room) (child-at k l h))
 
   -- so none of the numbers 8 to 10 applies to it
-  pub none-of-these : (k : ℕ) → 1 ≤ k → k ≤ n → takenTried br (nth (offeredIn b u br at) k) ≡ 0
+  pub none-of-these : (k : ℕ) → 1 ≤ k → k ≤ n → takenTried br (childIn (offeredIn b u br at) k) ≡ 0
   none-of-these k l h =
       ap (takenTried br) (taken-there k l h)
       ∙ ap₂ (λ (t r : Bool). need 9 t (need 10 r 0)) (child-within k) (le-leb (length br + length (childOn b u br at k)) factLimit (child-room k l h))

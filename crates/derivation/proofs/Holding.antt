@@ -8,7 +8,7 @@ use lib.IntN.{ℤ}
 use Rattle.calculus.specs.Limits.{factLimit, pendingLimit}
 use Rattle.format.specs.Records.{size}
 use Rattle.format.specs.StepForms.{rule}
-use Rattle.format.specs.Checking.{nth, takenTried}
+use Rattle.format.specs.Checking.{childIn, takenTried}
 use Rattle.rows.specs.Rows.{branchOf}
 use Rattle.rows.specs.Work.{Fine}
 use Rattle.rows.proofs.Branches.{length-branch}
@@ -46,7 +46,7 @@ module _ {b : List ℕ} {s : Progress} {w : List ℤ} {c : code.Branch} (h : Hol
 
 -- what is asked for where child k of the step in a body of m bytes is put behind count facts
 abbrev pub Puts : List ℕ → Progress → ℕ → ℕ → List ℤ → ℕ → ℕ → Type 0
-Puts b s at m w count k = Ready b s at m w count × ((conclusionsOf (rule b at) ≡ Several) × (takenTried (branchOf w count) (nth (offered b (asked b s) (branchOf w count) at m) k) ≡ 0))
+Puts b s at m w count k = Ready b s at m w count × ((conclusionsOf (rule b at) ≡ Several) × (takenTried (branchOf w count) (childIn (offered b (asked b s) (branchOf w count) at m) k) ≡ 0))
 
 pub puts : (b : List ℕ) (s : Progress) (w : List ℤ) (at n k m count : ℕ) → Posed b s → Splits b (asked b s) (branchOf w count) at n → conclusionsOf (rule b (at + 6)) ≡ Several → Fine w count → 1 ≤ k → k ≤ n
     → m ≡ size b at → Puts b s (at + 6) m w count k

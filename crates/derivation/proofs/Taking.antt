@@ -17,7 +17,7 @@ use Rattle.calculus.specs.Steps.{shape}
 use Rattle.calculus.proofs.Shapes.{children-shape}
 use Rattle.format.specs.Records.{size}
 use Rattle.format.specs.StepForms.{rule, lengthFits, stepAt}
-use Rattle.format.specs.Checking.{fits, orNone, childrenWithin, roomForAll, roomToPend, allTried, takenTried, nth}
+use Rattle.format.specs.Checking.{fits, orNone, childrenWithin, roomForAll, roomToPend, allTried, takenTried, childIn}
 use Rattle.format.proofs.Faults.{none-applies, and-true, not-both}
 use Rattle.rows.specs.Rows.{branchOf}
 use Rattle.rows.specs.Work.{Fine}
@@ -55,7 +55,7 @@ module _ (b : List ℕ) (u : Question) (br : Branch) (at m : ℕ) (em : m ≡ si
   no-children e = sym (e ∙ ap (λ (i : ℕ). offered b u br (at + 6) i) em)
 
   -- a rule with one conclusion: "all children" are the one
-  pub one-tried : lengthFits b (at + 6) m ≡ true → conclusionsOf (rule b (at + 6)) ≡ One → (f : ℕ) → f ≡ takenTried br (nth given 1) → (pending : ℕ) → f ≡ allTried br pending given
+  pub one-tried : lengthFits b (at + 6) m ≡ true → conclusionsOf (rule b (at + 6)) ≡ One → (f : ℕ) → f ≡ takenTried br (childIn given 1) → (pending : ℕ) → f ≡ allTried br pending given
   one-tried l c f e pending = e ∙ sym (tried-once br pending given (one-conclusion u br b (at + 6) m l c))
 
   -- its first child stands behind the branch

@@ -12,15 +12,15 @@ use borrow.Author.Tests.{ltb-true, leb-true, le-leb, lt-ltb}
 use Rattle.calculus.specs.Limits.{ticketBytes, factLimit}
 use Rattle.calculus.specs.Facts.{Question}
 use Rattle.format.specs.Records.{kind, records, need}
-use Rattle.format.specs.Question.{Progress, fresh, formFault, roomFor, orCrowded, fault, advanced, Reading, Stopped, Ended, ending, readFrom, readBy, question, questionForm, asked}
+use Rattle.format.specs.Question.{Progress, unread, formFault, roomFor, orCrowded, questionFault, questionAdvanced, Reading, Stopped, Ended, ending, readFrom, readBy, question, questionForm, questionIn}
 use Rattle.format.proofs.Faults.{none-applies}
 use Rattle.format.proofs.Entries.{QuestionInRange, Entry, head, literal, constraint, entry}
 
 -- nothing was read yet, or a head and what is in range behind it
 abbrev Ready : Progress → Type 0
-Ready s = (s ≡ fresh) ⊎ ((1 ≤ s .last) × QuestionInRange (s .question))
+Ready s = (s ≡ unread) ⊎ ((1 ≤ s .last) × QuestionInRange (s .question))
 
-before-head : (s : Progress) → Ready s → s .last ≡ 0 → s ≡ fresh
+before-head : (s : Progress) → Ready s → s .last ≡ 0 → s ≡ unread
 before-head s (inl e) h = e
 before-head s (inr (l, d)) h = absurd (omega arith)
 
@@ -61,21 +61,21 @@ module _ (b : List ℕ) (s : Progress) (h : Ready s) (at : ℕ) (v : Question) w
       room true e r = absurd (omega (arith, leb-true (kind b at) 2 e))
       room false e r = omega (arith, ltb-true (length (s .question .constraints)) factLimit r)
 
-advanced-ready : (b : List ℕ) (s : Progress) (at : ℕ) → formFault b s at ≡ 0 → Ready s → Ready (advanced b s at)
-unfolding advanced
-advanced-ready b s at e h = entry-ready b s h at (advanced b s at .question) (entry b s at e)
+advanced-ready : (b : List ℕ) (s : Progress) (at : ℕ) → formFault b s at ≡ 0 → Ready s → Ready (questionAdvanced b s at)
+unfolding questionAdvanced
+advanced-ready b s at e h = entry-ready b s h at (questionAdvanced b s at .question) (entry b s at e)
 
 -- without 10 the form is left
-clean : (b : List ℕ) (s : Progress) (at : ℕ) → fault b s at ≡ 0 → (formFault b s at ≡ 0) × (roomFor (s .question) (kind b at) ≡ true)
-unfolding fault
+clean : (b : List ℕ) (s : Progress) (at : ℕ) → questionFault b s at ≡ 0 → (formFault b s at ≡ 0) × (roomFor (s .question) (kind b at) ≡ true)
+unfolding questionFault
 clean b s at e = go (formFault b s at) e
   where
     go : (c : ℕ) → orCrowded c (roomFor (s .question) (kind b at)) ≡ 0 → (c ≡ 0) × (roomFor (s .question) (kind b at) ≡ true)
     go zero e = (refl, none-applies 9 (roomFor (s .question) (kind b at)) 0 e .0)
     go (suc c) e = absurd (omega arith)
 
-→clean : (b : List ℕ) (s : Progress) (at : ℕ) → formFault b s at ≡ 0 → roomFor (s .question) (kind b at) ≡ true → fault b s at ≡ 0
-unfolding fault
+→clean : (b : List ℕ) (s : Progress) (at : ℕ) → formFault b s at ≡ 0 → roomFor (s .question) (kind b at) ≡ true → questionFault b s at ≡ 0
+unfolding questionFault
 →clean b s at e r = ap (λ c. orCrowded c (roomFor (s .question) (kind b at))) e ∙ ap (λ x. need 10 x 0) r
 
 -- ---- all records
@@ -83,20 +83,20 @@ unfolding fault
 -- reading by a test comes from s at record r to t at position to and record q
 data Reads (test : List ℕ → Progress → ℕ → ℕ) (b : List ℕ) : Progress → ℕ → List ℕ → Progress → ℕ → ℕ → Type 0 where
   ended : {s : Progress} {r at : ℕ} {ats : List ℕ} → ending (kind b at) ≡ true → Reads test b s r (at ∷ ats) s at r
-  further : {s t : Progress} {r at to q : ℕ} {ats : List ℕ} → ending (kind b at) ≡ false → test b s at ≡ 0 → Reads test b (advanced b s at) (suc r) ats t to q → Reads test b s r (at ∷ ats) t to q
+  further : {s t : Progress} {r at to q : ℕ} {ats : List ℕ} → ending (kind b at) ≡ false → test b s at ≡ 0 → Reads test b (questionAdvanced b s at) (suc r) ats t to q → Reads test b s r (at ∷ ats) t to q
 
 module _ (test : List ℕ → Progress → ℕ → ℕ) (b : List ℕ) where
   -- one turn, by the record's kind and its fault
   abbrev turn : Progress → ℕ → ℕ → List ℕ → Bool → ℕ → Reading
-  turn s r at ats x f = elim x as (λ _. Reading) [ true ↦ Ended s at r | false ↦ elim f as (λ _. Reading) [ zero ↦ readFrom test b (advanced b s at) (suc r) ats | suc c ↦ Stopped (suc c) r ] ]
+  turn s r at ats x f = elim x as (λ _. Reading) [ true ↦ Ended s at r | false ↦ elim f as (λ _. Reading) [ zero ↦ readFrom test b (questionAdvanced b s at) (suc r) ats | suc c ↦ Stopped (suc c) r ] ]
 
   reads→ : (s : Progress) (r : ℕ) (ats : List ℕ) {t : Progress} {to q : ℕ} → readFrom test b s r ats ≡ Ended t to q → Reads test b s r ats t to q
   unfolding readFrom
   reads→ s r [] e = absurd (let z : _≡_ {A = ℕ} 0 1 = cc in omega arith)
-  reads→ s r (at ∷ ats) {t} {to} {q} e = go (ending (kind b at)) (test b s at) refl refl e (λ p. reads→ (advanced b s at) (suc r) ats p)
+  reads→ s r (at ∷ ats) {t} {to} {q} e = go (ending (kind b at)) (test b s at) refl refl e (λ p. reads→ (questionAdvanced b s at) (suc r) ats p)
     where
       go : (x : Bool) (f : ℕ) → ending (kind b at) ≡ x → test b s at ≡ f → turn s r at ats x f ≡ Ended t to q
-          → (readFrom test b (advanced b s at) (suc r) ats ≡ Ended t to q → Reads test b (advanced b s at) (suc r) ats t to q) → Reads test b s r (at ∷ ats) t to q
+          → (readFrom test b (questionAdvanced b s at) (suc r) ats ≡ Ended t to q → Reads test b (questionAdvanced b s at) (suc r) ats t to q) → Reads test b s r (at ∷ ats) t to q
       go true f k c p ih =
           let z : s ≡ t = cc in
           let w : at ≡ to = cc in
@@ -115,40 +115,40 @@ reads-ready (ended k) h = h
 reads-ready {b} (further {s = s} {at = at} k c g) h = reads-ready g (advanced-ready b s at c h)
 
 -- what is read with 10 is read without
-reads-form : {b : List ℕ} {s t : Progress} {r to q : ℕ} {ats : List ℕ} → Reads fault b s r ats t to q → Reads formFault b s r ats t to q
+reads-form : {b : List ℕ} {s t : Progress} {r to q : ℕ} {ats : List ℕ} → Reads questionFault b s r ats t to q → Reads formFault b s r ats t to q
 reads-form (ended k) = ended k
 reads-form {b} (further {s = s} {at = at} k c g) = further k (clean b s at c .0) (reads-form g)
 
 -- and has no more than 128 constraints
-reads-few : {b : List ℕ} {s t : Progress} {r to q : ℕ} {ats : List ℕ} → Reads fault b s r ats t to q → Ready s → length (s .question .constraints) ≤ factLimit → length (t .question .constraints) ≤ factLimit
+reads-few : {b : List ℕ} {s t : Progress} {r to q : ℕ} {ats : List ℕ} → Reads questionFault b s r ats t to q → Ready s → length (s .question .constraints) ≤ factLimit → length (t .question .constraints) ≤ factLimit
 reads-few (ended k) h l = l
 reads-few {b} (further {s = s} {at = at} k c g) h l =
     let (f, r) = clean b s at c in
-    reads-few g (advanced-ready b s at f h) (entry-few b s h at (advanced b s at .question) (entry b s at f) r l)
+    reads-few g (advanced-ready b s at f h) (entry-few b s h at (questionAdvanced b s at .question) (entry b s at f) r l)
 
 -- what is read without 10 and has no more is read with it
 reads-room : {b : List ℕ} {s t : Progress} {r to q : ℕ} {ats : List ℕ} → Reads formFault b s r ats t to q → Ready s → length (t .question .constraints) ≤ factLimit
-    → (length (s .question .constraints) ≤ length (t .question .constraints)) × Reads fault b s r ats t to q
+    → (length (s .question .constraints) ≤ length (t .question .constraints)) × Reads questionFault b s r ats t to q
 reads-room (ended k) h l = (omega arith, ended k)
 reads-room {b} {t = t} (further {s = s} {at = at} k c g) h l =
     let (grows, later) = reads-room g (advanced-ready b s at c h) l in
-    let (less, room) = entry-room b s h at (advanced b s at .question) (length (t .question .constraints)) (entry b s at c) grows l in
+    let (less, room) = entry-room b s h at (questionAdvanced b s at .question) (length (t .question .constraints)) (entry b s at c) grows l in
     (less, further k (→clean b s at c room) later)
 
 -- ---- the whole question
 
 abbrev bySize : (List ℕ → Progress → ℕ → ℕ) → List ℕ → Bool → Reading
-bySize test b x = elim x as (λ _. Reading) [ false ↦ Stopped 2 0 | true ↦ readFrom test b fresh 0 (records b 0) ]
+bySize test b x = elim x as (λ _. Reading) [ false ↦ Stopped 2 0 | true ↦ readFrom test b unread 0 (records b 0) ]
 
-whole→ : (test : List ℕ → Progress → ℕ → ℕ) (b : List ℕ) {s : Progress} {at r : ℕ} → readBy test b ≡ Ended s at r → (leb (length b) ticketBytes ≡ true) × Reads test b fresh 0 (records b 0) s at r
+whole→ : (test : List ℕ → Progress → ℕ → ℕ) (b : List ℕ) {s : Progress} {at r : ℕ} → readBy test b ≡ Ended s at r → (leb (length b) ticketBytes ≡ true) × Reads test b unread 0 (records b 0) s at r
 unfolding readBy
 whole→ test b {s} {at} {r} e = go (leb (length b) ticketBytes) e
   where
-    go : (x : Bool) → bySize test b x ≡ Ended s at r → (x ≡ true) × Reads test b fresh 0 (records b 0) s at r
+    go : (x : Bool) → bySize test b x ≡ Ended s at r → (x ≡ true) × Reads test b unread 0 (records b 0) s at r
     go false e = absurd (let z : _≡_ {A = ℕ} 0 1 = cc in omega arith)
-    go true e = (refl, reads→ test b fresh 0 (records b 0) e)
+    go true e = (refl, reads→ test b unread 0 (records b 0) e)
 
-→whole : (test : List ℕ → Progress → ℕ → ℕ) (b : List ℕ) {s : Progress} {at r : ℕ} → leb (length b) ticketBytes ≡ true → Reads test b fresh 0 (records b 0) s at r → readBy test b ≡ Ended s at r
+→whole : (test : List ℕ → Progress → ℕ → ℕ) (b : List ℕ) {s : Progress} {at r : ℕ} → leb (length b) ticketBytes ≡ true → Reads test b unread 0 (records b 0) s at r → readBy test b ≡ Ended s at r
 unfolding readBy
 →whole test b l h = ap (bySize test b) l ∙ →reads test b h
 
@@ -157,14 +157,14 @@ pub asked-in-range : (b : List ℕ) {s : Progress} {at r : ℕ} → questionForm
 asked-in-range b {s} e h = behind-head s (reads-ready (whole→ formFault b e .1) (inl refl)) h
 
 pub question→form : (b : List ℕ) {s : Progress} {at r : ℕ} → question b ≡ Ended s at r → questionForm b ≡ Ended s at r
-question→form b e = let (l, h) = whole→ fault b e in →whole formFault b l (reads-form h)
+question→form b e = let (l, h) = whole→ questionFault b e in →whole formFault b l (reads-form h)
 
 pub form→question : (b : List ℕ) {s : Progress} {at r : ℕ} → questionForm b ≡ Ended s at r → length (s .question .constraints) ≤ factLimit → question b ≡ Ended s at r
-form→question b e few = let (l, h) = whole→ formFault b e in →whole fault b l (reads-room h (inl refl) few .1)
+form→question b e few = let (l, h) = whole→ formFault b e in →whole questionFault b l (reads-room h (inl refl) few .1)
 
 pub question-few : (b : List ℕ) {s : Progress} {at r : ℕ} → question b ≡ Ended s at r → length (s .question .constraints) ≤ factLimit
-question-few b e = reads-few (whole→ fault b e .1) (inl refl) (omega arith)
+question-few b e = reads-few (whole→ questionFault b e .1) (inl refl) (omega arith)
 
 -- behind a head reading ends with a question
-pub headed-asked : (s : Progress) (at r : ℕ) → leb 1 (s .last) ≡ true → asked (Ended s at r) ≡ some (s .question)
+pub headed-asked : (s : Progress) (at r : ℕ) → leb 1 (s .last) ≡ true → questionIn (Ended s at r) ≡ some (s .question)
 headed-asked s at r e = rw e

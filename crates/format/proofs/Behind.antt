@@ -16,7 +16,7 @@ use Rattle.calculus.specs.Instances.{StepInRange}
 use Rattle.calculus.specs.Walk.{Walk, working, closed, enter}
 use Rattle.calculus.specs.Limits.{valueLimit}
 use Rattle.format.specs.Records.{size, kind, next, whole, need}
-use Rattle.format.specs.StepForms.{rule, child, lengthFits, operandsInRange, stepAt, childInRange}
+use Rattle.format.specs.StepForms.{rule, childField, lengthFits, operandsInRange, stepAt, childInRange}
 use Rattle.format.specs.Reading.{State, proving, taking, modelled, Method, stepFault, modelAt, modelFault, bodyFault, lastFault, fault, advanced, Ticket, Faulty, Done, readSteps}
 use Rattle.format.specs.ProperForm.{stepsAt}
 use Rattle.format.specs.Fields.{allWithin}
@@ -44,8 +44,8 @@ record StepAt (b : List ℕ) (u : Question) (ok : Step → ℕ → Bool) (at : �
   is-step : kind b at ≡ 6
   fits : lengthFits b (at + 6) (size b at) ≡ true
   operands : operandsInRange b (u .p) (columnCount u) (rule b (at + 6)) (at + 6) (size b at) ≡ true
-  child-ok : ok (stepAt b (at + 6) (size b at)) (child b (at + 6)) ≡ true
-  holds : t ≡ (stepAt b (at + 6) (size b at), child b (at + 6))
+  child-ok : ok (stepAt b (at + 6) (size b at)) (childField b (at + 6)) ≡ true
+  holds : t ≡ (stepAt b (at + 6) (size b at), childField b (at + 6))
 
 -- the records at these positions are the steps ts, the model where there is one, and an end
 pub Formed : List ℕ → Question → (Step → ℕ → Bool) → List ℕ → List (Step × ℕ) → Option (List ℤ) → Type 0
@@ -57,7 +57,7 @@ Formed b u ok (at ∷ ats) (t ∷ ts) o = StepAt b u ok at t × Formed b u ok at
 not-six : (b : List ℕ) (at : ℕ) (ats : List ℕ) (k : ℕ) → kind b at ≡ k → eqb k 6 ≡ false → stepsAt b (at ∷ ats) ≡ []
 unfolding stepsAt
 not-six b at ats k e f =
-    ap (λ x. elim x as (λ _. List (Step × ℕ)) [ false ↦ [] | true ↦ (stepAt b (at + 6) (size b at), child b (at + 6)) ∷ stepsAt b ats ]) (ap (λ z. eqb z 6) e ∙ f)
+    ap (λ x. elim x as (λ _. List (Step × ℕ)) [ false ↦ [] | true ↦ (stepAt b (at + 6) (size b at), childField b (at + 6)) ∷ stepsAt b ats ]) (ap (λ z. eqb z 6) e ∙ f)
 
 -- they are the steps that the bytes hold
 pub formed-steps : (b : List ℕ) (u : Question) (ok : Step → ℕ → Bool) (ats : List ℕ) (ts : List (Step × ℕ)) (o : Option (List ℤ)) → Formed b u ok ats ts o → stepsAt b ats ≡ ts
@@ -66,7 +66,7 @@ formed-steps b u ok [] ts o h = absurd h
 formed-steps b u ok (at ∷ ats) [] none h = not-six b at ats 8 (h .is-end) refl
 formed-steps b u ok (at ∷ ats) [] (some m) h = not-six b at ats 7 (h .0 .is-model) refl
 formed-steps b u ok (at ∷ ats) (t ∷ ts) o (h, hs) =
-    ap (λ x. elim x as (λ _. List (Step × ℕ)) [ false ↦ [] | true ↦ (stepAt b (at + 6) (size b at), child b (at + 6)) ∷ stepsAt b ats ]) (ap (λ z. eqb z 6) (h .is-step))
+    ap (λ x. elim x as (λ _. List (Step × ℕ)) [ false ↦ [] | true ↦ (stepAt b (at + 6) (size b at), childField b (at + 6)) ∷ stepsAt b ats ]) (ap (λ z. eqb z 6) (h .is-step))
     ∙ ap₂ (λ x xs. x ∷ xs) (sym (h .holds)) (formed-steps b u ok ats ts o hs)
 
 -- each is in range
@@ -169,11 +169,11 @@ module _ {B C : Type 0} (w : Method B C) (b : List ℕ) (u : Question) where
       (a3 .0, subst (λ x. cond x (lastFault w b s at) body ≡ 0) k (a3 .1))
 
   step→ : (ok : Step → ℕ → Bool) (at later : ℕ) → whole b at ≡ true → eqb (kind b at) 6 ≡ true
-      → stepFault b u (ok (stepAt b (at + 6) (size b at)) (child b (at + 6))) later (at + 6) (size b at) ≡ 0
-      → StepAt b u ok at (stepAt b (at + 6) (size b at), child b (at + 6)) × (later ≡ 0)
+      → stepFault b u (ok (stepAt b (at + 6) (size b at)) (childField b (at + 6))) later (at + 6) (size b at) ≡ 0
+      → StepAt b u ok at (stepAt b (at + 6) (size b at), childField b (at + 6)) × (later ≡ 0)
   step→ ok at later h k e =
       let inRange : Bool = operandsInRange b (u .p) (columnCount u) (rule b (at + 6)) (at + 6) (size b at) in
-      let childFits : Bool = ok (stepAt b (at + 6) (size b at)) (child b (at + 6)) in
+      let childFits : Bool = ok (stepAt b (at + 6) (size b at)) (childField b (at + 6)) in
       let a5 = none-applies 4 (lengthFits b (at + 6) (size b at)) (need 6 (inRange && childFits) later) e in
       let a6 = none-applies 5 (inRange && childFits) later (a5 .1) in
       let a = and-true inRange childFits (a6 .0) in
@@ -203,14 +203,14 @@ module _ {B C : Type 0} (w : Method B C) (b : List ℕ) (u : Question) where
       On = (t : State B C) → readSteps w b u t (suc r) ats ≡ Done v s' → Read w b u t ats v s'
 
       taken-or-model : (br : B) (y : Bool) → eqb (kind b at) 6 ≡ y → whole b at ≡ true
-          → cond y (stepFault b u (childInRange (u .n) (stepAt b (at + 6) (size b at)) (child b (at + 6))) (w .takenFault br (stepAt b (at + 6) (size b at)) (child b (at + 6))) (at + 6) (size b at))
+          → cond y (stepFault b u (childInRange (u .n) (stepAt b (at + 6) (size b at)) (childField b (at + 6))) (w .takenFault br (stepAt b (at + 6) (size b at)) (childField b (at + 6))) (at + 6) (size b at))
           (need 4 (eqb (kind b at) 7) (modelFault b u (w .leafFault br (modelAt b u (at + 6))) (at + 6) (size b at))) ≡ 0
-          → readSteps w b u (cond y (taking (w .taken br (stepAt b (at + 6) (size b at)) (child b (at + 6)))) (modelled br (modelAt b u (at + 6)))) (suc r) ats ≡ Done v s'
+          → readSteps w b u (cond y (taking (w .taken br (stepAt b (at + 6) (size b at)) (childField b (at + 6)))) (modelled br (modelAt b u (at + 6)))) (suc r) ats ≡ Done v s'
           → On → Read w b u (taking br) (at ∷ ats) v s'
       taken-or-model br true y h f e ih =
-          let (a, l) = step→ (childInRange (u .n)) at (w .takenFault br (stepAt b (at + 6) (size b at)) (child b (at + 6))) h y f in
-          let g = ih (taking (w .taken br (stepAt b (at + 6) (size b at)) (child b (at + 6)))) e in
-          record { steps = (stepAt b (at + 6) (size b at), child b (at + 6)) ∷ g .steps; model = g .model; formed = (a, g .formed); same-question = g .same-question; taken = (l, g .taken) }
+          let (a, l) = step→ (childInRange (u .n)) at (w .takenFault br (stepAt b (at + 6) (size b at)) (childField b (at + 6))) h y f in
+          let g = ih (taking (w .taken br (stepAt b (at + 6) (size b at)) (childField b (at + 6)))) e in
+          record { steps = (stepAt b (at + 6) (size b at), childField b (at + 6)) ∷ g .steps; model = g .model; formed = (a, g .formed); same-question = g .same-question; taken = (l, g .taken) }
       taken-or-model br false y h f e ih =
           let (a, l) = model→ at (w .leafFault br (modelAt b u (at + 6))) h f in
           let g = ih (modelled br (modelAt b u (at + 6))) e in
@@ -224,10 +224,10 @@ module _ {B C : Type 0} (w : Method B C) (b : List ℕ) (u : Question) where
           record { steps = []; model = none; formed = g .0; same-question = cc; taken = (g .1, cc) }
       turned (proving (working br ss)) zero false p q e ih =
           let (h, f) = body→ (proving (working br ss)) at q p in
-          let a4 = none-applies 3 (eqb (kind b at) 6) (stepFault b u (eqb (child b (at + 6)) 0) (w .splitFault br ss (stepAt b (at + 6) (size b at))) (at + 6) (size b at)) f in
+          let a4 = none-applies 3 (eqb (kind b at) 6) (stepFault b u (eqb (childField b (at + 6)) 0) (w .splitFault br ss (stepAt b (at + 6) (size b at))) (at + 6) (size b at)) f in
           let (a, l) = step→ (λ st c. eqb c 0) at (w .splitFault br ss (stepAt b (at + 6) (size b at))) h (a4 .0) (a4 .1) in
           let g = ih (proving (enter (w .add) br (w .children br (stepAt b (at + 6) (size b at))) ss)) e in
-          record { steps = (stepAt b (at + 6) (size b at), child b (at + 6)) ∷ g .steps; model = g .model; formed = (a, g .formed); same-question = g .same-question; taken = (l, g .taken) }
+          record { steps = (stepAt b (at + 6) (size b at), childField b (at + 6)) ∷ g .steps; model = g .model; formed = (a, g .formed); same-question = g .same-question; taken = (l, g .taken) }
       turned (proving closed) zero false p q e ih = absurd (let z : _≡_ {A = ℕ} 4 0 = body→ (proving closed) at q p .1 in omega arith)
       turned (taking br) zero false p q e ih = let (h, f) = body→ (taking br) at q p in taken-or-model br (eqb (kind b at) 6) refl h f e ih
       turned (modelled br m) zero false p q e ih = absurd (let z : _≡_ {A = ℕ} 4 0 = body→ (modelled br m) at q p .1 in omega arith)
@@ -249,10 +249,10 @@ module _ {B C : Type 0} (w : Method B C) (b : List ℕ) (u : Question) where
       ∙ ap (λ k. cond (eqb k 8) (lastFault w b s at) (bodyFault w b u s k (at + 6) (size b at))) e
       ∙ ap (λ x. cond x (lastFault w b s at) (bodyFault w b u s k (at + 6) (size b at))) f
 
-  step-fault : (ok : Step → ℕ → Bool) (at later : ℕ) {t : Step × ℕ} → StepAt b u ok at t → stepFault b u (ok (stepAt b (at + 6) (size b at)) (child b (at + 6))) later (at + 6) (size b at) ≡ later
+  step-fault : (ok : Step → ℕ → Bool) (at later : ℕ) {t : Step × ℕ} → StepAt b u ok at t → stepFault b u (ok (stepAt b (at + 6) (size b at)) (childField b (at + 6))) later (at + 6) (size b at) ≡ later
   step-fault ok at later h =
       let inRange : Bool = operandsInRange b (u .p) (columnCount u) (rule b (at + 6)) (at + 6) (size b at) in
-      let childFits : Bool = ok (stepAt b (at + 6) (size b at)) (child b (at + 6)) in
+      let childFits : Bool = ok (stepAt b (at + 6) (size b at)) (childField b (at + 6)) in
       passed 5 (lengthFits b (at + 6) (size b at)) (need 6 (inRange && childFits) later) (h .fits) ∙ passed 6 (inRange && childFits) later (ap₂ _&&_ (h .operands) (h .child-ok))
 
   model-fault : (at later : ℕ) {m : List ℤ} → ModelAt b u at m → modelFault b u later (at + 6) (size b at) ≡ later
@@ -268,7 +268,7 @@ module _ {B C : Type 0} (w : Method B C) (b : List ℕ) (u : Question) where
       ap₂ (turn (taking br) r at ats)
       (body-fault (taking br) at 7 (h .is-whole) (h .is-model) refl ∙ model-fault at (w .leafFault br (modelAt b u (at + 6))) h ∙ ap (w .leafFault br) (sym (h .holds)) ∙ f)
       (ap (λ k. eqb k 8) (h .is-model))
-      ∙ ap (λ k. readSteps w b u (cond (eqb k 6) (taking (w .taken br (stepAt b (at + 6) (size b at)) (child b (at + 6)))) (modelled br (modelAt b u (at + 6)))) (suc r) ats) (h .is-model)
+      ∙ ap (λ k. readSteps w b u (cond (eqb k 6) (taking (w .taken br (stepAt b (at + 6) (size b at)) (childField b (at + 6)))) (modelled br (modelAt b u (at + 6)))) (suc r) ats) (h .is-model)
       ∙ ap (λ m. readSteps w b u (modelled br m) (suc r) ats) (sym (h .holds))
       ∙ →done (modelled br m) (suc r) ats [] none hs (g, k)
   →done (modelled br v) r (at ∷ ats) [] (some m) h k = absurd k
@@ -282,10 +282,10 @@ module _ {B C : Type 0} (w : Method B C) (b : List ℕ) (u : Question) where
   →done (proving closed) r (at ∷ ats) (t ∷ ts) o h k = absurd k
   →done (taking br) r (at ∷ ats) (t ∷ ts) o (h, hs) (f, k) =
       ap₂ (turn (taking br) r at ats)
-      (body-fault (taking br) at 6 (h .is-whole) (h .is-step) refl ∙ step-fault (childInRange (u .n)) at (w .takenFault br (stepAt b (at + 6) (size b at)) (child b (at + 6))) h
+      (body-fault (taking br) at 6 (h .is-whole) (h .is-step) refl ∙ step-fault (childInRange (u .n)) at (w .takenFault br (stepAt b (at + 6) (size b at)) (childField b (at + 6))) h
       ∙ ap (λ (t : Step × ℕ). w .takenFault br (t .0) (t .1)) (sym (h .holds)) ∙ f)
       (ap (λ k. eqb k 8) (h .is-step))
-      ∙ ap (λ k. readSteps w b u (cond (eqb k 6) (taking (w .taken br (stepAt b (at + 6) (size b at)) (child b (at + 6)))) (modelled br (modelAt b u (at + 6)))) (suc r) ats) (h .is-step)
+      ∙ ap (λ k. readSteps w b u (cond (eqb k 6) (taking (w .taken br (stepAt b (at + 6) (size b at)) (childField b (at + 6)))) (modelled br (modelAt b u (at + 6)))) (suc r) ats) (h .is-step)
       ∙ ap (λ (t : Step × ℕ). readSteps w b u (taking (w .taken br (t .0) (t .1))) (suc r) ats) (sym (h .holds))
       ∙ →done (taking (w .taken br (t .0) (t .1))) (suc r) ats ts o hs k
   →done (modelled br v) r (at ∷ ats) (t ∷ ts) o h k = absurd k

@@ -14,9 +14,9 @@ use Rattle.calculus.specs.Facts.{Question}
 use Rattle.calculus.specs.Steps.{Step}
 use Rattle.calculus.specs.Walk.{working}
 use Rattle.format.specs.Records.{size, kind, next, whole, records, need}
-use Rattle.format.specs.Question.{Reading, Stopped, Ended, question, questionForm, asked}
+use Rattle.format.specs.Question.{Reading, Stopped, Ended, question, questionForm, questionIn}
 use Rattle.format.specs.Reading.{State, proving, taking, Method, Done, readSteps, claimAt, claimFault, begin, readBehind}
-use Rattle.format.specs.ProperForm.{stepsAt, stepsBehind, takenSteps}
+use Rattle.format.specs.ProperForm.{stepsAt, stepsBehind, stepsWithChild}
 use Rattle.format.proofs.Faults.{none-applies, and-true}
 use Rattle.format.proofs.StepTurns.{atClaim, claim-clean}
 use Rattle.format.proofs.Entries.{QuestionInRange}
@@ -49,7 +49,7 @@ claimed→form {b} c = record { last = c .last; position = c .position; number =
 abbrev pub form→claimed : {b : List ℕ} {u : Question} → length (u .constraints) ≤ factLimit → Claimed b (questionForm b) u → Claimed b (question b) u
 form→claimed {b} l c = record { last = c .last; position = c .position; number = c .number; ended = form→question b (c .ended) l; claim-formed = c .claim-formed }
 
-pub claimed-steps : {b : List ℕ} {u : Question} (c : Claimed b (questionForm b) u) → takenSteps b ≡ stepsAt b (behindClaim c)
+pub claimed-steps : {b : List ℕ} {u : Question} (c : Claimed b (questionForm b) u) → stepsWithChild b ≡ stepsAt b (behindClaim c)
 claimed-steps {b} c = ap (stepsBehind b) (c .ended)
 
 claim-headed : (b : List ℕ) (last at later : ℕ) → need 3 (whole b at) (need 4 (leb 1 last && eqb (kind b at) 5) later) ≡ 0 → 1 ≤ last
@@ -64,8 +64,8 @@ claimed-headed {b} c = claim-headed b (c .last) (c .position) (need 5 (eqb (size
 pub claimed-in-range : {b : List ℕ} {u : Question} → Claimed b (questionForm b) u → QuestionInRange u
 claimed-in-range {b} c = asked-in-range b (c .ended) (claimed-headed c)
 
-pub claimed-asked : {b : List ℕ} {g : Reading} {u : Question} → Claimed b g u → asked g ≡ some u
-claimed-asked {b} {g} {u} c = ap asked (c .ended) ∙ headed-asked (record { last = c .last; question = u }) (c .position) (c .number) (le-leb 1 (c .last) (claimed-headed c))
+pub claimed-asked : {b : List ℕ} {g : Reading} {u : Question} → Claimed b g u → questionIn g ≡ some u
+claimed-asked {b} {g} {u} c = ap questionIn (c .ended) ∙ headed-asked (record { last = c .last; question = u }) (c .position) (c .number) (le-leb 1 (c .last) (claimed-headed c))
 
 module _ {B C : Type 0} (method : Question → Method B C) (b : List ℕ) where
   abbrev pub ReadBehind : Reading → Question → State B C → Type 0

@@ -11,11 +11,11 @@ use Rattle.lists.specs.Lists.{All}
 use Rattle.calculus.specs.Facts.{Question, columnCount}
 use Rattle.calculus.specs.Instances.{StepInRange}
 use Rattle.format.specs.Fields.{u16, u32}
-use Rattle.format.specs.StepForms.{Rule, sum, branch, apart, aConf, sConf, sProp, lIntro, lValid, cCollapse, cValid, cInj, card, join, unknown, Form, formFor, fitsForm, rule, lengthFits, sumPairs, multipliersWithin, pairsIn, cardVariables, variables, operandsInRange, stepOf, stepAt}
+use Rattle.format.specs.StepForms.{Rule, sum, branch, apart, aConf, sConf, sProp, lIntro, lValid, cCollapse, cValid, cInj, card, join, unknown, Form, formFor, fitsForm, rule, lengthFits, sumPairs, multipliersWithin, pairsIn, cardVariables, areVariables, operandsInRange, stepOf, stepAt}
 use Rattle.format.proofs.Faults.{and-true}
 use Rattle.format.proofs.Fields.{length-u16s, length-pairs, length-form}
 
-pub below→ : (p : ℕ) (xs : List ℕ) → variables p xs ≡ true → All (λ x. x < p) xs
+pub below→ : (p : ℕ) (xs : List ℕ) → areVariables p xs ≡ true → All (λ x. x < p) xs
 below→ p xs e = all-true→ (λ x. ltb x p) xs (λ x. ltb-true x p) e
 
 pub at-least : (f : Form) (m : ℕ) → fitsForm f m ≡ true → f .least ≤ m

@@ -13,13 +13,13 @@ use Rattle.lists.proofs.Tests.{true→}
 use Rattle.lists.proofs.Lists.{all-map, all-append, In, distinct-snoc}
 use Rattle.calculus.specs.Limits.{alphabetLimit, variableLimit, literalLimit, lengthLimit}
 use Rattle.calculus.specs.Alphabet.{Over, allCharacters}
-use Rattle.calculus.specs.Facts.{Question, Fact, same, apart, isLiteral, arithmetic, columnCount}
+use Rattle.calculus.specs.Facts.{Question, Fact, same, notSame, isLiteral, arithmetic, columnCount}
 use Rattle.calculus.specs.Strings.{given}
 use Rattle.calculus.proofs.InRange.{HeadInRange, FactInRange, FactsInRange}
 use Rattle.calculus.proofs.Words.{over→, →given}
 use Rattle.format.specs.Fields.{u16, u32, u32s}
 use Rattle.format.specs.Records.{size, kind, whole, need}
-use Rattle.format.specs.Question.{Progress, withLiteral, withFact, headRange, headFault, headOf, textOf, literalFault, stringRange, stringFact, stringFault, formOf, relationOf, arithmeticFault, inPlace, bodyFault, formFault, advanced}
+use Rattle.format.specs.Question.{Progress, withLiteral, withFact, headRange, headFault, headOf, textOf, literalFault, stringRange, stringFact, stringFault, formOf, relationOf, arithmeticFault, inPlace, questionBodyFault, formFault, questionAdvanced}
 use Rattle.format.proofs.Faults.{none-applies, and-true}
 use Rattle.format.proofs.Fields.{length-u32s, length-form}
 
@@ -58,7 +58,7 @@ head-in-range b at m e =
 -- a fact in range before a further literal is in range after it
 still-in-range : (u : Question) (s : List ℕ) (f : Fact) → FactInRange u f → FactInRange (withLiteral u s) f
 still-in-range u s (same x y) h = h
-still-in-range u s (apart x y) h = h
+still-in-range u s (notSame x y) h = h
 still-in-range u s (isLiteral x l) h = (h .0, omega (arith, length-append (u .literals) (s ∷ []), h .1))
 still-in-range u s (arithmetic r e) h = h
 
@@ -90,7 +90,7 @@ literal-in-range b u at m d few e =
 -- a constraint more changes no range
 same-range : (u : Question) (g f : Fact) → FactInRange u f → FactInRange (withFact u g) f
 same-range u g (same x y) h = h
-same-range u g (apart x y) h = h
+same-range u g (notSame x y) h = h
 same-range u g (isLiteral x l) h = h
 same-range u g (arithmetic r e) h = h
 
@@ -165,9 +165,9 @@ module _ (b : List ℕ) (s : Progress) (at : ℕ) where
       let f : Fact = arithmetic (relationOf (u16 b (at + 6))) (formOf b (at + 6 + 2) (size b at / 6 - 1)) in
       constraint k l (more f) (λ d. fact-in-range u f d (length-form b (at + 6 + 2) (size b at / 6 - 1)))
 
-  pub entry : formFault b s at ≡ 0 → Entry b s at (advanced b s at .question)
-  unfolding formFault advanced
+  pub entry : formFault b s at ≡ 0 → Entry b s at (questionAdvanced b s at .question)
+  unfolding formFault questionAdvanced
   entry e =
-      let body : ℕ = bodyFault b u (kind b at) (at + 6) (size b at) in
+      let body : ℕ = questionBodyFault b u (kind b at) (at + 6) (size b at) in
       let a4 = none-applies 3 (inPlace s (kind b at)) body (none-applies 2 (whole b at) (need 4 (inPlace s (kind b at)) body) e .1) in
       by-kind (eqb (kind b at) 1) (eqb (kind b at) 2) (eqb (kind b at) 3) refl refl (a4 .0) (a4 .1)

@@ -6,11 +6,11 @@ use mathlib.Core.List.{List, [], _∷_}
 use lib.ListN.{length, set, length-set, getD}
 use lib.IntN.{ℤ, pos, negsuc}
 use borrow.Author.Tests.{lt-ltb, le-ltb}
-use Rattle.lists.proofs.Lists.{length-along, getD-along, onward-by}
+use Rattle.lists.proofs.Lists.{length-valuesAlong, getD-valuesAlong, placeAfter-by}
 use Rattle.calculus.specs.Limits.{columnLimit}
-use Rattle.calculus.specs.Rows.{zeros}
+use Rattle.calculus.specs.LinearForms.{zeros}
 use Rattle.format.specs.Fields.{signed, u16s, i32s, u32s, pairsAt, fields, u16, u32, i32, pairAt}
-use Rattle.format.specs.Question.{fillRow, formOf}
+use Rattle.format.specs.Question.{fillCoefficients, formOf}
 
 pub signed-low : (v : ℕ) → v < 2147483648 → signed v ≡ pos v
 unfolding signed
@@ -26,26 +26,26 @@ down k = omega arith
 
 pub length-u16s : (b : List ℕ) (at k : ℕ) → length (u16s b at k) ≡ k
 unfolding u16s
-length-u16s b at k = length-along (λ i. i + 2) (u16 b) at k
+length-u16s b at k = length-valuesAlong (λ i. i + 2) (u16 b) at k
 
 pub length-u32s : (b : List ℕ) (at k : ℕ) → length (u32s b at k) ≡ k
 unfolding u32s
-length-u32s b at k = length-along (λ i. i + 4) (u32 b) at k
+length-u32s b at k = length-valuesAlong (λ i. i + 4) (u32 b) at k
 
 pub length-i32s : (b : List ℕ) (at k : ℕ) → length (i32s b at k) ≡ k
 unfolding i32s
-length-i32s b at k = length-along (λ i. i + 4) (i32 b) at k
+length-i32s b at k = length-valuesAlong (λ i. i + 4) (i32 b) at k
 
 pub length-pairs : (b : List ℕ) (at k : ℕ) → length (pairsAt b at k) ≡ k
 unfolding pairsAt
-length-pairs b at k = length-along (λ i. i + 6) (pairAt b) at k
+length-pairs b at k = length-valuesAlong (λ i. i + 6) (pairAt b) at k
 
 -- the fields themselves
 pub field-at : {A : Type 0} (w : ℕ) (read : ℕ → A) (at k j : ℕ) (d : A) → j < k → getD (fields w read at k) j d ≡ read (at + w * j)
-field-at w read at k j d h = getD-along (λ i. i + w) read at k j d h ∙ ap read (onward-by w at j)
+field-at w read at k j d h = getD-valuesAlong (λ i. i + w) read at k j d h ∙ ap read (placeAfter-by w at j)
 
-length-fill : (row : List ℤ) (ts : List (ℕ × ℤ)) → length (fillRow row ts) ≡ length row
-unfolding fillRow
+length-fill : (row : List ℤ) (ts : List (ℕ × ℤ)) → length (fillCoefficients row ts) ≡ length row
+unfolding fillCoefficients
 length-fill row [] = refl
 length-fill row (t ∷ ts) = length-fill (set row (t .0) (t .1)) ts ∙ length-set row (t .0) (t .1)
 

@@ -9,14 +9,14 @@ use lib.ListN.{getD, getElem?}
 use lib.Dec.{T-not, not-T, leb}
 use Rattle.lists.proofs.Tests.{→true, true→}
 use Rattle.calculus.specs.Alphabet.{Over, allCharacters}
-use Rattle.calculus.specs.Facts.{Question, Fact, same, apart, isLiteral, arithmetic, Branch, holds, literal}
+use Rattle.calculus.specs.Facts.{Question, Fact, same, notSame, isLiteral, arithmetic, Branch, holds, literal}
 use Rattle.calculus.specs.Strings.{eqString}
 use Rattle.calculus.specs.Meaning.{Assignment, str, value, For, Meets, Met}
 use Rattle.calculus.proofs.Words.{over→, eqString→, →eqString}
 use Rattle.calculus.proofs.Relations.{holds→, →holds}
 use Rattle.lists.proofs.Lists.{all-at, all-true→}
 use Rattle.format.specs.Records.{next}
-use Rattle.format.specs.Question.{Reading, Stopped, Ended, question, asked, questionOf}
+use Rattle.format.specs.Question.{Reading, Stopped, Ended, question, questionIn, questionOf}
 use Rattle.format.specs.Places.{skip, textAt, texts}
 use Rattle.format.specs.Answer.{answerForm, assignmentOf, outside}
 use Rattle.format.specs.Judging.{Judging, Refused, Judged, judgeAnswer, judgeBehind, judging, meets, meetsAll, Judgement, Refusal, AllMet, Unmet, Says}
@@ -30,13 +30,13 @@ use Rattle.format.proofs.Places.{length-texts}
 
 meets→ : (u : Question) (a : Assignment) (f : Fact) → meets u a f ≡ true → Meets u a f
 meets→ u a (same x y) e = eqString→ (str a x) (str a y) (true→ e)
-meets→ u a (apart x y) e = λ p. T-not (eqString (str a x) (str a y)) (true→ e) (→eqString p)
+meets→ u a (notSame x y) e = λ p. T-not (eqString (str a x) (str a y)) (true→ e) (→eqString p)
 meets→ u a (isLiteral x l) e = eqString→ (str a x) (literal u l) (true→ e)
 meets→ u a (arithmetic r e) h = holds→ r (value a e) (true→ h)
 
 →meets : (u : Question) (a : Assignment) (f : Fact) → Meets u a f → meets u a f ≡ true
 →meets u a (same x y) h = →true (eqString (str a x) (str a y)) (→eqString h)
-→meets u a (apart x y) h = →true (not (eqString (str a x) (str a y))) (not-T (eqString (str a x) (str a y)) (λ t. h (eqString→ (str a x) (str a y) t)))
+→meets u a (notSame x y) h = →true (not (eqString (str a x) (str a y))) (not-T (eqString (str a x) (str a y)) (λ t. h (eqString→ (str a x) (str a y) t)))
 →meets u a (isLiteral x l) h = →true (eqString (str a x) (literal u l)) (→eqString h)
 →meets u a (arithmetic r e) h = →true (holds r (value a e)) (→holds r (value a e) h)
 
@@ -82,7 +82,7 @@ judged-taken b v u a e = behind (question b) refl e
       where
         go : (x : Bool) → leb 1 (s .last) ≡ x → (elim x as (λ _. Judging) [ false ↦ Refused 4 r | true ↦ judgeAnswer (s .question) v ]) ≡ Judged u a → Taken b v u a
         go false h e = absurd (let z : _≡_ {A = ℕ} 0 1 = cc in omega arith)
-        go true h e = answered (s .question) (answerForm v (s .question .p) (s .question .q) 0) (outside v (s .question) (s .question .p) 0 0) refl (ap asked (question→form b p) ∙ headed-asked s at r h) e
+        go true h e = answered (s .question) (answerForm v (s .question .p) (s .question .q) 0) (outside v (s .question) (s .question .p) 0 0) refl (ap questionIn (question→form b p) ∙ headed-asked s at r h) e
 
 -- ---- the theorem
 

@@ -13,11 +13,11 @@ use Rattle.lists.proofs.Lists.{getD-all, all-true→, →all-true}
 use Rattle.lists.proofs.Tests.{→true, true→}
 use Rattle.lists.proofs.Below.{all-below→, →all-below}
 use Rattle.calculus.specs.Limits.{lengthLimit}
-use Rattle.calculus.specs.Facts.{Question, Fact, same, apart, isLiteral, arithmetic, Branch, holds, len}
-use Rattle.calculus.specs.Model.{modelOf}
+use Rattle.calculus.specs.Facts.{Question, Fact, same, notSame, isLiteral, arithmetic, Branch, holds, len}
+use Rattle.calculus.specs.Model.{modelValue}
 use Rattle.calculus.specs.Saturation.{MeetsArithmetic, AcceptedLeaf}
 use Rattle.calculus.specs.SaturationTest.{saturated}
-use Rattle.calculus.specs.Rows.{valueIn}
+use Rattle.calculus.specs.LinearForms.{valueIn}
 use Rattle.calculus.proofs.InRange.{FactsInRange}
 use Rattle.calculus.proofs.Relations.{holds→, →holds}
 use Rattle.calculus.proofs.Leaf.{length-nonneg}
@@ -32,13 +32,13 @@ use Rattle.format.proofs.Entries.{QuestionInRange}
 
 keeps-fact→ : (m : List ℤ) (f : Fact) → keepsFact m f ≡ true → MeetsArithmetic m f
 keeps-fact→ m (same x y) e = tt
-keeps-fact→ m (apart x y) e = tt
+keeps-fact→ m (notSame x y) e = tt
 keeps-fact→ m (isLiteral x l) e = tt
 keeps-fact→ m (arithmetic r e) h = holds→ r (valueIn m e) (true→ h)
 
 →keeps-fact : (m : List ℤ) (f : Fact) → MeetsArithmetic m f → keepsFact m f ≡ true
 →keeps-fact m (same x y) h = refl
-→keeps-fact m (apart x y) h = refl
+→keeps-fact m (notSame x y) h = refl
 →keeps-fact m (isLiteral x l) h = refl
 →keeps-fact m (arithmetic r e) h = →true (holds r (valueIn m e)) (→holds r (valueIn m e) h)
 
@@ -60,7 +60,7 @@ short→ (negsuc n) t = record { le = tt }
 
 module _ (u : Question) (q : QuestionInRange u) (b : Branch) (r : FactsInRange u b) (m : List ℤ) where
   abbrev short : ℕ → Bool
-  short x = leb (natAbs (modelOf u m len x)) lengthLimit
+  short x = leb (natAbs (modelValue u m len x)) lengthLimit
 
   pub unfaulted→accepted : leafFault u b m ≡ 0 → AcceptedLeaf u b m
   unfaulted→accepted e =
@@ -70,14 +70,14 @@ module _ (u : Question) (q : QuestionInRange u) (b : Branch) (r : FactsInRange u
       record {
         met = keeps→ m b (a12 .0);
         saturated = saturated→words u (q .head) b r m (a13 .0);
-        short = λ x h. short→ (modelOf u m len x) (all-below→ (u .p) short (true→ (a14 .0)) x h);
+        short = λ x h. short→ (modelValue u m len x) (all-below→ (u .p) short (true→ (a14 .0)) x h);
       }
 
   pub accepted→unfaulted : AcceptedLeaf u b m → leafFault u b m ≡ 0
   accepted→unfaulted a =
       passed 12 (keeps m b) (need 13 (saturated u b m) (need 14 (shortLengths u m) 0)) (→keeps m b (a .met))
       ∙ passed 13 (saturated u b m) (need 14 (shortLengths u m) 0) (words→saturated u (q .head) b r m (a .saturated))
-      ∙ passed 14 (shortLengths u m) 0 (→true (shortLengths u m) (→all-below (u .p) short (λ x h. →short (modelOf u m len x) (length-nonneg u b m (by-classes u (q .head) b r m (a .saturated)) x h) (a .short x h))))
+      ∙ passed 14 (shortLengths u m) 0 (→true (shortLengths u m) (→all-below (u .p) short (λ x h. →short (modelValue u m len x) (length-nonneg u b m (by-classes u (q .head) b r m (a .saturated)) x h) (a .short x h))))
 
   -- the strings and integers
   pub accepted-answers : length m ≡ u .q + (u .p + u .p) → AcceptedLeaf u b m → Answers u b m (answerOf u b m)

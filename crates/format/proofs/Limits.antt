@@ -12,7 +12,7 @@ use borrow.Author.Tests.{leb-true, ltb-true, le-leb, lt-ltb, leb-false}
 use Rattle.lists.proofs.Lists.{→all-true, all-true→}
 use Rattle.lists.specs.Lists.{All}
 use Rattle.calculus.specs.Limits.{Small, numberLimit, factLimit, pendingLimit}
-use Rattle.calculus.specs.Facts.{Fact, same, apart, isLiteral, arithmetic, Branch}
+use Rattle.calculus.specs.Facts.{Fact, same, notSame, isLiteral, arithmetic, Branch}
 use Rattle.calculus.specs.Derivations.{SmallFact, ChildLimits, SplitLimits}
 use Rattle.format.specs.Records.{need}
 use Rattle.format.specs.Checking.{factWithin, factsWithin, childrenWithin, room, roomForAll, roomToPend, allTried, takenTried}
@@ -27,7 +27,7 @@ unfolding allWithin
 
 fact-within : (f : Fact) → SmallFact f → factWithin f ≡ true
 fact-within (same x y) h = refl
-fact-within (apart x y) h = refl
+fact-within (notSame x y) h = refl
 fact-within (isLiteral x l) h = refl
 fact-within (arithmetic r e) h = →within numberLimit e h
 
@@ -66,7 +66,7 @@ within→ k zs t = all-true→ (within k) zs (λ z. leb-true (natAbs z) k) t
 
 fact-within→ : (f : Fact) → factWithin f ≡ true → SmallFact f
 fact-within→ (same x y) t = tt
-fact-within→ (apart x y) t = tt
+fact-within→ (notSame x y) t = tt
 fact-within→ (isLiteral x l) t = tt
 fact-within→ (arithmetic r e) t = within→ numberLimit e t
 

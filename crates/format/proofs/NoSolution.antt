@@ -16,8 +16,8 @@ use Rattle.calculus.specs.Derivations.{Closes, WithinLimits}
 use Rattle.calculus.proofs.Walks.{walked→closes, closes→walked}
 use Rattle.calculus.proofs.Trees.{closes-sound}
 use Rattle.format.specs.Reading.{State, proving}
-use Rattle.format.specs.Checking.{NoSolution, large, verdict, checker, accepted}
-use Rattle.format.specs.ProperForm.{former, ProperNo, steps, takenSteps}
+use Rattle.format.specs.Checking.{NoSolution, largeEnough, verdict, checker, accepted}
+use Rattle.format.specs.ProperForm.{byShape, ProperNo, steps, stepsWithChild}
 use Rattle.format.specs.Demands.{TH-2, TH-4}
 use Rattle.format.proofs.Behind.{Taken, proving-stays, taking-no-walk}
 use Rattle.format.proofs.Claimed.{claimed-asked, claimed-in-range}
@@ -32,7 +32,7 @@ all-bare u (t ∷ ts) (h, hs) = (h, all-bare u ts hs)
 pub record Closed (b : List ℕ) (u : Question) : Type 0 where
   pub held : Holding b u true none
   pub few : length (u .constraints) ≤ factLimit
-  pub taken : Taken (checker u) (proving (working (u .constraints) [])) (takenSteps b) none (proving closed)
+  pub taken : Taken (checker u) (proving (working (u .constraints) [])) (stepsWithChild b) none (proving closed)
 
 pub accepted→closed : (work answer : ℕ) (b : List ℕ) → verdict work answer b ≡ NoSolution → (u : Question) × Closed b u
 accepted→closed work answer b e =
@@ -41,23 +41,23 @@ accepted→closed work answer b e =
   where
     by-claim : (u : Question) (s : State Branch (List Fact)) → ReadAs checker b u s → length (u .constraints) ≤ factLimit → accepted u s ≡ NoSolution → Closed b u
     by-claim u s (true, o, h, k) few a =
-        let (_, none-left) = proving-stays (checker u) (working (u .constraints) []) (takenSteps b) o k in
-        let (_, ends) = proved→walked u (working (u .constraints) []) (takenSteps b) o s k in
+        let (_, none-left) = proving-stays (checker u) (working (u .constraints) []) (stepsWithChild b) o k in
+        let (_, ends) = proved→walked u (working (u .constraints) []) (stepsWithChild b) o s k in
         record {
           held = subst (Holding b u true) none-left h;
           few = few;
-          taken = subst (λ o. Taken (checker u) (proving (working (u .constraints) [])) (takenSteps b) o (proving closed)) none-left
-              (subst (Taken (checker u) (proving (working (u .constraints) [])) (takenSteps b) o) ends k);
+          taken = subst (λ o. Taken (checker u) (proving (working (u .constraints) [])) (stepsWithChild b) o (proving closed)) none-left
+              (subst (Taken (checker u) (proving (working (u .constraints) [])) (stepsWithChild b) o) ends k);
         }
     by-claim u s (false, o, h, k) few a =
-        let r = taken→reached u (u .constraints) (takenSteps b) o s k in
+        let r = taken→reached u (u .constraints) (stepsWithChild b) o s k in
         absurd (let z : _≡_ {A = ℕ} 0 1 = cc (r .state) in omega arith)
 
 closed→closes : (b : List ℕ) (u : Question) → Closed b u → Closes u (u .constraints) (steps b)
 closed→closes b u c =
     let q = claimed-in-range (c .held .claimed) in
-    walked→closes u (q .head) (u .constraints) (steps b) (q .constraints) (all-bare u (takenSteps b) (steps-in-range (c .held)))
-    (proved→walked u (working (u .constraints) []) (takenSteps b) none (proving closed) (c .taken) .0)
+    walked→closes u (q .head) (u .constraints) (steps b) (q .constraints) (all-bare u (stepsWithChild b) (steps-in-range (c .held)))
+    (proved→walked u (working (u .constraints) []) (stepsWithChild b) none (proving closed) (c .taken) .0)
 
 pub no-solution-sound : TH-4
 no-solution-sound work answer t e =
@@ -65,7 +65,7 @@ no-solution-sound work answer t e =
     let q = claimed-in-range (c .held .claimed) in (
       u,
       claimed-asked (c .held .claimed),
-      λ a f m. closes-sound u (q .literals-differ) a f (closed→closes t u c) (all-bare u (takenSteps t) (steps-in-range (c .held))) m,
+      λ a f m. closes-sound u (q .literals-differ) a f (closed→closes t u c) (all-bare u (stepsWithChild t) (steps-in-range (c .held))) m,
     )
 
 -- ---- proper form under claim 1
@@ -73,15 +73,15 @@ no-solution-sound work answer t e =
 proper-steps : (b : List ℕ) (u : Question) → ProperNo b u → Holding b u true none
 proper-steps b u (w, e) = by-claim (proper→ b u e)
   where
-    by-claim : ReadAs former b u (proving w) → Holding b u true none
-    by-claim (true, o, h, k) = subst (Holding b u true) (proving-stays (former u) (working (length (u .constraints)) []) (takenSteps b) o k .1) h
-    by-claim (false, o, h, k) = absurd (taking-no-walk (former u) (length (u .constraints)) (takenSteps b) o w k)
+    by-claim : ReadAs byShape b u (proving w) → Holding b u true none
+    by-claim (true, o, h, k) = subst (Holding b u true) (proving-stays (byShape u) (working (length (u .constraints)) []) (stepsWithChild b) o k .1) h
+    by-claim (false, o, h, k) = absurd (taking-no-walk (byShape u) (length (u .constraints)) (stepsWithChild b) o w k)
 
-closes→accepted : (work answer : ℕ) (b : List ℕ) (u : Question) → large work answer ≡ true → Holding b u true none → WithinLimits u (steps b) → Closes u (u .constraints) (steps b) → verdict work answer b ≡ NoSolution
+closes→accepted : (work answer : ℕ) (b : List ℕ) (u : Question) → largeEnough work answer ≡ true → Holding b u true none → WithinLimits u (steps b) → Closes u (u .constraints) (steps b) → verdict work answer b ≡ NoSolution
 closes→accepted work answer b u big h l k =
     let q = claimed-in-range (h .claimed) in
-    let walked = closes→walked u (q .head) (u .constraints) (steps b) (q .constraints) (all-bare u (takenSteps b) (steps-in-range h)) k in
-    →verdict work answer b u true none (proving closed) big (l .question) h (walked→proved u (q .head) (working (u .constraints) []) (takenSteps b) (q .constraints, tt) (steps-in-range h) (l .steps) walked)
+    let walked = closes→walked u (q .head) (u .constraints) (steps b) (q .constraints) (all-bare u (stepsWithChild b) (steps-in-range h)) k in
+    →verdict work answer b u true none (proving closed) big (l .question) h (walked→proved u (q .head) (working (u .constraints) []) (stepsWithChild b) (q .constraints, tt) (steps-in-range h) (l .steps) walked)
 
 pub derivations-exact : TH-2
 derivations-exact work answer t u big proper limits =

@@ -7,10 +7,10 @@ use mathlib.Core.Bool.{false, cond}
 use mathlib.Core.List.{List, [], _∷_, _++_}
 use lib.ListN.{length, getD}
 use lib.Dec.{eqb}
-use Rattle.lists.proofs.Lists.{onward-suc, length-along, getD-along, along-snoc}
+use Rattle.lists.proofs.Lists.{placeAfter-suc, length-valuesAlong, getD-valuesAlong, valuesAlong-snoc}
 use Rattle.format.specs.Fields.{u16, u32}
 use Rattle.format.specs.Records.{size, kind, next}
-use Rattle.format.specs.Question.{Progress, withLiteral, withFact, headOf, textOf, constraintOf, extended, advanced}
+use Rattle.format.specs.Question.{Progress, withLiteral, withFact, headOf, textOf, constraintOf, extended, questionAdvanced}
 use Rattle.format.specs.Places.{skip, texts, constraintsAt, literalsFrom, readTo, textAt, constraintAt}
 
 -- ---- positions
@@ -32,7 +32,7 @@ skip-one b (suc k) at h = let e : suc k - 1 ≡ k = omega arith in rw e
 
 pub skip-snoc : (b : List ℕ) (k at : ℕ) → skip b (suc k) at ≡ next b (skip b k at)
 unfolding skip
-skip-snoc b k at = onward-suc (next b) at k
+skip-snoc b k at = placeAfter-suc (next b) at k
 
 -- a record ends before those behind it
 pub skip-room : (b : List ℕ) (j k at : ℕ) → j < k → next b (skip b j at) ≤ skip b k at
@@ -55,40 +55,40 @@ skip-within b k at h g = omega (arith, skip-one b k at h, skip-far b (k - 1) (ne
 
 pub length-texts : (b : List ℕ) (k at : ℕ) → length (texts b k at) ≡ k
 unfolding texts
-length-texts b k at = length-along (next b) (textAt b) at k
+length-texts b k at = length-valuesAlong (next b) (textAt b) at k
 
 pub length-constraints : (b : List ℕ) (k at : ℕ) → length (constraintsAt b k at) ≡ k
 unfolding constraintsAt
-length-constraints b k at = length-along (next b) (constraintAt b) at k
+length-constraints b k at = length-valuesAlong (next b) (constraintAt b) at k
 
 pub text-at : (b : List ℕ) (j k at : ℕ) → j < k → getD (texts b k at) j [] ≡ textAt b (skip b j at)
 unfolding texts skip
-text-at b j k at h = getD-along (next b) (textAt b) at k j [] h
+text-at b j k at h = getD-valuesAlong (next b) (textAt b) at k j [] h
 
 texts-snoc : (b : List ℕ) (k at : ℕ) → texts b (suc k) at ≡ texts b k at ++ (textAt b (skip b k at) ∷ [])
 unfolding texts skip
-texts-snoc b k at = along-snoc (next b) (textAt b) at k
+texts-snoc b k at = valuesAlong-snoc (next b) (textAt b) at k
 
 constraints-snoc : (b : List ℕ) (k at : ℕ) → constraintsAt b (suc k) at ≡ constraintsAt b k at ++ (constraintAt b (skip b k at) ∷ [])
 unfolding constraintsAt skip
-constraints-snoc b k at = along-snoc (next b) (constraintAt b) at k
+constraints-snoc b k at = valuesAlong-snoc (next b) (constraintAt b) at k
 
 -- ---- the head, a literal and a constraint move the numbers only
 
-pub read-head : (b : List ℕ) (s : Progress) (at : ℕ) → kind b at ≡ 1 → readTo b 1 (u32 b (at + 6)) (u16 b (at + 6 + 4)) (u16 b (at + 6 + 6)) 0 0 ≡ advanced b s at
-unfolding advanced texts constraintsAt
+pub read-head : (b : List ℕ) (s : Progress) (at : ℕ) → kind b at ≡ 1 → readTo b 1 (u32 b (at + 6)) (u16 b (at + 6 + 4)) (u16 b (at + 6 + 6)) 0 0 ≡ questionAdvanced b s at
+unfolding questionAdvanced texts constraintsAt
 read-head b s at e = sym (ap (λ k. record { last = k; question = extended b (s .question) k (at + 6) (size b at) }) e)
 
-pub read-literal : (b : List ℕ) (last n p q k at : ℕ) → kind b at ≡ 2 → at ≡ skip b k literalsFrom → readTo b 2 n p q (k + 1) 0 ≡ advanced b (readTo b last n p q k 0) at
-unfolding advanced constraintsAt
+pub read-literal : (b : List ℕ) (last n p q k at : ℕ) → kind b at ≡ 2 → at ≡ skip b k literalsFrom → readTo b 2 n p q (k + 1) 0 ≡ questionAdvanced b (readTo b last n p q k 0) at
+unfolding questionAdvanced constraintsAt
 read-literal b last n p q k at e g =
     ap (λ ts. record { last = 2; question = record { n = n; p = p; q = q; literals = ts; constraints = [] } }) (ap (λ m. texts b m literalsFrom) (add-one k) ∙ texts-snoc b k literalsFrom)
     ∙ sym (ap (λ z. record { last = z; question = extended b (readTo b last n p q k 0 .question) z (at + 6) (size b at) }) e
     ∙ ap (λ z. record { last = 2; question = withLiteral (readTo b last n p q k 0 .question) (textOf b (z + 6) (size b z)) }) g)
 
 pub read-constraint : (b : List ℕ) (last n p q k m at : ℕ) → eqb (kind b at) 1 ≡ false → eqb (kind b at) 2 ≡ false → at ≡ skip b m (skip b k literalsFrom)
-    → readTo b (kind b at) n p q k (m + 1) ≡ advanced b (readTo b last n p q k m) at
-unfolding advanced
+    → readTo b (kind b at) n p q k (m + 1) ≡ questionAdvanced b (readTo b last n p q k m) at
+unfolding questionAdvanced
 read-constraint b last n p q k m at x y g =
     ap (λ fs. record { last = kind b at; question = record { n = n; p = p; q = q; literals = texts b k literalsFrom; constraints = fs } })
     (ap (λ j. constraintsAt b j (skip b k literalsFrom)) (add-one m) ∙ constraints-snoc b m (skip b k literalsFrom))

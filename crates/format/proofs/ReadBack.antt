@@ -22,7 +22,7 @@ use Rattle.calculus.specs.Meaning.{Assignment, For}
 use Rattle.calculus.proofs.Words.{→over}
 use Rattle.format.specs.Fields.{bytesOf, unsigned, signed, u16, u32, u32s, i32s, within, allWithin}
 use Rattle.format.specs.Records.{size, kind, next, whole}
-use Rattle.format.specs.Question.{Reading, question, asked, Stopped, Ended}
+use Rattle.format.specs.Question.{Reading, question, questionIn, Stopped, Ended}
 use Rattle.format.specs.Places.{skip, textAt, texts}
 use Rattle.format.specs.Answer.{recordBytes, characterBytes, integerBytes, stringRecords, encode, answerForm, integersAt, assignmentOf, outside}
 use Rattle.format.specs.Judging.{Judging, Refused, Judged, judgeAnswer, judgeBehind, judging}
@@ -185,7 +185,7 @@ pub answers-judged : TH-3-all
 unfolding judging
 answers-judged b u a e f short values = read (question b) refl e
   where
-    read : (g : Reading) → question b ≡ g → asked g ≡ some u → judgeBehind (question b) (encode a) ≡ Judged u a
+    read : (g : Reading) → question b ≡ g → questionIn g ≡ some u → judgeBehind (question b) (encode a) ≡ Judged u a
     read (Stopped c r) q e = absurd (none-some e)
     read (Ended s at r) q e = headed (leb 1 (s .last)) refl e
       where

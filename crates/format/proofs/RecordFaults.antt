@@ -12,41 +12,41 @@ use Rattle.calculus.specs.Alphabet.{allCharacters}
 use Rattle.calculus.specs.Strings.{given}
 use Rattle.format.specs.Fields.{u16, u32}
 use Rattle.format.specs.Records.{size, kind, next, whole, need}
-use Rattle.format.specs.Question.{Progress, headRange, headFault, textOf, literalFault, kindInPlace, inPlace, bodyFault, formFault, roomFor, orCrowded, fault}
+use Rattle.format.specs.Question.{Progress, headRange, headFault, textOf, literalFault, kindInPlace, inPlace, questionBodyFault, formFault, roomFor, orCrowded, questionFault}
 use Rattle.format.proofs.Faults.{none-applies, and-true}
 
 -- ---- a whole record, of a kind k and a size m
 
 module _ (b : List ℕ) (s : Progress) (at k m : ℕ) (ek : k ≡ kind b at) (em : m ≡ size b at) (h : at + 6 + m ≤ length b) where
   abbrev numbered : ℕ
-  numbered = orCrowded (need 4 (inPlace s k) (bodyFault b (s .question) k (at + 6) m)) (roomFor (s .question) k)
+  numbered = orCrowded (need 4 (inPlace s k) (questionBodyFault b (s .question) k (at + 6) m)) (roomFor (s .question) k)
 
-  by-tests : numbered ≡ fault b s at
-  unfolding fault formFault
+  by-tests : numbered ≡ questionFault b s at
+  unfolding questionFault formFault
   by-tests = rw (ek, em) (rw (le-leb (next b at) (length b) (rw em at h)))
 
-  pub out-of-place : inPlace s k ≡ false → 4 ≡ fault b s at
-  out-of-place e = sym (ap (λ t. orCrowded (need 4 t (bodyFault b (s .question) k (at + 6) m)) (roomFor (s .question) k)) e) ∙ by-tests
+  pub out-of-place : inPlace s k ≡ false → 4 ≡ questionFault b s at
+  out-of-place e = sym (ap (λ t. orCrowded (need 4 t (questionBodyFault b (s .question) k (at + 6) m)) (roomFor (s .question) k)) e) ∙ by-tests
 
-  module _ (f : ℕ) (e : inPlace s k ≡ true) (ef : f ≡ bodyFault b (s .question) k (at + 6) m) where
-    by-body : orCrowded f (roomFor (s .question) k) ≡ fault b s at
+  module _ (f : ℕ) (e : inPlace s k ≡ true) (ef : f ≡ questionBodyFault b (s .question) k (at + 6) m) where
+    by-body : orCrowded f (roomFor (s .question) k) ≡ questionFault b s at
     by-body = ap (λ c. orCrowded c (roomFor (s .question) k)) ef
-        ∙ sym (ap (λ t. orCrowded (need 4 t (bodyFault b (s .question) k (at + 6) m)) (roomFor (s .question) k)) e) ∙ by-tests
+        ∙ sym (ap (λ t. orCrowded (need 4 t (questionBodyFault b (s .question) k (at + 6) m)) (roomFor (s .question) k)) e) ∙ by-tests
 
-    pub ill-formed : (f ≡ 0 → ⊥) → f ≡ fault b s at
+    pub ill-formed : (f ≡ 0 → ⊥) → f ≡ questionFault b s at
     ill-formed z = other f z ∙ by-body
       where
         other : (f : ℕ) → (f ≡ 0 → ⊥) → f ≡ orCrowded f (roomFor (s .question) k)
         other zero z = absurd (z refl)
         other (suc f) z = refl
 
-    pub by-room : (room : Bool) → f ≡ 0 → roomFor (s .question) k ≡ room → need 10 room 0 ≡ fault b s at
+    pub by-room : (room : Bool) → f ≡ 0 → roomFor (s .question) k ≡ room → need 10 room 0 ≡ questionFault b s at
     by-room room z e = sym (ap (λ t. need 10 t 0) e) ∙ sym (ap (λ c. orCrowded c (roomFor (s .question) k)) z) ∙ by-body
 
 -- ---- a record that is cut
 
-pub cut-short : (b : List ℕ) (s : Progress) (at : ℕ) → length b < next b at → fault b s at ≡ 3
-unfolding fault formFault
+pub cut-short : (b : List ℕ) (s : Progress) (at : ℕ) → length b < next b at → questionFault b s at ≡ 3
+unfolding questionFault formFault
 cut-short b s at h = rw (lt-leb (next b at) (length b) h)
 
 -- ---- no number applies
@@ -54,13 +54,13 @@ cut-short b s at h = rw (lt-leb (next b at) (length b) h)
 pub record Passed (b : List ℕ) (s : Progress) (at : ℕ) : Type 0 where
   pub all-there : next b at ≤ length b
   pub in-place : inPlace s (kind b at) ≡ true
-  pub body-formed : bodyFault b (s .question) (kind b at) (at + 6) (size b at) ≡ 0
+  pub body-formed : questionBodyFault b (s .question) (kind b at) (at + 6) (size b at) ≡ 0
   pub room : roomFor (s .question) (kind b at) ≡ true
 
-pub passed : (b : List ℕ) (s : Progress) (at : ℕ) → fault b s at ≡ 0 → Passed b s at
-unfolding fault formFault
+pub passed : (b : List ℕ) (s : Progress) (at : ℕ) → questionFault b s at ≡ 0 → Passed b s at
+unfolding questionFault formFault
 passed b s at e =
-    let body : ℕ = bodyFault b (s .question) (kind b at) (at + 6) (size b at) in
+    let body : ℕ = questionBodyFault b (s .question) (kind b at) (at + 6) (size b at) in
     let (form, roomy) = uncrowded _ _ e in
     let a3 = none-applies 2 (whole b at) (need 4 (inPlace s (kind b at)) body) form in
     let a4 = none-applies 3 (inPlace s (kind b at)) body (a3 .1) in

@@ -11,10 +11,10 @@ use lib.IntN.{ℤ, pos, natAbs, _+ℤ_, _*ℤ_, +ℤ-idl, +ℤ-idr, +ℤ-assoc, 
 use borrow.Author.Tests.{ltb-true, leb-true}
 use Rattle.integers.proofs.Ring.{v, _⊕_, ring}
 use Rattle.calculus.specs.Limits.{columnLimit, numberLimit}
-use Rattle.calculus.specs.Rows.{zeros, dot}
-use Rattle.calculus.proofs.Rows.{dot-number}
+use Rattle.calculus.specs.LinearForms.{zeros, dot}
+use Rattle.calculus.proofs.LinearForms.{dot-number}
 use Rattle.format.specs.Fields.{u16, i32, pairsAt, within}
-use Rattle.format.specs.Question.{coefficientInRange, pairInRange, rising, formRange, fillRow, formOf}
+use Rattle.format.specs.Question.{coefficientInRange, pairInRange, rising, formRange, fillCoefficients, formOf}
 use Rattle.format.proofs.Faults.{and-true}
 use Rattle.format.proofs.Fields.{down}
 
@@ -58,8 +58,8 @@ ranged c low t ts e =
     }
 
 dot-fill : (ts : List (ℕ × ℤ)) (row vs : List ℤ) (c low : ℕ) → rising c low ts ≡ true → c ≤ length row → ((i : ℕ) → low ≤ i → getD row i (pos 0) ≡ pos 0)
-    → dot (fillRow row ts) vs ≡ dot row vs +ℤ pairSum vs ts
-unfolding fillRow pairSum
+    → dot (fillCoefficients row ts) vs ≡ dot row vs +ℤ pairSum vs ts
+unfolding fillCoefficients pairSum
 dot-fill [] row vs c low e h f = sym (+ℤ-idr (dot row vs))
 dot-fill (t ∷ ts) row vs c low e h f =
     let r = ranged c low t ts e in

@@ -15,8 +15,8 @@ use Rattle.calculus.specs.Instances.{StepInRange}
 use Rattle.format.specs.Question.{question, questionForm}
 use Rattle.format.specs.StepForms.{childInRange}
 use Rattle.format.specs.Reading.{State, Method, Ticket, Faulty, Done, readBehind}
-use Rattle.format.specs.Checking.{Outcome, Refused, checker, accepted, outcomeOf, large, verdict}
-use Rattle.format.specs.ProperForm.{former, formOf, takenSteps}
+use Rattle.format.specs.Checking.{Outcome, Refused, checker, accepted, outcomeOf, largeEnough, verdict}
+use Rattle.format.specs.ProperForm.{byShape, ticketForm, stepsWithChild}
 use Rattle.format.proofs.Asked.{question-few}
 use Rattle.format.proofs.Behind.{Formed, formed-steps, formed-in-range, childOk, Taken}
 use Rattle.format.proofs.Claimed.{Claimed, claimsNone, behindClaim, started, claimed→form, form→claimed, claimed-steps, ReadBehind, ticket→, →ticket}
@@ -30,14 +30,14 @@ childFits u false st c = childInRange (u .n) st c
 pub record Holding (b : List ℕ) (u : Question) (claim : Bool) (model : Option (List ℤ)) : Type 0 where
   pub claimed : Claimed b (questionForm b) u
   pub claim-is : claimsNone claimed ≡ claim
-  pub formed : Formed b u (childFits u claim) (behindClaim claimed) (takenSteps b) model
+  pub formed : Formed b u (childFits u claim) (behindClaim claimed) (stepsWithChild b) model
 
-pub steps-in-range : {b : List ℕ} {u : Question} {x : Bool} {o : Option (List ℤ)} → Holding b u x o → All (λ t. StepInRange u (t .0)) (takenSteps b)
-steps-in-range {b} {u} {x} {o} h = formed-in-range b u (childFits u x) (behindClaim (h .claimed)) (takenSteps b) o (h .formed)
+pub steps-in-range : {b : List ℕ} {u : Question} {x : Bool} {o : Option (List ℤ)} → Holding b u x o → All (λ t. StepInRange u (t .0)) (stepsWithChild b)
+steps-in-range {b} {u} {x} {o} h = formed-in-range b u (childFits u x) (behindClaim (h .claimed)) (stepsWithChild b) o (h .formed)
 
 -- and the method takes them to the state s
 abbrev pub ReadAs : {B C : Type 0} → (Question → Method B C) → List ℕ → Question → State B C → Type 0
-ReadAs method b u s = (x : Bool) × (o : Option (List ℤ)) × Holding b u x o × Taken (method u) (started (method u) x) (takenSteps b) o s
+ReadAs method b u s = (x : Bool) × (o : Option (List ℤ)) × Holding b u x o × Taken (method u) (started (method u) x) (stepsWithChild b) o s
 
 module _ {B C : Type 0} (method : Question → Method B C) (b : List ℕ) (u : Question) where
   same-test : (x : Bool) → childOk u (started (method u) x) ≡ childFits u x
@@ -46,7 +46,7 @@ module _ {B C : Type 0} (method : Question → Method B C) (b : List ℕ) (u : Q
 
   read-as : {s : State B C} → ReadBehind method b (questionForm b) u s → ReadAs method b u s
   read-as {s} (c, x, e, r) =
-      let same : takenSteps b ≡ r .steps = claimed-steps c ∙ formed-steps b u (childOk u (started (method u) x)) (behindClaim c) (r .steps) (r .model) (r .formed) in (
+      let same : stepsWithChild b ≡ r .steps = claimed-steps c ∙ formed-steps b u (childOk u (started (method u) x)) (behindClaim c) (r .steps) (r .model) (r .formed) in (
         x,
         r .model,
         record {
@@ -57,18 +57,18 @@ module _ {B C : Type 0} (method : Question → Method B C) (b : List ℕ) (u : Q
         subst (λ ts. Taken (method u) (started (method u) x) ts (r .model) s) (sym same) (r .taken),
       )
 
-  formed-for : (x : Bool) (o : Option (List ℤ)) (h : Holding b u x o) → Formed b u (childOk u (started (method u) x)) (behindClaim (h .claimed)) (takenSteps b) o
-  formed-for x o h = subst (λ ok. Formed b u ok (behindClaim (h .claimed)) (takenSteps b) o) (sym (same-test x)) (h .formed)
+  formed-for : (x : Bool) (o : Option (List ℤ)) (h : Holding b u x o) → Formed b u (childOk u (started (method u) x)) (behindClaim (h .claimed)) (stepsWithChild b) o
+  formed-for x o h = subst (λ ok. Formed b u ok (behindClaim (h .claimed)) (stepsWithChild b) o) (sym (same-test x)) (h .formed)
 
 -- ---- proper form
 
-pub proper→ : (b : List ℕ) (u : Question) {s : State ℕ ℕ} → formOf b ≡ Done u s → ReadAs former b u s
-unfolding formOf
-proper→ b u e = read-as former b u (ticket→ former b (questionForm b) e)
+pub proper→ : (b : List ℕ) (u : Question) {s : State ℕ ℕ} → ticketForm b ≡ Done u s → ReadAs byShape b u s
+unfolding ticketForm
+proper→ b u e = read-as byShape b u (ticket→ byShape b (questionForm b) e)
 
-pub →proper : (b : List ℕ) (u : Question) (x : Bool) (o : Option (List ℤ)) {s : State ℕ ℕ} → Holding b u x o → Taken (former u) (started (former u) x) (takenSteps b) o s → formOf b ≡ Done u s
-unfolding formOf
-→proper b u x o h k = →ticket former b (h .claimed) x (takenSteps b) o (h .claim-is) (formed-for former b u x o h) k
+pub →proper : (b : List ℕ) (u : Question) (x : Bool) (o : Option (List ℤ)) {s : State ℕ ℕ} → Holding b u x o → Taken (byShape u) (started (byShape u) x) (stepsWithChild b) o s → ticketForm b ≡ Done u s
+unfolding ticketForm
+→proper b u x o h k = →ticket byShape b (h .claimed) x (stepsWithChild b) o (h .claim-is) (formed-for byShape b u x o h) k
 
 -- ---- checking
 
@@ -84,7 +84,7 @@ AcceptedAs b o = (u : Question) × (s : State Branch (List Fact)) × ReadAs chec
 
 pub verdict→ : (work answer : ℕ) (b : List ℕ) (o : Outcome) → NoRefusal o → verdict work answer b ≡ o → AcceptedAs b o
 unfolding verdict
-verdict→ work answer b o never e = sized (large work answer) e
+verdict→ work answer b o never e = sized (largeEnough work answer) e
   where
     read : (t : Ticket Branch (List Fact)) → readBehind checker b (question b) ≡ t → outcomeOf t ≡ o → AcceptedAs b o
     read (Faulty c r) p e = absurd (never c r e)
@@ -94,8 +94,8 @@ verdict→ work answer b o never e = sized (large work answer) e
     sized false e = absurd (never 1 0 e)
     sized true e = read (readBehind checker b (question b)) refl e
 
-pub →verdict : (work answer : ℕ) (b : List ℕ) (u : Question) (x : Bool) (o : Option (List ℤ)) (s : State Branch (List Fact)) → large work answer ≡ true → length (u .constraints) ≤ factLimit
-    → Holding b u x o → Taken (checker u) (started (checker u) x) (takenSteps b) o s → verdict work answer b ≡ accepted u s
+pub →verdict : (work answer : ℕ) (b : List ℕ) (u : Question) (x : Bool) (o : Option (List ℤ)) (s : State Branch (List Fact)) → largeEnough work answer ≡ true → length (u .constraints) ≤ factLimit
+    → Holding b u x o → Taken (checker u) (started (checker u) x) (stepsWithChild b) o s → verdict work answer b ≡ accepted u s
 unfolding verdict
 →verdict work answer b u x o s big few h k =
-    ap (bySize b) big ∙ ap outcomeOf (→ticket checker b (form→claimed few (h .claimed)) x (takenSteps b) o (h .claim-is) (formed-for checker b u x o h) k)
+    ap (bySize b) big ∙ ap outcomeOf (→ticket checker b (form→claimed few (h .claimed)) x (stepsWithChild b) o (h .claim-is) (formed-for checker b u x o h) k)

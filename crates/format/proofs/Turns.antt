@@ -7,7 +7,7 @@ use lib.ListN.{length}
 use borrow.Author.Tests.{le-leb, lt-leb}
 use Rattle.calculus.specs.Limits.{ticketBytes}
 use Rattle.format.specs.Records.{kind, next}
-use Rattle.format.specs.Question.{Progress, fresh, advanced, Reading, Stopped, Ended, ending, readFrom, readOn, readBy}
+use Rattle.format.specs.Question.{Progress, unread, questionAdvanced, Reading, Stopped, Ended, ending, readFrom, readOn, readBy}
 use Rattle.format.proofs.Records.{records-none, records-more}
 
 module _ (test : List ℕ → Progress → ℕ → ℕ) (b : List ℕ) where
@@ -15,7 +15,7 @@ module _ (test : List ℕ → Progress → ℕ → ℕ) (b : List ℕ) where
   abbrev turn : Progress → ℕ → ℕ → Bool → ℕ → Reading
   turn s r at x f = elim x as (λ _. Reading) [
     | true ↦ Ended s at r
-    | false ↦ elim f as (λ _. Reading) [ zero ↦ readOn test b (advanced b s at) (suc r) (next b at) | suc c ↦ Stopped (suc c) r ]
+    | false ↦ elim f as (λ _. Reading) [ zero ↦ readOn test b (questionAdvanced b s at) (suc r) (next b at) | suc c ↦ Stopped (suc c) r ]
   ]
 
   read-turn : (s : Progress) (r at : ℕ) → at + 6 ≤ length b → readOn test b s r at ≡ turn s r at (ending (kind b at)) (test b s at)
@@ -33,17 +33,17 @@ module _ (test : List ℕ → Progress → ℕ → ℕ) (b : List ℕ) where
   read-stopped s r at c h e f = read-turn s r at h ∙ ap (λ x. turn s r at x (test b s at)) e ∙ ap (turn s r at false) f
 
   pub read-more : (s : Progress) (r at : ℕ) → at + 6 ≤ length b → ending (kind b at) ≡ false → test b s at ≡ 0
-      → readOn test b s r at ≡ readOn test b (advanced b s at) (suc r) (next b at)
+      → readOn test b s r at ≡ readOn test b (questionAdvanced b s at) (suc r) (next b at)
   read-more s r at h e f = read-turn s r at h ∙ ap (λ x. turn s r at x (test b s at)) e ∙ ap (turn s r at false) f
 
   -- "2 when the ticket is too long"
   abbrev bySize : Bool → Reading
-  bySize x = elim x as (λ _. Reading) [ false ↦ Stopped 2 0 | true ↦ readOn test b fresh 0 0 ]
+  bySize x = elim x as (λ _. Reading) [ false ↦ Stopped 2 0 | true ↦ readOn test b unread 0 0 ]
 
   pub read-long : ticketBytes < length b → readBy test b ≡ Stopped 2 0
   unfolding readBy
   read-long h = ap bySize (lt-leb (length b) ticketBytes h)
 
-  pub read-begin : length b ≤ ticketBytes → readBy test b ≡ readOn test b fresh 0 0
+  pub read-begin : length b ≤ ticketBytes → readBy test b ≡ readOn test b unread 0 0
   unfolding readBy
   read-begin h = ap bySize (le-leb (length b) ticketBytes h)

@@ -5,8 +5,8 @@ use mathlib.Core.Option.{some}
 use mathlib.Core.List.{List, [], _∷_, _++_, flatMap}
 use lib.IntN.{ℤ, pos, negsuc}
 use Rattle.calculus.specs.Limits.{workNumbers, answerBytes}
-use Rattle.calculus.specs.Rows.{minus, scale, column, number}
-use Rattle.calculus.specs.Facts.{Question, Fact, arithmetic, Branch, ge}
+use Rattle.calculus.specs.LinearForms.{minus, scale, column, number}
+use Rattle.calculus.specs.Facts.{Question, Fact, arithmetic, Branch, ge, blank}
 use Rattle.calculus.specs.Steps.{Step, Sum}
 use Rattle.calculus.specs.Rules.{children}
 use Rattle.format.specs.Fields.{bytesOf, unsigned}
@@ -21,42 +21,42 @@ shortBytes vs = flatMap (bytesOf 2) vs
 unfoldable pub pairBytes : List (ℕ × ℤ) → List ℕ
 pairBytes ts = flatMap (λ (t : ℕ × ℤ). bytesOf 2 (t .0) ++ bytesOf 4 (unsigned (t .1))) ts
 
-abbrev pub head : ℕ → ℕ → ℕ → List ℕ
-head n p q = recordBytes 1 (bytesOf 4 n ++ shortBytes (p ∷ q ∷ []))
+abbrev pub headRecord : ℕ → ℕ → ℕ → List ℕ
+headRecord n p q = recordBytes 1 (bytesOf 4 n ++ shortBytes (p ∷ q ∷ []))
 
-abbrev pub literal : List ℕ → List ℕ
-literal s = recordBytes 2 (characterBytes s)
+abbrev pub literalRecord : List ℕ → List ℕ
+literalRecord s = recordBytes 2 (characterBytes s)
 
 -- a string constraint: relation, a, b
-abbrev pub text : ℕ → ℕ → ℕ → List ℕ
-text r x y = recordBytes 3 (shortBytes (r ∷ x ∷ y ∷ []))
+abbrev pub stringRecord : ℕ → ℕ → ℕ → List ℕ
+stringRecord r x y = recordBytes 3 (shortBytes (r ∷ x ∷ y ∷ []))
 
 -- an arithmetic constraint: relation, constant, pairs
-abbrev pub form : ℕ → ℤ → List (ℕ × ℤ) → List ℕ
-form r c ts = recordBytes 4 (shortBytes (r ∷ []) ++ (bytesOf 4 (unsigned c) ++ pairBytes ts))
+abbrev pub arithmeticRecord : ℕ → ℤ → List (ℕ × ℤ) → List ℕ
+arithmeticRecord r c ts = recordBytes 4 (shortBytes (r ∷ []) ++ (bytesOf 4 (unsigned c) ++ pairBytes ts))
 
-abbrev pub claim : ℕ → List ℕ
-claim k = recordBytes 5 (shortBytes (k ∷ []))
+abbrev pub claimRecord : ℕ → List ℕ
+claimRecord k = recordBytes 5 (shortBytes (k ∷ []))
 
 -- rule, child, operands
-abbrev pub step : List ℕ → List ℕ
-step vs = recordBytes 6 (shortBytes vs)
+abbrev pub stepRecord : List ℕ → List ℕ
+stepRecord vs = recordBytes 6 (shortBytes vs)
 
 -- Sum: child, divisor, pairs
-abbrev pub sum : ℕ → ℕ → List (ℕ × ℤ) → List ℕ
-sum k d ts = recordBytes 6 (shortBytes (1 ∷ k ∷ []) ++ (bytesOf 4 d ++ pairBytes ts))
+abbrev pub sumRecord : ℕ → ℕ → List (ℕ × ℤ) → List ℕ
+sumRecord k d ts = recordBytes 6 (shortBytes (1 ∷ k ∷ []) ++ (bytesOf 4 d ++ pairBytes ts))
 
-abbrev pub model : List ℤ → List ℕ
-model vs = recordBytes 7 (integerBytes vs)
+abbrev pub modelRecord : List ℤ → List ℕ
+modelRecord vs = recordBytes 7 (integerBytes vs)
 
-abbrev pub end : List ℕ
-end = recordBytes 8 []
+abbrev pub endRecord : List ℕ
+endRecord = recordBytes 8 []
 
 unfoldable pub ticket : List (List ℕ) → List ℕ
 ticket rs = flatMap (λ r. r) rs
 
-abbrev pub strings : List (List ℕ) → List ℤ → Outcome
-strings ss zs = Strings (encode (record { strs = ss; ints = zs }))
+abbrev pub stringsGiven : List (List ℕ) → List ℤ → Outcome
+stringsGiven ss zs = Strings (encode (record { strs = ss; ints = zs }))
 
 -- ---- the table
 
@@ -65,60 +65,60 @@ pub data Case : Type 0 where
   checking : List (List ℕ) → Outcome → Case
   adding : Question → Branch → Step → Fact → Case
 
-abbrev pub Holds : Case → Type 0
-Holds (checking rs o) = verdict workNumbers answerBytes (ticket rs) ≡ o
-Holds (adding u b st f) = children u b st ≡ some ((f ∷ []) ∷ [])
+abbrev pub CaseHolds : Case → Type 0
+CaseHolds (checking rs o) = verdict workNumbers answerBytes (ticket rs) ≡ o
+CaseHolds (adding u b st f) = children u b st ≡ some ((f ∷ []) ∷ [])
 
 -- one integer variable a, in column 0
 abbrev pub oneInteger : Question
-oneInteger = record { n = 1; p = 0; q = 1; literals = []; constraints = [] }
+oneInteger = blank 1 0 1
 
 abbrev pub starred : List Case
 starred =
     -- example 1: closes in 11 steps, C-Inj first
-    checking (head 128 2 0 ∷ form 0 (negsuc 0) ((0, pos 1) ∷ (1, negsuc 0) ∷ []) ∷ form 1 (pos 0) ((2, pos 1) ∷ (3, negsuc 0) ∷ [])
-    ∷ form 0 (pos 0) ((2, pos 1) ∷ []) ∷ claim 1 ∷ step (11 ∷ 0 ∷ 0 ∷ 1 ∷ []) ∷ sum 0 1 ((2, pos 1) ∷ (3, negsuc 0) ∷ []) ∷ step (4 ∷ 0 ∷ 4 ∷ [])
-    ∷ step (3 ∷ 0 ∷ 3 ∷ []) ∷ sum 0 1 ((4, pos 1) ∷ (1, negsuc 0) ∷ []) ∷ step (4 ∷ 0 ∷ 5 ∷ []) ∷ sum 0 1 ((4, pos 1) ∷ (1, pos 1) ∷ [])
-    ∷ step (4 ∷ 0 ∷ 5 ∷ []) ∷ step (6 ∷ 0 ∷ 0 ∷ 0 ∷ 1 ∷ []) ∷ sum 0 1 ((0, pos 1) ∷ (4, negsuc 0) ∷ []) ∷ step (4 ∷ 0 ∷ 5 ∷ []) ∷ end ∷ [])
+    checking (headRecord 128 2 0 ∷ arithmeticRecord 0 (negsuc 0) ((0, pos 1) ∷ (1, negsuc 0) ∷ []) ∷ arithmeticRecord 1 (pos 0) ((2, pos 1) ∷ (3, negsuc 0) ∷ [])
+    ∷ arithmeticRecord 0 (pos 0) ((2, pos 1) ∷ []) ∷ claimRecord 1 ∷ stepRecord (11 ∷ 0 ∷ 0 ∷ 1 ∷ []) ∷ sumRecord 0 1 ((2, pos 1) ∷ (3, negsuc 0) ∷ []) ∷ stepRecord (4 ∷ 0 ∷ 4 ∷ [])
+    ∷ stepRecord (3 ∷ 0 ∷ 3 ∷ []) ∷ sumRecord 0 1 ((4, pos 1) ∷ (1, negsuc 0) ∷ []) ∷ stepRecord (4 ∷ 0 ∷ 5 ∷ []) ∷ sumRecord 0 1 ((4, pos 1) ∷ (1, pos 1) ∷ [])
+    ∷ stepRecord (4 ∷ 0 ∷ 5 ∷ []) ∷ stepRecord (6 ∷ 0 ∷ 0 ∷ 0 ∷ 1 ∷ []) ∷ sumRecord 0 1 ((0, pos 1) ∷ (4, negsuc 0) ∷ []) ∷ stepRecord (4 ∷ 0 ∷ 5 ∷ []) ∷ endRecord ∷ [])
     NoSolution
     -- example 2 with ≉, y = 97, z = 106, n = 128: code 98 accepted
-    ∷ checking (head 128 3 0 ∷ literal (97 ∷ []) ∷ literal (106 ∷ []) ∷ text 1 0 1 ∷ text 1 0 2 ∷ text 2 1 1 ∷ text 2 2 2 ∷ form 0 (negsuc 96) ((3, pos 1) ∷ [])
-    ∷ form 0 (pos 106) ((3, negsuc 0) ∷ []) ∷ claim 2 ∷ model (pos 1 ∷ pos 1 ∷ pos 1 ∷ pos 98 ∷ pos 97 ∷ pos 106 ∷ []) ∷ end ∷ [])
-    (strings ((98 ∷ []) ∷ (97 ∷ []) ∷ (106 ∷ []) ∷ []) [])
+    ∷ checking (headRecord 128 3 0 ∷ literalRecord (97 ∷ []) ∷ literalRecord (106 ∷ []) ∷ stringRecord 1 0 1 ∷ stringRecord 1 0 2 ∷ stringRecord 2 1 1 ∷ stringRecord 2 2 2 ∷ arithmeticRecord 0 (negsuc 96) ((3, pos 1) ∷ [])
+    ∷ arithmeticRecord 0 (pos 106) ((3, negsuc 0) ∷ []) ∷ claimRecord 2 ∷ modelRecord (pos 1 ∷ pos 1 ∷ pos 1 ∷ pos 98 ∷ pos 97 ∷ pos 106 ∷ []) ∷ endRecord ∷ [])
+    (stringsGiven ((98 ∷ []) ∷ (97 ∷ []) ∷ (106 ∷ []) ∷ []) [])
     -- example 2 with ≉: code 97 gives 13
-    ∷ checking (head 128 3 0 ∷ literal (97 ∷ []) ∷ literal (106 ∷ []) ∷ text 1 0 1 ∷ text 1 0 2 ∷ text 2 1 1 ∷ text 2 2 2 ∷ form 0 (negsuc 96) ((3, pos 1) ∷ [])
-    ∷ form 0 (pos 106) ((3, negsuc 0) ∷ []) ∷ claim 2 ∷ model (pos 1 ∷ pos 1 ∷ pos 1 ∷ pos 97 ∷ pos 97 ∷ pos 106 ∷ []) ∷ end ∷ [])
+    ∷ checking (headRecord 128 3 0 ∷ literalRecord (97 ∷ []) ∷ literalRecord (106 ∷ []) ∷ stringRecord 1 0 1 ∷ stringRecord 1 0 2 ∷ stringRecord 2 1 1 ∷ stringRecord 2 2 2 ∷ arithmeticRecord 0 (negsuc 96) ((3, pos 1) ∷ [])
+    ∷ arithmeticRecord 0 (pos 106) ((3, negsuc 0) ∷ []) ∷ claimRecord 2 ∷ modelRecord (pos 1 ∷ pos 1 ∷ pos 1 ∷ pos 97 ∷ pos 97 ∷ pos 106 ∷ []) ∷ endRecord ∷ [])
     (Refused 13 10)
     -- example 2 as printed: S-Conf closes it
-    ∷ checking (head 128 3 0 ∷ literal (97 ∷ []) ∷ literal (106 ∷ []) ∷ text 0 0 1 ∷ text 0 0 2 ∷ text 2 1 1 ∷ text 2 2 2 ∷ form 0 (negsuc 96) ((3, pos 1) ∷ [])
-    ∷ form 0 (pos 106) ((3, negsuc 0) ∷ []) ∷ claim 1 ∷ step (5 ∷ 0 ∷ []) ∷ end ∷ [])
+    ∷ checking (headRecord 128 3 0 ∷ literalRecord (97 ∷ []) ∷ literalRecord (106 ∷ []) ∷ stringRecord 0 0 1 ∷ stringRecord 0 0 2 ∷ stringRecord 2 1 1 ∷ stringRecord 2 2 2 ∷ arithmeticRecord 0 (negsuc 96) ((3, pos 1) ∷ [])
+    ∷ arithmeticRecord 0 (pos 106) ((3, negsuc 0) ∷ []) ∷ claimRecord 1 ∷ stepRecord (5 ∷ 0 ∷ []) ∷ endRecord ∷ [])
     NoSolution
     -- example 4: length 1, code 0 accepted
-    ∷ checking (head 128 1 0 ∷ form 0 (pos 0) ((1, pos 1) ∷ []) ∷ form 0 (negsuc 0) ((0, pos 1) ∷ (1, negsuc 0) ∷ []) ∷ claim 2 ∷ model (pos 1 ∷ pos 0 ∷ []) ∷ end
+    ∷ checking (headRecord 128 1 0 ∷ arithmeticRecord 0 (pos 0) ((1, pos 1) ∷ []) ∷ arithmeticRecord 0 (negsuc 0) ((0, pos 1) ∷ (1, negsuc 0) ∷ []) ∷ claimRecord 2 ∷ modelRecord (pos 1 ∷ pos 0 ∷ []) ∷ endRecord
     ∷ [])
-    (strings ((0 ∷ []) ∷ []) [])
+    (stringsGiven ((0 ∷ []) ∷ []) [])
     -- example 4: length 2, code 1 gives 13
-    ∷ checking (head 128 1 0 ∷ form 0 (pos 0) ((1, pos 1) ∷ []) ∷ form 0 (negsuc 0) ((0, pos 1) ∷ (1, negsuc 0) ∷ []) ∷ claim 2 ∷ model (pos 2 ∷ pos 1 ∷ []) ∷ end
+    ∷ checking (headRecord 128 1 0 ∷ arithmeticRecord 0 (pos 0) ((1, pos 1) ∷ []) ∷ arithmeticRecord 0 (negsuc 0) ((0, pos 1) ∷ (1, negsuc 0) ∷ []) ∷ claimRecord 2 ∷ modelRecord (pos 2 ∷ pos 1 ∷ []) ∷ endRecord
     ∷ [])
     (Refused 13 4)
     -- example 4: length 1, code 1 gives 12
-    ∷ checking (head 128 1 0 ∷ form 0 (pos 0) ((1, pos 1) ∷ []) ∷ form 0 (negsuc 0) ((0, pos 1) ∷ (1, negsuc 0) ∷ []) ∷ claim 2 ∷ model (pos 1 ∷ pos 1 ∷ []) ∷ end
+    ∷ checking (headRecord 128 1 0 ∷ arithmeticRecord 0 (pos 0) ((1, pos 1) ∷ []) ∷ arithmeticRecord 0 (negsuc 0) ((0, pos 1) ∷ (1, negsuc 0) ∷ []) ∷ claimRecord 2 ∷ modelRecord (pos 1 ∷ pos 1 ∷ []) ∷ endRecord
     ∷ [])
     (Refused 12 4)
     -- n = 2, four unjoined variables of length 2, codes −1: 00, 01, 10, 11
-    ∷ checking (head 2 4 0 ∷ claim 2 ∷ model (pos 2 ∷ pos 2 ∷ pos 2 ∷ pos 2 ∷ negsuc 0 ∷ negsuc 0 ∷ negsuc 0 ∷ negsuc 0 ∷ []) ∷ end ∷ [])
-    (strings ((0 ∷ 0 ∷ []) ∷ (0 ∷ 1 ∷ []) ∷ (1 ∷ 0 ∷ []) ∷ (1 ∷ 1 ∷ []) ∷ []) [])
+    ∷ checking (headRecord 2 4 0 ∷ claimRecord 2 ∷ modelRecord (pos 2 ∷ pos 2 ∷ pos 2 ∷ pos 2 ∷ negsuc 0 ∷ negsuc 0 ∷ negsuc 0 ∷ negsuc 0 ∷ []) ∷ endRecord ∷ [])
+    (stringsGiven ((0 ∷ 0 ∷ []) ∷ (0 ∷ 1 ∷ []) ∷ (1 ∷ 0 ∷ []) ∷ (1 ∷ 1 ∷ []) ∷ []) [])
     -- five: 13
-    ∷ checking (head 2 5 0 ∷ claim 2 ∷ model (pos 2 ∷ pos 2 ∷ pos 2 ∷ pos 2 ∷ pos 2 ∷ negsuc 0 ∷ negsuc 0 ∷ negsuc 0 ∷ negsuc 0 ∷ negsuc 0 ∷ []) ∷ end ∷ [])
+    ∷ checking (headRecord 2 5 0 ∷ claimRecord 2 ∷ modelRecord (pos 2 ∷ pos 2 ∷ pos 2 ∷ pos 2 ∷ pos 2 ∷ negsuc 0 ∷ negsuc 0 ∷ negsuc 0 ∷ negsuc 0 ∷ negsuc 0 ∷ []) ∷ endRecord ∷ [])
     (Refused 13 2)
     -- n = 1, two unjoined variables of length 3: 13
-    ∷ checking (head 1 2 0 ∷ claim 2 ∷ model (pos 3 ∷ pos 3 ∷ negsuc 0 ∷ negsuc 0 ∷ []) ∷ end ∷ [])
+    ∷ checking (headRecord 1 2 0 ∷ claimRecord 2 ∷ modelRecord (pos 3 ∷ pos 3 ∷ negsuc 0 ∷ negsuc 0 ∷ []) ∷ endRecord ∷ [])
     (Refused 13 2)
     -- no variables, no constraints: claim 2 with an empty model accepted, answer 12 bytes
-    ∷ checking (head 128 0 0 ∷ claim 2 ∷ model [] ∷ end ∷ [])
+    ∷ checking (headRecord 128 0 0 ∷ claimRecord 2 ∷ modelRecord [] ∷ endRecord ∷ [])
     (Strings (0 ∷ 0 ∷ 0 ∷ 0 ∷ 10 ∷ 0 ∷ 0 ∷ 0 ∷ 0 ∷ 0 ∷ 8 ∷ 0 ∷ []))
     -- no variables, no constraints: claim 1 gives 11
-    ∷ checking (head 128 0 0 ∷ claim 1 ∷ end ∷ [])
+    ∷ checking (headRecord 128 0 0 ∷ claimRecord 1 ∷ endRecord ∷ [])
     (Refused 11 2)
     -- 2a−1 ≥ 0 over divisor 2 is a−1 ≥ 0
     ∷ adding oneInteger (arithmetic ge (minus (scale (pos 2) (column 0)) (number (pos 1))) ∷ []) (Sum 2 ((0, pos 1) ∷ [])) (arithmetic ge (minus (column 0) (number (pos 1))))

@@ -7,14 +7,14 @@ use lib.ListN.{length, take}
 use lib.Dec.{ltb, leb}
 use lib.IntN.{ℤ, natAbs}
 use Rattle.lists.specs.Lists.{all, allBelow}
-use Rattle.calculus.specs.Rows.{valueIn}
+use Rattle.calculus.specs.LinearForms.{valueIn}
 use Rattle.calculus.specs.Limits.{workNumbers, answerBytes, lengthLimit, numberLimit, factLimit, pendingLimit}
 use Rattle.calculus.specs.Facts.{Question, Fact, onArithmetic, Branch, holds, len}
 use Rattle.calculus.specs.Children.{childAt}
 use Rattle.calculus.specs.Rules as rules
 use Rattle.calculus.specs.Steps.{Step}
 use Rattle.calculus.specs.Walk.{working, closed}
-use Rattle.calculus.specs.Model.{modelOf}
+use Rattle.calculus.specs.Model.{modelValue}
 use Rattle.calculus.specs.SaturationTest.{saturated}
 use Rattle.calculus.specs.Strings.{strings}
 use Rattle.calculus.specs.Meaning.{Assignment}
@@ -64,8 +64,8 @@ abbrev pub takenTried : Branch → Option (List Fact) → ℕ
 takenTried br o = need 8 (fits o) (need 9 (factsWithin (orNone o)) (need 10 (room (length br) (orNone o)) 0))
 
 -- the child of number k, from 1; a closing rule has none, so it does not fit under claim 2
-abbrev pub nth : Option (List (List Fact)) → ℕ → Option (List Fact)
-nth o k = rules.then o (λ cs. childAt cs k)
+abbrev pub childIn : Option (List (List Fact)) → ℕ → Option (List Fact)
+childIn o k = rules.then o (λ cs. childAt cs k)
 
 -- ---- 12 to 14, at the model
 
@@ -78,7 +78,7 @@ keeps m b = all (keepsFact m) b
 
 -- "14 when a length passes 64"; a negative length is 13 before
 abbrev pub shortLengths : Question → List ℤ → Bool
-shortLengths u m = allBelow (u .p) (λ x. leb (natAbs (modelOf u m len x)) lengthLimit)
+shortLengths u m = allBelow (u .p) (λ x. leb (natAbs (modelValue u m len x)) lengthLimit)
 
 -- "at the model, 12 when it breaks an arithmetic fact, 13 when the leaf is not settled, 14 when a length passes 64"
 abbrev pub leafFault : Question → Branch → List ℤ → ℕ
@@ -97,7 +97,7 @@ complete (modelled br m) = true
 
 -- the facts that the child of number k adds
 abbrev pub takenFacts : Question → Branch → Step → ℕ → Option (List Fact)
-takenFacts u br st k = nth (rules.children u br st) k
+takenFacts u br st k = childIn (rules.children u br st) k
 
 abbrev pub checker : Question → Method Branch (List Fact)
 checker u = record {
@@ -133,9 +133,9 @@ outcomeOf (Faulty c r) = Refused c r
 outcomeOf (Done u s) = accepted u s
 
 -- "Buffers are large enough when 1 does not apply"
-abbrev pub large : ℕ → ℕ → Bool
-large work answer = leb workNumbers work && leb answerBytes answer
+abbrev pub largeEnough : ℕ → ℕ → Bool
+largeEnough work answer = leb workNumbers work && leb answerBytes answer
 
 -- the outcome of checking a ticket, with the lengths of the work area and of the answer buffer
 unfoldable pub verdict : ℕ → ℕ → List ℕ → Outcome
-verdict work answer b = elim (large work answer) [ false ↦ Refused 1 0 | true ↦ outcomeOf (readBehind checker b (question b)) ]
+verdict work answer b = elim (largeEnough work answer) [ false ↦ Refused 1 0 | true ↦ outcomeOf (readBehind checker b (question b)) ]

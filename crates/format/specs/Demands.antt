@@ -16,10 +16,10 @@ use Rattle.calculus.specs.Chains.{OneClass}
 use Rattle.calculus.specs.Derivations.{Closes, WithinLimits, Path, PathWithinLimits}
 use Rattle.calculus.specs.Saturation.{AcceptedLeaf}
 use Rattle.calculus.specs.Meaning.{Assignment, str, For, Meets, Met}
-use Rattle.format.specs.Question.{question, asked, questionOf}
+use Rattle.format.specs.Question.{question, questionIn, questionOf}
 use Rattle.format.specs.Answer.{encode, assignmentOf}
-use Rattle.format.specs.Checking.{Outcome, Refused, NoSolution, Strings, large, verdict}
-use Rattle.format.specs.ProperForm.{ProperNo, ProperStrings, steps, takenSteps}
+use Rattle.format.specs.Checking.{Outcome, Refused, NoSolution, Strings, largeEnough, verdict}
+use Rattle.format.specs.ProperForm.{ProperNo, ProperStrings, steps, stepsWithChild}
 use Rattle.format.specs.Judging.{Judged, judging, Judgement, AllMet, Unmet, Says}
 
 abbrev pub Iff : Type 0 → Type 0 → Type 0
@@ -51,7 +51,7 @@ pub record Checked (ticket : List ℕ) (work work' : List ℤ) (answer answer' :
 -- ---- TH-2, demand 2: a derivation of proper form within the limits is accepted exactly when its steps are one closed tree of instances
 
 abbrev pub TH-2 : Type 0
-TH-2 = (work answer : ℕ) (t : List ℕ) (u : Question) → large work answer ≡ true → ProperNo t u → WithinLimits u (steps t)
+TH-2 = (work answer : ℕ) (t : List ℕ) (u : Question) → largeEnough work answer ≡ true → ProperNo t u → WithinLimits u (steps t)
     → Iff (verdict work answer t ≡ NoSolution) (Closes u (u .constraints) (steps t))
 
 -- what TH-2 asks of a ticket holds of each that is accepted, so it leaves none out
@@ -73,7 +73,7 @@ TH-3 = (b v : List ℕ) (j : Judgement) → Says (judging b v) j → (u : Questi
 
 -- and it judges every assignment that an answer can hold: no 15 or 16 for the bytes of one with strings of at most 64 characters and integers in range
 abbrev pub TH-3-all : Type 0
-TH-3-all = (b : List ℕ) (u : Question) (a : Assignment) → asked (question b) ≡ some u → For u a → All (λ s. length s ≤ lengthLimit) (a .strs)
+TH-3-all = (b : List ℕ) (u : Question) (a : Assignment) → questionIn (question b) ≡ some u → For u a → All (λ s. length s ≤ lengthLimit) (a .strs)
     → All (Small valueLimit) (a .ints) → judging b (encode a) ≡ Judged u a
 
 -- ---- TH-4, demand 3: whatever the bytes, where checking says "no solution", no assignment meets all constraints
@@ -99,8 +99,8 @@ pub record Answered (t : List ℕ) (u : Question) (out : List ℕ) : Type 0 wher
   pub meets-all : Met u assignment (u .constraints)
   -- "The leaf is the branch at the model: the question's constraints and every fact that the steps added, of a split those of the child taken"
   pub leaf : Branch
-  pub path : Path u (u .constraints) (takenSteps t) leaf
-  pub only-leaf : (l : Branch) → Path u (u .constraints) (takenSteps t) l → l ≡ leaf
+  pub path : Path u (u .constraints) (stepsWithChild t) leaf
+  pub only-leaf : (l : Branch) → Path u (u .constraints) (stepsWithChild t) l → l ≡ leaf
   -- "Strings differ wherever classes differ: any two variables not in one class get different strings"
   pub differ : (x y : ℕ) → x < u .p → y < u .p → (OneClass leaf x y → ⊥) → str assignment x ≢ str assignment y
 
@@ -111,11 +111,11 @@ TH-5 = (work answer : ℕ) (t out : List ℕ) → verdict work answer t ≡ Stri
 -- the model meets its facts and no length passes 64
 
 abbrev pub TH-6 : Type 0
-TH-6 = (work answer : ℕ) (t : List ℕ) (u : Question) (m : List ℤ) (leaf : Branch) → large work answer ≡ true → ProperStrings t u m
-    → PathWithinLimits u (takenSteps t) → Path u (u .constraints) (takenSteps t) leaf
+TH-6 = (work answer : ℕ) (t : List ℕ) (u : Question) (m : List ℤ) (leaf : Branch) → largeEnough work answer ≡ true → ProperStrings t u m
+    → PathWithinLimits u (stepsWithChild t) → Path u (u .constraints) (stepsWithChild t) leaf
     → Iff ((out : List ℕ) × (verdict work answer t ≡ Strings out)) (AcceptedLeaf u leaf m)
 
 -- what TH-6 asks of a ticket holds of each that is accepted; with TH-5's path and leaf it leaves none out
 abbrev pub TH-6-asks : Type 0
 TH-6-asks = (work answer : ℕ) (t out : List ℕ) → verdict work answer t ≡ Strings out
-    → (u : Question) × (m : List ℤ) × ProperStrings t u m × PathWithinLimits u (takenSteps t)
+    → (u : Question) × (m : List ℤ) × ProperStrings t u m × PathWithinLimits u (stepsWithChild t)

@@ -5,7 +5,7 @@ use mathlib.Core.List.{List, [], _∷_}
 use lib.ListN.{getD}
 use lib.Dec.{ltb, leb}
 use lib.IntN.{ℤ, pos, negsuc, natAbs}
-use Rattle.lists.specs.Lists.{all, along}
+use Rattle.lists.specs.Lists.{all, valuesAlong}
 
 abbrev pub u16 : List ℕ → ℕ → ℕ
 u16 b at = getD b at 0 + 256 * getD b (at + 1) 0
@@ -22,7 +22,7 @@ i32 b at = signed (u32 b at)
 
 -- count fields one after another, the first at a position: each is read by a function and has so many bytes
 abbrev pub fields : {A : Type 0} → ℕ → (ℕ → A) → ℕ → ℕ → List A
-fields bytes read at count = along (λ i. i + bytes) read at count
+fields bytes read at count = valuesAlong (λ i. i + bytes) read at count
 
 unfoldable pub u16s : List ℕ → ℕ → ℕ → List ℕ
 u16s b at count = fields 2 (u16 b) at count

@@ -7,7 +7,7 @@ use mathlib.Core.List.{List}
 use Rattle.lists.specs.Lists.{all}
 use lib.ListN.{getElem?}
 use lib.Dec.{leb}
-use Rattle.calculus.specs.Facts.{Question, Fact, same, apart, isLiteral, arithmetic, Branch, holds, literal}
+use Rattle.calculus.specs.Facts.{Question, Fact, same, notSame, isLiteral, arithmetic, Branch, holds, literal}
 use Rattle.calculus.specs.Meaning.{Assignment, str, value}
 use Rattle.calculus.specs.Strings.{eqString}
 use Rattle.format.specs.Question.{Reading, Stopped, Ended, question}
@@ -38,7 +38,7 @@ judging b v = judgeBehind (question b) v
 -- "it meets a constraint when the relation holds for those values with their len and code"
 abbrev pub meets : Question → Assignment → Fact → Bool
 meets u a (same x y) = eqString (str a x) (str a y)
-meets u a (apart x y) = not (eqString (str a x) (str a y))
+meets u a (notSame x y) = not (eqString (str a x) (str a y))
 meets u a (isLiteral x l) = eqString (str a x) (literal u l)
 meets u a (arithmetic r e) = holds r (value a e)
 

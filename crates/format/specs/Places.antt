@@ -1,14 +1,14 @@
 -- A question by position: the literals' texts and the constraints in the records where they stand. An answer's strings stand as texts too.
 use Prim.Native.Nat.{ℕ, _+_}
 use mathlib.Core.List.{List}
-use Rattle.lists.specs.Lists.{onward, along}
+use Rattle.lists.specs.Lists.{placeAfter, valuesAlong}
 use Rattle.calculus.specs.Facts.{Fact}
 use Rattle.format.specs.Records.{size, kind, next}
 use Rattle.format.specs.Question.{Progress, textOf, constraintOf}
 
 -- the position behind k records
 unfoldable pub skip : List ℕ → ℕ → ℕ → ℕ
-skip b k at = onward (next b) at k
+skip b k at = placeAfter (next b) at k
 
 -- the text and the constraint of the record at a position
 abbrev pub textAt : List ℕ → ℕ → List ℕ
@@ -19,10 +19,10 @@ constraintAt b at = constraintOf b (kind b at) (at + 6) (size b at)
 
 -- those of k records one after another, the first at a position
 unfoldable pub texts : List ℕ → ℕ → ℕ → List (List ℕ)
-texts b k at = along (next b) (textAt b) at k
+texts b k at = valuesAlong (next b) (textAt b) at k
 
 unfoldable pub constraintsAt : List ℕ → ℕ → ℕ → List Fact
-constraintsAt b k at = along (next b) (constraintAt b) at k
+constraintsAt b k at = valuesAlong (next b) (constraintAt b) at k
 
 -- the first literal stands behind the head, at position 14
 abbrev pub literalsFrom : ℕ

@@ -14,12 +14,12 @@ use Rattle.calculus.specs.Children.{childAt}
 use Rattle.calculus.specs.Walk.{Walk}
 use Rattle.format.specs.Records.{size, kind, next, records}
 use Rattle.format.specs.Question.{Reading, Stopped, Ended, questionForm}
-use Rattle.format.specs.StepForms.{child, stepAt}
+use Rattle.format.specs.StepForms.{childField, stepAt}
 use Rattle.format.specs.Reading.{proving, modelled, Method, Ticket, Done, readBehind}
 
 -- "every step taken as if it fitted": a branch is the number of its facts. Under claim 2 a closing rule closes nothing.
-abbrev pub former : Question → Method ℕ ℕ
-former u = record {
+abbrev pub byShape : Question → Method ℕ ℕ
+byShape u = record {
   root = length (u .constraints);
   add = _+_;
   children = λ k st. shape (u .n) st;
@@ -30,29 +30,29 @@ former u = record {
   endFault = λ s. 0;
 }
 
-unfoldable pub formOf : List ℕ → Ticket ℕ ℕ
-formOf b = readBehind former b (questionForm b)
+unfoldable pub ticketForm : List ℕ → Ticket ℕ ℕ
+ticketForm b = readBehind byShape b (questionForm b)
 
 -- proper form under claim 1: the bytes put the question u
 abbrev pub ProperNo : List ℕ → Question → Type 0
-ProperNo b u = (w : Walk ℕ ℕ) × (formOf b ≡ Done u (proving w))
+ProperNo b u = (w : Walk ℕ ℕ) × (ticketForm b ≡ Done u (proving w))
 
 -- proper form under claim 2: the bytes put the question u, and the model m stands before the end
 abbrev pub ProperStrings : List ℕ → Question → List ℤ → Type 0
-ProperStrings b u m = (k : ℕ) × (formOf b ≡ Done u (modelled k m))
+ProperStrings b u m = (k : ℕ) × (ticketForm b ≡ Done u (modelled k m))
 
 -- ---- the steps of a ticket, each with its child field: the records behind the claim, up to the first that is no step
 
 unfoldable pub stepsAt : List ℕ → List ℕ → List (Step × ℕ)
 stepsAt b [] = []
-stepsAt b (at ∷ ats) = elim (eqb (kind b at) 6) [ false ↦ [] | true ↦ (stepAt b (at + 6) (size b at), child b (at + 6)) ∷ stepsAt b ats ]
+stepsAt b (at ∷ ats) = elim (eqb (kind b at) 6) [ false ↦ [] | true ↦ (stepAt b (at + 6) (size b at), childField b (at + 6)) ∷ stepsAt b ats ]
 
 abbrev pub stepsBehind : List ℕ → Reading → List (Step × ℕ)
 stepsBehind b (Stopped c r) = []
 stepsBehind b (Ended s at r) = stepsAt b (records b (next b at))
 
-abbrev pub takenSteps : List ℕ → List (Step × ℕ)
-takenSteps b = stepsBehind b (questionForm b)
+abbrev pub stepsWithChild : List ℕ → List (Step × ℕ)
+stepsWithChild b = stepsBehind b (questionForm b)
 
 abbrev pub steps : List ℕ → List Step
-steps b = map (λ (t : Step × ℕ). t .0) (takenSteps b)
+steps b = map (λ (t : Step × ℕ). t .0) (stepsWithChild b)

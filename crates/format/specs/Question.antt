@@ -6,8 +6,8 @@ use mathlib.Core.List.{List, [], _∷_, _++_}
 use lib.ListN.{length, set}
 use lib.Dec.{ltb, leb, eqb}
 use lib.IntN.{ℤ, natAbs}
-use Rattle.calculus.specs.Rows.{zeros}
-use Rattle.calculus.specs.Facts.{Question, Fact, same, apart, isLiteral, arithmetic, Relation, ge, eq, ne, blank, columnCount}
+use Rattle.calculus.specs.LinearForms.{zeros}
+use Rattle.calculus.specs.Facts.{Question, Fact, same, notSame, isLiteral, arithmetic, Relation, ge, eq, ne, blank, columnCount}
 use Rattle.calculus.specs.Alphabet.{allCharacters}
 use Rattle.calculus.specs.Strings.{given}
 use Rattle.calculus.specs.Limits.{ticketBytes, alphabetLimit, variableLimit, literalLimit, lengthLimit, columnLimit, numberLimit, factLimit}
@@ -19,8 +19,8 @@ pub record Progress : Type 0 where
   pub last : ℕ
   pub question : Question
 
-abbrev pub fresh : Progress
-fresh = record { last = 0; question = blank 0 0 0 }
+abbrev pub unread : Progress
+unread = record { last = 0; question = blank 0 0 0 }
 
 abbrev pub withLiteral : Question → List ℕ → Question
 withLiteral u s = record { n = u .n; p = u .p; q = u .q; literals = u .literals ++ (s ∷ []); constraints = u .constraints }
@@ -58,7 +58,7 @@ stringRange p k r x y = leb r 2 && (ltb x p && cond (eqb r 2) (leb y k) (ltb y p
 -- any relation past 2 is out of range
 abbrev pub stringFact : ℕ → ℕ → ℕ → Fact
 stringFact zero x y = same x y
-stringFact (suc zero) x y = apart x y
+stringFact (suc zero) x y = notSame x y
 stringFact (suc (suc r)) x y = isLiteral x y
 
 abbrev pub stringFault : List ℕ → ℕ → ℕ → ℕ → ℕ → ℕ
@@ -79,12 +79,12 @@ rising c low (t ∷ ts) = pairInRange c low t && rising c (t .0 + 1) ts
 abbrev pub formRange : List ℕ → ℕ → ℕ → ℕ → Bool
 formRange b c at count = within numberLimit (i32 b at) && rising c 0 (pairsAt b (at + 4) count)
 
-unfoldable pub fillRow : List ℤ → List (ℕ × ℤ) → List ℤ
-fillRow row [] = row
-fillRow row (t ∷ ts) = fillRow (set row (t .0) (t .1)) ts
+unfoldable pub fillCoefficients : List ℤ → List (ℕ × ℤ) → List ℤ
+fillCoefficients row [] = row
+fillCoefficients row (t ∷ ts) = fillCoefficients (set row (t .0) (t .1)) ts
 
 abbrev pub formOf : List ℕ → ℕ → ℕ → List ℤ
-formOf b at count = i32 b at ∷ fillRow (zeros columnLimit) (pairsAt b (at + 4) count)
+formOf b at count = i32 b at ∷ fillCoefficients (zeros columnLimit) (pairsAt b (at + 4) count)
 
 -- "4 arithmetic constraint: u16 relation (0 is ≥ 0, 1 is = 0, 2 is ≠ 0), i32 constant, then 0 to 48 pairs"; over c columns
 -- any number past 2 is out of range
@@ -113,15 +113,15 @@ abbrev pub inPlace : Progress → ℕ → Bool
 inPlace s k = kindInPlace (s .last) (length (s .question .literals)) k
 
 -- the first of 5 to 7 that applies to a body of kind k, of m bytes at a position
-abbrev pub bodyFault : List ℕ → Question → ℕ → ℕ → ℕ → ℕ
-bodyFault b u k at m =
+abbrev pub questionBodyFault : List ℕ → Question → ℕ → ℕ → ℕ → ℕ
+questionBodyFault b u k at m =
     cond (eqb k 1) (headFault b at m)
     (cond (eqb k 2) (literalFault b (u .n) (u .literals) at m)
     (cond (eqb k 3) (stringFault b (u .p) (length (u .literals)) at m) (arithmeticFault b (columnCount u) at m)))
 
 -- the first of 3 to 7 that applies to the record at a position, 0 for none
 unfoldable pub formFault : List ℕ → Progress → ℕ → ℕ
-formFault b s at = need 3 (whole b at) (need 4 (inPlace s (kind b at)) (bodyFault b (s .question) (kind b at) (at + 6) (size b at)))
+formFault b s at = need 3 (whole b at) (need 4 (inPlace s (kind b at)) (questionBodyFault b (s .question) (kind b at) (at + 6) (size b at)))
 
 -- "At most 128 facts stand on a branch": a constraint finds room
 abbrev pub roomFor : Question → ℕ → Bool
@@ -133,16 +133,16 @@ orCrowded zero room = need 10 room 0
 orCrowded (suc c) room = suc c
 
 -- the first number that applies to the record at a position, 0 for none
-unfoldable pub fault : List ℕ → Progress → ℕ → ℕ
-fault b s at = orCrowded (formFault b s at) (roomFor (s .question) (kind b at))
+unfoldable pub questionFault : List ℕ → Progress → ℕ → ℕ
+questionFault b s at = orCrowded (formFault b s at) (roomFor (s .question) (kind b at))
 
 -- the question after a record of kind k that has no fault
 abbrev pub extended : List ℕ → Question → ℕ → ℕ → ℕ → Question
 extended b u k at m =
     cond (eqb k 1) (headOf b at) (cond (eqb k 2) (withLiteral u (textOf b at m)) (withFact u (constraintOf b k at m)))
 
-unfoldable pub advanced : List ℕ → Progress → ℕ → Progress
-advanced b s at = record { last = kind b at; question = extended b (s .question) (kind b at) (at + 6) (size b at) }
+unfoldable pub questionAdvanced : List ℕ → Progress → ℕ → Progress
+questionAdvanced b s at = record { last = kind b at; question = extended b (s .question) (kind b at) (at + 6) (size b at) }
 
 -- ---- the whole question
 
@@ -160,7 +160,7 @@ unfoldable pub readFrom : (List ℕ → Progress → ℕ → ℕ) → List ℕ �
 readFrom test b s r [] = Stopped 3 r
 readFrom test b s r (at ∷ ats) = elim (ending (kind b at)) [
   | true ↦ Ended s at r
-  | false ↦ elim (test b s at) [ zero ↦ readFrom test b (advanced b s at) (suc r) ats | suc c ↦ Stopped (suc c) r ]
+  | false ↦ elim (test b s at) [ zero ↦ readFrom test b (questionAdvanced b s at) (suc r) ats | suc c ↦ Stopped (suc c) r ]
 ]
 
 -- what is left to read from position at and record r on
@@ -168,19 +168,19 @@ abbrev pub readOn : (List ℕ → Progress → ℕ → ℕ) → List ℕ → Pro
 readOn test b s r at = readFrom test b s r (records b at)
 
 unfoldable pub readBy : (List ℕ → Progress → ℕ → ℕ) → List ℕ → Reading
-readBy test b = elim (leb (length b) ticketBytes) [ false ↦ Stopped 2 0 | true ↦ readOn test b fresh 0 0 ]
+readBy test b = elim (leb (length b) ticketBytes) [ false ↦ Stopped 2 0 | true ↦ readOn test b unread 0 0 ]
 
 -- the question as checking and judging read it, with 10, and as proper form reads it, without
 abbrev pub question : List ℕ → Reading
-question b = readBy fault b
+question b = readBy questionFault b
 
 abbrev pub questionForm : List ℕ → Reading
 questionForm b = readBy formFault b
 
-abbrev pub asked : Reading → Option Question
-asked (Stopped c r) = none
-asked (Ended s at r) = cond (leb 1 (s .last)) (some (s .question)) none
+abbrev pub questionIn : Reading → Option Question
+questionIn (Stopped c r) = none
+questionIn (Ended s at r) = cond (leb 1 (s .last)) (some (s .question)) none
 
 -- the question that bytes put: none without a head
 abbrev pub questionOf : List ℕ → Option Question
-questionOf b = asked (questionForm b)
+questionOf b = questionIn (questionForm b)

@@ -13,7 +13,7 @@ use Rattle.calculus.specs.Walk.{Waiting, Walk, working, closed, enter}
 use Rattle.format.specs.Fields.{u16, i32s, allWithin}
 use Rattle.format.specs.Records.{size, kind, next, whole, records, need}
 use Rattle.format.specs.Question.{Progress, Reading, Stopped, Ended}
-use Rattle.format.specs.StepForms.{rule, child, lengthFits, operandsInRange, stepAt, childInRange}
+use Rattle.format.specs.StepForms.{rule, childField, lengthFits, operandsInRange, stepAt, childInRange}
 
 -- what stands behind the claim: the walk under claim 1; the branch under claim 2; the leaf and its model.
 -- B is a branch, C a child.
@@ -57,10 +57,10 @@ modelFault b u later at m = need 5 (eqb m (4 * columnCount u)) (need 6 (allWithi
 
 -- "Under claim 1 the child field is 0", "Under claim 2 it is the child taken"; "a step follows the last closed branch"
 abbrev pub bodyFault : {B C : Type 0} → Method B C → List ℕ → Question → State B C → ℕ → ℕ → ℕ → ℕ
-bodyFault w b u (proving (working br ss)) k at m = need 4 (eqb k 6) (stepFault b u (eqb (child b at) 0) (w .splitFault br ss (stepAt b at m)) at m)
+bodyFault w b u (proving (working br ss)) k at m = need 4 (eqb k 6) (stepFault b u (eqb (childField b at) 0) (w .splitFault br ss (stepAt b at m)) at m)
 bodyFault w b u (proving closed) k at m = 4
 bodyFault w b u (taking br) k at m =
-    cond (eqb k 6) (stepFault b u (childInRange (u .n) (stepAt b at m) (child b at)) (w .takenFault br (stepAt b at m) (child b at)) at m)
+    cond (eqb k 6) (stepFault b u (childInRange (u .n) (stepAt b at m) (childField b at)) (w .takenFault br (stepAt b at m) (childField b at)) at m)
     (need 4 (eqb k 7) (modelFault b u (w .leafFault br (modelAt b u at)) at m))
 bodyFault w b u (modelled br v) k at m = 4
 
@@ -81,7 +81,7 @@ unfoldable pub advanced : {B C : Type 0} → Method B C → List ℕ → Questio
 advanced w b u (proving (working br ss)) at = proving (enter (w .add) br (w .children br (stepAt b (at + 6) (size b at))) ss)
 advanced w b u (proving closed) at = proving closed
 advanced w b u (taking br) at =
-    cond (eqb (kind b at) 6) (taking (w .taken br (stepAt b (at + 6) (size b at)) (child b (at + 6)))) (modelled br (modelAt b u (at + 6)))
+    cond (eqb (kind b at) 6) (taking (w .taken br (stepAt b (at + 6) (size b at)) (childField b (at + 6)))) (modelled br (modelAt b u (at + 6)))
 advanced w b u (modelled br v) at = modelled br v
 
 -- ---- the records behind the claim

@@ -7,7 +7,7 @@ use lib.ListN.{length, getD}
 use lib.Dec.{ltb, leb, eqb}
 use lib.IntN.{ℤ}
 use Rattle.calculus.specs.Facts.{Function, len, code}
-use Rattle.calculus.specs.Steps.{shape, Step, Sum, Split, Apart, AConf, SConf, SProp, LIntro, LValid, CCollapse, CValid, CInj, Card, Join}
+use Rattle.calculus.specs.Steps.{shape, Step, Sum, BranchOn, Apart, AConf, SConf, SProp, LIntro, LValid, CCollapse, CValid, CInj, Card, Join}
 use Rattle.calculus.specs.Limits.{ticketBytes, variableLimit, columnLimit, summandLimit, numberLimit}
 use Rattle.format.specs.Fields.{u16, u32, u16s, pairsAt, within}
 use Rattle.format.specs.Question.{formRange, formOf}
@@ -71,8 +71,8 @@ fitsForm f m = leb (f .least) m && (eqb ((m - f .least) % f .stride) 0 && leb ((
 abbrev pub rule : List ℕ → ℕ → Rule
 rule b at = ruleOf (u16 b at)
 
-abbrev pub child : List ℕ → ℕ → ℕ
-child b at = u16 b (at + 2)
+abbrev pub childField : List ℕ → ℕ → ℕ
+childField b at = u16 b (at + 2)
 
 abbrev pub lengthFits : List ℕ → ℕ → ℕ → Bool
 lengthFits b at m = fitsForm (formFor (rule b at)) m
@@ -99,8 +99,8 @@ functionOf zero = len
 functionOf (suc f) = code
 
 -- each is the number of a string variable
-abbrev pub variables : ℕ → List ℕ → Bool
-variables p xs = all (λ x. ltb x p) xs
+abbrev pub areVariables : ℕ → List ℕ → Bool
+areVariables p xs = all (λ x. ltb x p) xs
 
 -- the fields of a step are in their ranges, over p string variables and c columns; for an unknown rule they are not.
 -- "i32 divisor of at least 1": a u32 of 1 to 2,147,483,647. A fact's number has no range.
@@ -110,20 +110,20 @@ operandsInRange b p c branch at m = formRange b c (at + 4) (pairsIn m)
 operandsInRange b p c apart at m = true
 operandsInRange b p c aConf at m = true
 operandsInRange b p c sConf at m = true
-operandsInRange b p c sProp at m = leb (u16 b (at + 4)) 1 && variables p (u16 b (at + 6) ∷ u16 b (at + 8) ∷ [])
-operandsInRange b p c lIntro at m = variables p (u16 b (at + 4) ∷ [])
-operandsInRange b p c lValid at m = variables p (u16 b (at + 4) ∷ [])
-operandsInRange b p c cCollapse at m = variables p (u16 b (at + 4) ∷ [])
-operandsInRange b p c cValid at m = variables p (u16 b (at + 4) ∷ [])
-operandsInRange b p c cInj at m = variables p (u16 b (at + 4) ∷ u16 b (at + 6) ∷ [])
-operandsInRange b p c card at m = variables p (cardVariables b at m)
+operandsInRange b p c sProp at m = leb (u16 b (at + 4)) 1 && areVariables p (u16 b (at + 6) ∷ u16 b (at + 8) ∷ [])
+operandsInRange b p c lIntro at m = areVariables p (u16 b (at + 4) ∷ [])
+operandsInRange b p c lValid at m = areVariables p (u16 b (at + 4) ∷ [])
+operandsInRange b p c cCollapse at m = areVariables p (u16 b (at + 4) ∷ [])
+operandsInRange b p c cValid at m = areVariables p (u16 b (at + 4) ∷ [])
+operandsInRange b p c cInj at m = areVariables p (u16 b (at + 4) ∷ u16 b (at + 6) ∷ [])
+operandsInRange b p c card at m = areVariables p (cardVariables b at m)
 operandsInRange b p c join at m = true
 operandsInRange b p c unknown at m = false
 
 -- the step that a body holds; an unknown rule, which is out of range, is read as S-Conf
 unfoldable pub stepOf : List ℕ → Rule → ℕ → ℕ → Step
 stepOf b sum at m = Sum (u32 b (at + 4)) (sumPairs b at m)
-stepOf b branch at m = Split (formOf b (at + 4) (pairsIn m))
+stepOf b branch at m = BranchOn (formOf b (at + 4) (pairsIn m))
 stepOf b apart at m = Apart (u16 b (at + 4))
 stepOf b aConf at m = AConf (u16 b (at + 4))
 stepOf b sConf at m = SConf

@@ -12,7 +12,7 @@ use mir.Val.{SFits, toZ, ofZ}
 use mir.Facts.{toZ-ofZ}
 use Rattle.integers.proofs.Laws.{abs-*-le, abs-+-le, sfits-abs}
 use Rattle.calculus.specs.Limits.{numberLimit}
-use Rattle.calculus.specs.Rows.{dot}
+use Rattle.calculus.specs.LinearForms.{dot}
 use Rattle.format.specs.Fields.{u16, i32, pairsAt, within}
 use Rattle.format.specs.Question.{rising, formOf}
 use Rattle.format.proofs.Faults.{and-true}

@@ -8,7 +8,7 @@ use lib.ListN.{length}
 use lib.Dec.{eqb}
 use lib.IntN.{ℤ, pos}
 use borrow.Author.Tests.{eqb-true, eq-eqb, ne-eqb}
-use Rattle.calculus.specs.Rows.{dot, valueIn}
+use Rattle.calculus.specs.LinearForms.{dot, valueIn}
 use Rattle.calculus.specs.Facts.{Question, holds, arithmetic}
 use Rattle.calculus.specs.Meaning.{Assignment, columns}
 use Rattle.format.specs.Fields.{u16}

@@ -6,7 +6,7 @@ ghost use mathlib.Core.List.{[], _∷_};
 ghost use Prim.Native.Nat.{ℕ, _+_, _-_, _/_, _≤_};
 ghost use lib.ListN.{length, getD};
 ghost use lib.IntN.{pos};
-ghost use Rattle.calculus.specs.Rows.{dot};
+ghost use Rattle.calculus.specs.LinearForms.{dot};
 ghost use Rattle.calculus.specs.Facts.{holds};
 ghost use Rattle.calculus.specs.Strings.{eqString};
 ghost use Rattle.format.specs.Fields.{u16};

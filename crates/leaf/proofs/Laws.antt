@@ -15,13 +15,13 @@ use lib.Signed.{ltZ}
 use Rattle.lists.specs.Lists.{allBelow}
 use Rattle.lists.proofs.Tests.{true→}
 use Rattle.calculus.specs.Alphabet.{lastCharacter}
-use Rattle.calculus.specs.Rows.{eqℤ}
+use Rattle.calculus.specs.LinearForms.{eqℤ}
 use Rattle.calculus.specs.Facts.{Question, Branch, codeOf, literal, len, code}
 use Rattle.calculus.specs.Chains.{varNode, litNode}
-use Rattle.calculus.specs.Classes.{labels, sameClass, lowest, conflict, clash}
-use Rattle.calculus.specs.Rules.{logUp}
-use Rattle.calculus.specs.Model.{modelOf}
-use Rattle.calculus.specs.SaturationTest.{lowestVar, lowestOf, saturatedCard}
+use Rattle.calculus.specs.Classes.{labels, sameClass, lowestLiteral, conflict, clash}
+use Rattle.calculus.specs.Rules.{leastPower}
+use Rattle.calculus.specs.Model.{modelValue}
+use Rattle.calculus.specs.SaturationTest.{lowestVariable, lowestOfLength, saturatedCard}
 use Rattle.calculus.proofs.Powers.{least-power}
 use Rattle.calculus.proofs.Lowest.{lowests-few}
 use Rattle.format.specs.Places.{literalsFrom}
@@ -103,14 +103,14 @@ module _ (a y : ℕ) (t : Bool) where
   tally-one e h = rw (e, eq-eqb a y h)
 
 module _ (u : Question) (ls : List ℕ) (m : List ℤ) (z : ℤ) where
-  pub count-more : (y r : ℕ) → r ≡ cond (eqℤ (modelOf u m len y) z && eqb (lowestVar ls y) y) 1 0
-      → length (lowestOf u ls m z y) + r ≡ length (lowestOf u ls m z (y + 1))
+  pub count-more : (y r : ℕ) → r ≡ cond (eqℤ (modelValue u m len y) z && eqb (lowestVariable ls y) y) 1 0
+      → length (lowestOfLength u ls m z y) + r ≡ length (lowestOfLength u ls m z (y + 1))
   count-more y r e =
-      ap (λ (k : ℕ). length (lowestOf u ls m z y) + k) e ∙ go (eqℤ (modelOf u m len y) z && eqb (lowestVar ls y) y)
-      ∙ sym (ap (λ (k : ℕ). length (lowestOf u ls m z k)) (add-one y))
+      ap (λ (k : ℕ). length (lowestOfLength u ls m z y) + k) e ∙ go (eqℤ (modelValue u m len y) z && eqb (lowestVariable ls y) y)
+      ∙ sym (ap (λ (k : ℕ). length (lowestOfLength u ls m z k)) (add-one y))
     where
-      go : (t : Bool) → length (lowestOf u ls m z y) + cond t 1 0 ≡ length {A = ℕ} (elim t as (λ _. List ℕ) [ true ↦ y ∷ lowestOf u ls m z y | false ↦ lowestOf u ls m z y ])
-      go true = add-one (length (lowestOf u ls m z y))
+      go : (t : Bool) → length (lowestOfLength u ls m z y) + cond t 1 0 ≡ length {A = ℕ} (elim t as (λ _. List ℕ) [ true ↦ y ∷ lowestOfLength u ls m z y | false ↦ lowestOfLength u ls m z y ])
+      go true = add-one (length (lowestOfLength u ls m z y))
       go false = omega arith
 
 -- Card's bound
@@ -118,7 +118,7 @@ pub room-unary : (n k size : ℕ) → n ≤ 1 → roomy n k size ≡ false
 unfolding roomy
 room-unary n k size h = rw (le-leb n 1 h)
 
-pub room-by : (n k size : ℕ) → 1 < n → roomy n k size ≡ leb (logUp k n k 0) size
+pub room-by : (n k size : ℕ) → 1 < n → roomy n k size ≡ leb (leastPower k n k 0) size
 unfolding roomy
 room-by n k size h = rw (lt-leb n 1 h)
 
@@ -130,29 +130,29 @@ room-fewer n p k size h e = go (leb n 1) refl
     go true f = absurd (true→ (sym (room-unary n p size (leb-true n 1 f)) ∙ e))
     go false f =
         let l : 1 < n = leb-false n 1 f in
-        let a : logUp p n p 0 ≤ size = leb-true (logUp p n p 0) size (sym (room-by n p size l) ∙ e) in
-        let b : p ≤ n ^ logUp p n p 0 = least-power n p l .reaches in
-        let c : logUp k n k 0 ≤ logUp p n p 0 = least-power n k l .least (logUp p n p 0) (omega arith) in
-        room-by n k size l ∙ le-leb (logUp k n k 0) size (omega arith)
+        let a : leastPower p n p 0 ≤ size = leb-true (leastPower p n p 0) size (sym (room-by n p size l) ∙ e) in
+        let b : p ≤ n ^ leastPower p n p 0 = least-power n p l .reaches in
+        let c : leastPower k n k 0 ≤ leastPower p n p 0 = least-power n k l .least (leastPower p n p 0) (omega arith) in
+        room-by n k size l ∙ le-leb (leastPower k n k 0) size (omega arith)
 
 -- Card, by the count k of the classes of the length of x
-module _ (u : Question) (ls : List ℕ) (m : List ℤ) (x k : ℕ) (e : k ≡ length (lowestOf u ls m (modelOf u m len x) (u .p))) where
-  counted : saturatedCard u ls m x ≡ (leb k 1 || roomy (u .n) k (natAbs (modelOf u m len x)))
+module _ (u : Question) (ls : List ℕ) (m : List ℤ) (x k : ℕ) (e : k ≡ length (lowestOfLength u ls m (modelValue u m len x) (u .p))) where
+  counted : saturatedCard u ls m x ≡ (leb k 1 || roomy (u .n) k (natAbs (modelValue u m len x)))
   unfolding roomy
-  counted = ap (λ (i : ℕ). leb i 1 || roomy (u .n) i (natAbs (modelOf u m len x))) (sym e)
+  counted = ap (λ (i : ℕ). leb i 1 || roomy (u .n) i (natAbs (modelValue u m len x))) (sym e)
 
   pub card-few : k ≤ 1 → saturatedCard u ls m x ≡ true
   card-few h = counted ∙ rw (le-leb k 1 h)
 
-  pub card-many : 1 < k → saturatedCard u ls m x ≡ roomy (u .n) k (natAbs (modelOf u m len x))
+  pub card-many : 1 < k → saturatedCard u ls m x ≡ roomy (u .n) k (natAbs (modelValue u m len x))
   card-many h = counted ∙ rw (lt-leb k 1 h)
 
 -- no count is needed where there is room for a string of each variable
-pub card-roomy : (u : Question) (ls : List ℕ) (m : List ℤ) (x : ℕ) → roomy (u .n) (u .p) (natAbs (modelOf u m len x)) ≡ true → saturatedCard u ls m x ≡ true
+pub card-roomy : (u : Question) (ls : List ℕ) (m : List ℤ) (x : ℕ) → roomy (u .n) (u .p) (natAbs (modelValue u m len x)) ≡ true → saturatedCard u ls m x ≡ true
 card-roomy u ls m x e =
-    let k = length (lowestOf u ls m (modelOf u m len x) (u .p)) in
+    let k = length (lowestOfLength u ls m (modelValue u m len x) (u .p)) in
     counted u ls m x k refl
-    ∙ ap (λ (t : Bool). leb k 1 || t) (room-fewer (u .n) (u .p) k (natAbs (modelOf u m len x)) (lowests-few u ls m (modelOf u m len x) (u .p)) e)
+    ∙ ap (λ (t : Bool). leb k 1 || t) (room-fewer (u .n) (u .p) k (natAbs (modelValue u m len x)) (lowests-few u ls m (modelValue u m len x) (u .p)) e)
     ∙ or-true (leb k 1)
 
 -- ---- every variable
@@ -171,15 +171,15 @@ module _ (t : ℕ → Bool) where
 
 -- ---- the tests without literals do not read the ticket
 
-lowest-any : (b : List ℕ) (f : Leaf) (ls : List ℕ) (m : List ℤ) (z : ℤ) (k : ℕ) → lowestOf (asked [] f) ls m z k ≡ lowestOf (asked b f) ls m z k
+lowest-any : (b : List ℕ) (f : Leaf) (ls : List ℕ) (m : List ℤ) (z : ℤ) (k : ℕ) → lowestOfLength (asked [] f) ls m z k ≡ lowestOfLength (asked b f) ls m z k
 lowest-any b f ls m z zero = refl
 lowest-any b f ls m z (suc k) =
-    ap (λ (l : List ℕ). elim (eqℤ (modelOf (asked b f) m len k) z && eqb (lowestVar ls k) k) as (λ _. List ℕ) [ true ↦ k ∷ l | false ↦ l ]) (lowest-any b f ls m z k)
+    ap (λ (l : List ℕ). elim (eqℤ (modelValue (asked b f) m len k) z && eqb (lowestVariable ls k) k) as (λ _. List ℕ) [ true ↦ k ∷ l | false ↦ l ]) (lowest-any b f ls m z k)
 
 pub card-any : (b : List ℕ) (f : Leaf) (ls : List ℕ) (m : List ℤ) (x : ℕ) → saturatedCard (asked [] f) ls m x ≡ saturatedCard (asked b f) ls m x
 card-any b f ls m x =
-    ap (λ (l : List ℕ). leb (length l) 1 || (not (leb (f .n) 1) && leb (logUp (length l) (f .n) (length l) 0) (natAbs (modelOf (asked b f) m len x))))
-    (lowest-any b f ls m (modelOf (asked b f) m len x) (f .p))
+    ap (λ (l : List ℕ). leb (length l) 1 || (not (leb (f .n) 1) && leb (leastPower (length l) (f .n) (length l) 0) (natAbs (modelValue (asked b f) m len x))))
+    (lowest-any b f ls m (modelValue (asked b f) m len x) (f .p))
 
 pub pairs-any : (b : List ℕ) (f : Leaf) (ls : List ℕ) (m : List ℤ) (x : ℕ) → allBelow (f .p) (pairFits (asked [] f) ls m x) ≡ allBelow (f .p) (pairFits (asked b f) ls m x)
 unfolding pairFits
@@ -190,13 +190,13 @@ pairs-any b f ls m x = refl
 -- the four tests, one after the other
 module _ (u : Question) (ls : List ℕ) (m : List ℤ) (x : ℕ) where
   abbrev z : ℤ
-  z = modelOf u m len x
+  z = modelValue u m len x
 
   abbrev c : ℤ
-  c = modelOf u m code x
+  c = modelValue u m code x
 
   abbrev pub fromLiteral : Bool
-  fromLiteral = literalFits u (lowest ls x 0 (suc (length (u .literals)))) z c
+  fromLiteral = literalFits u (lowestLiteral ls x 0 (suc (length (u .literals)))) z c
 
   pub var-literal : fromLiteral ≡ false → varFits u ls m x ≡ false
   unfolding varFits

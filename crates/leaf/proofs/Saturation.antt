@@ -12,18 +12,18 @@ use Rattle.integers.proofs.Laws.{≤ℤ-pos, pos-≤ℤ, →-ℤ-zero, →-ℤ-
 use Rattle.lists.specs.Lists.{allBelow}
 use Rattle.lists.proofs.Tests.{→true, true→, equal-tests}
 use Rattle.calculus.specs.Alphabet.{lastCharacter}
-use Rattle.calculus.specs.Rows.{eqℤ, isZero, number, minus, less, valueIn}
+use Rattle.calculus.specs.LinearForms.{eqℤ, isZero, number, minus, above, valueIn}
 use Rattle.calculus.specs.Facts.{Question, Branch, Fact, arithmetic, ge, eq, Function, len, code, literal, valueOf, apply}
 use Rattle.calculus.specs.Chains.{varNode, litNode}
 use Rattle.calculus.specs.Classes.{label, labels, sameClass, classLiteral, conflict}
 use Rattle.calculus.specs.Children.{one, sPropChild, literalChild, lValidChildren, cValidChildren, cInjChildren}
 use Rattle.calculus.specs.Rules.{guard, then}
 use Rattle.calculus.specs.Steps.{LIntro, LValid, CCollapse, CValid}
-use Rattle.calculus.specs.Model.{modelOf}
+use Rattle.calculus.specs.Model.{modelValue}
 use Rattle.calculus.specs.SaturationTest.{held, heldSome, byChildren, saturatedStep, saturatedCard, saturated}
-use Rattle.calculus.proofs.Rows.{eqℤ→, →eqℤ, isZero→, →isZero}
+use Rattle.calculus.proofs.LinearForms.{eqℤ→, →eqℤ, isZero→, →isZero}
 use Rattle.calculus.proofs.Relations.{nonneg→, →nonneg}
-use Rattle.calculus.proofs.Leaf.{apply-in, less-in, number-in, difference-in, last-in}
+use Rattle.calculus.proofs.Leaf.{apply-in, above-in, number-in, difference-in, last-in}
 use Rattle.leaf.specs.Values.{textFits, literalFits, lengthFits, codeBy, codeFits, varFits, pairBy, pairFits, byValues}
 
 -- ---- tests of equal meaning
@@ -47,7 +47,7 @@ positive-minus (negsuc k) = refl
 
 module _ (u : Question) (ls : List ℕ) (m : List ℤ) where
   abbrev M : Function → ℕ → ℤ
-  M f x = modelOf u m f x
+  M f x = modelValue u m f x
 
   one-holds : (f : Fact) {t : Bool} → held ls m f ≡ t → heldSome ls m (one f) ≡ t
   one-holds f e = or-false (held ls m f && true) ∙ and-true (held ls m f) ∙ e
@@ -78,7 +78,7 @@ module _ (u : Question) (ls : List ℕ) (m : List ℤ) where
   unfolding lengthFits
   length-step x =
       ap₂ _||_ (and-true (sameClass ls (varNode x) (litNode 0)))
-      (one-holds (arithmetic ge (less (apply u len x))) (ap nonNeg (less-in u m x) ∙ positive-minus (M len x)))
+      (one-holds (arithmetic ge (above (apply u len x))) (ap nonNeg (above-in u m x) ∙ positive-minus (M len x)))
 
   -- C-Valid
   code-cases : (n : ℕ) (t : Bool) (c : ℤ)
@@ -90,7 +90,7 @@ module _ (u : Question) (ls : List ℕ) (m : List ℤ) where
 
   code-step : (x : ℕ) → heldSome ls m (cValidChildren u x) ≡ codeFits (u .n) (M len x) (M code x)
   code-step x =
-      let single : isZero (valueIn m (less (apply u len x))) ≡ eqℤ (M len x) (pos 1) = ap isZero (less-in u m x) ∙ zero-minus (M len x) (pos 1) in
+      let single : isZero (valueIn m (above (apply u len x))) ≡ eqℤ (M len x) (pos 1) = ap isZero (above-in u m x) ∙ zero-minus (M len x) (pos 1) in
       ap₂ _||_ (ap₂ (λ (s t : Bool). not s && (t && true)) single (number-is code x (negsuc 0)))
       (ap₂ (λ (s t : Bool). (s && t) || false) single (ap₂ (λ (s t : Bool). s && (t && true)) (ap nonNeg (apply-in u m code x)) (ap nonNeg (last-in u m x))))
       ∙ code-cases (u .n) (eqℤ (M len x) (pos 1)) (M code x)
@@ -162,12 +162,12 @@ module _ (u : Question) (b : Branch) (m : List ℤ) where
   var-step x =
       let a = saturatedStep u b m (LIntro x) in
       let c = saturatedStep u b m (CCollapse x) in
-      let l = lengthFits (labels b) x (modelOf u m len x) in
-      let k = codeFits (u .n) (modelOf u m len x) (modelOf u m code x) in
-      let f = literalFits u (classLiteral u b x) (modelOf u m len x) (modelOf u m code x) in
+      let l = lengthFits (labels b) x (modelValue u m len x) in
+      let k = codeFits (u .n) (modelValue u m len x) (modelValue u m code x) in
+      let f = literalFits u (classLiteral u b x) (modelValue u m len x) (modelValue u m code x) in
       let literal : (a && c) ≡ f =
       ap₂ _&&_ (literal-step u (labels b) m len x (classLiteral u b x)) (literal-step u (labels b) m code x (classLiteral u b x))
-      ∙ both-values u (labels b) m (classLiteral u b x) (modelOf u m len x) (modelOf u m code x) in
+      ∙ both-values u (labels b) m (classLiteral u b x) (modelValue u m len x) (modelValue u m code x) in
       ap (λ (t : Bool). t && saturatedCard u (labels b) m x)
       (ap₂ _&&_ (ap (λ (t : Bool). a && t && c) (length-step u (labels b) m x) ∙ swap a l c ∙ ap (λ (t : Bool). t && l) literal) (code-step u (labels b) m x))
       ∙ and-assoc (f && l) k (saturatedCard u (labels b) m x)

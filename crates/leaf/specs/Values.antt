@@ -9,12 +9,12 @@ use lib.IntN.{ℤ, pos, negsuc}
 use lib.Signed.{ltZ}
 use Rattle.lists.specs.Lists.{allBelow}
 use Rattle.calculus.specs.Alphabet.{lastCharacter}
-use Rattle.calculus.specs.Rows.{eqℤ}
+use Rattle.calculus.specs.LinearForms.{eqℤ}
 use Rattle.calculus.specs.Facts.{Question, literal, codeOf, len, code}
 use Rattle.calculus.specs.Chains.{varNode, litNode}
 use Rattle.calculus.specs.Classes.{sameClass, literalIn}
-use Rattle.calculus.specs.Rules.{logUp}
-use Rattle.calculus.specs.Model.{modelOf}
+use Rattle.calculus.specs.Rules.{leastPower}
+use Rattle.calculus.specs.Model.{modelValue}
 use Rattle.calculus.specs.SaturationTest.{saturatedCard}
 
 -- z and c are a text's length and code
@@ -41,14 +41,14 @@ codeFits n z c = codeBy (eqℤ z (pos 1)) n c
 
 -- Card's bound: n characters and a length for k different strings
 unfoldable pub roomy : ℕ → ℕ → ℕ → Bool
-roomy n k size = not (leb n 1) && leb (logUp k n k 0) size
+roomy n k size = not (leb n 1) && leb (leastPower k n k 0) size
 
 -- the rules with one variable
 unfoldable pub varFits : Question → List ℕ → List ℤ → ℕ → Bool
 varFits u ls m x =
-    literalFits u (literalIn u ls x) (modelOf u m len x) (modelOf u m code x)
-    && (lengthFits ls x (modelOf u m len x)
-    && (codeFits (u .n) (modelOf u m len x) (modelOf u m code x)
+    literalFits u (literalIn u ls x) (modelValue u m len x) (modelValue u m code x)
+    && (lengthFits ls x (modelValue u m len x)
+    && (codeFits (u .n) (modelValue u m len x) (modelValue u m code x)
     && saturatedCard u ls m x))
 
 -- S-Prop for lengths z, w and codes c, d of one class, C-Inj for those of two
@@ -59,7 +59,7 @@ pairBy false z w c d = eqℤ c (negsuc 0) || not (eqℤ c d)
 -- the rules with two variables
 unfoldable pub pairFits : Question → List ℕ → List ℤ → ℕ → ℕ → Bool
 pairFits u ls m x y =
-    pairBy (sameClass ls (varNode x) (varNode y)) (modelOf u m len x) (modelOf u m len y) (modelOf u m code x) (modelOf u m code y)
+    pairBy (sameClass ls (varNode x) (varNode y)) (modelValue u m len x) (modelValue u m len y) (modelValue u m code x) (modelValue u m code y)
 
 -- the rules for a variable, itself and with every variable
 abbrev pub byValues : Question → List ℕ → List ℤ → ℕ → Bool

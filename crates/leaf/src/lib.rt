@@ -8,12 +8,12 @@ ghost use lib.Dec.{eqb};
 ghost use lib.IntN.{pos, natAbs};
 ghost use Rattle.lists.specs.Lists.{allBelow};
 ghost use Rattle.calculus.specs.Limits.{alphabetLimit, variableLimit, literalLimit, factLimit};
-ghost use Rattle.calculus.specs.Rows.{eqℤ};
+ghost use Rattle.calculus.specs.LinearForms.{eqℤ};
 ghost use Rattle.calculus.specs.Facts.{len, code};
 ghost use Rattle.calculus.specs.Classes as classes;
-ghost use Rattle.calculus.specs.Classes.{lowest};
+ghost use Rattle.calculus.specs.Classes.{lowestLiteral};
 ghost use Rattle.calculus.specs.SaturationTest as test;
-ghost use Rattle.calculus.specs.SaturationTest.{lowestVar, lowestOf, saturatedCard};
+ghost use Rattle.calculus.specs.SaturationTest.{lowestVariable, lowestOfLength, saturatedCard};
 ghost use Rattle.format.specs.Fields.{u32s};
 ghost use Rattle.format.specs.Places.{skip, literalsFrom};
 ghost use Rattle.format.specs.Checking.{shortLengths};
@@ -88,7 +88,7 @@ fn fits_text(ticket: &[u8], at: usize, count: usize, len: i64, code: i64) -> boo
 // L-Intro and C-Collapse for variable x, whose length and code are given.
 fn literal_fits(ticket: &[u8], leaf: Leaf, x: usize, len: i64, code: i64) -> bool
     requires { ⌜ (x < variableLimit) × (leaf .literals ≤ literalLimit) × (skip (now ticket) (leaf .literals) literalsFrom ≤ length (now ticket)) ⌝ }
-    ensures { λ r. ⌜ r ≡ literalFits (asked (now (ticket .entry)) leaf) (lowest (leaf .labels) x 0 (suc (leaf .literals))) len code ⌝ }
+    ensures { λ r. ⌜ r ≡ literalFits (asked (now (ticket .entry)) leaf) (lowestLiteral (leaf .labels) x 0 (suc (leaf .literals))) len code ⌝ }
 {
     let labels = leaf.labels;
     let found = classes::class_literal(labels, leaf.literals + 1, x);
@@ -130,13 +130,13 @@ fn code_fits(n: usize, len: i64, code: i64) -> bool
 // 1 for the lowest variable of its class whose length is the given one, else 0.
 fn tally(labels: [u8; NODE_COUNT], y: usize, len: i64, wanted: i64) -> usize
     requires { ⌜ y < variableLimit ⌝ }
-    ensures { λ r. ⌜ r ≡ cond (eqℤ len wanted && eqb (lowestVar labels y) y) 1 0 ⌝ }
+    ensures { λ r. ⌜ r ≡ cond (eqℤ len wanted && eqb (lowestVariable labels y) y) 1 0 ⌝ }
     ensures { λ r. ⌜ r ≤ 1 ⌝ }
 {
     if !equal(len, wanted) {
         return 0;
     }
-    let first = classes::lowest_var(labels, y);
+    let first = classes::lowest_variable(labels, y);
     if first != y {
         return 0;
     }
@@ -146,7 +146,7 @@ fn tally(labels: [u8; NODE_COUNT], y: usize, len: i64, wanted: i64) -> usize
 // The number of classes whose length is the given one.
 fn classes_of(model: &[i64], leaf: Leaf, wanted: i64) -> usize
     requires { ⌜ Modelled (now model) leaf ⌝ }
-    ensures { λ r. ⌜ r ≡ length (lowestOf (asked [] leaf) (leaf .labels) (now (model .entry)) wanted (leaf .p)) ⌝ }
+    ensures { λ r. ⌜ r ≡ length (lowestOfLength (asked [] leaf) (leaf .labels) (now (model .entry)) wanted (leaf .p)) ⌝ }
     ensures { λ r. ⌜ r ≤ leaf .p ⌝ }
 {
     let labels = leaf.labels;
@@ -169,7 +169,7 @@ fn has_room(n: usize, k: usize, size: usize) -> bool
     if n <= 1 {
         return false;
     }
-    let least = classes::log_up(n, k);
+    let least = classes::least_power(n, k);
     least <= size
 }
 

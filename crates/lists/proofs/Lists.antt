@@ -9,7 +9,7 @@ use mathlib.Core.Option.{some}
 use mathlib.Core.List.{List, [], _∷_, _++_, map, flatMap, append-nil, append-assoc}
 use lib.ListN.{length, getD, getElem?, replicate, length-append}
 use lib.Dec.{T}
-use Rattle.lists.specs.Lists.{All, NotIn, Distinct, all, any, eqList, onward, along}
+use Rattle.lists.specs.Lists.{All, NotIn, Distinct, all, any, eqList, placeAfter, valuesAlong}
 use Rattle.lists.proofs.Tests.{→true, true→, and→, →and, or→, →or-left, →or-right}
 use Rattle.lists.proofs.Options.{some-injective, none-some}
 
@@ -212,28 +212,28 @@ getD-all P (x ∷ xs) d h = (h 0 (omega arith), getD-all P xs d (λ i g. h (suc 
 
 -- ---- lists read place by place
 
-pub onward-suc : {A : Type 0} (go : A → A) (a : A) (k : ℕ) → onward go a (suc k) ≡ go (onward go a k)
-onward-suc go a zero = refl
-onward-suc go a (suc k) = onward-suc go (go a) k
+pub placeAfter-suc : {A : Type 0} (go : A → A) (a : A) (k : ℕ) → placeAfter go a (suc k) ≡ go (placeAfter go a k)
+placeAfter-suc go a zero = refl
+placeAfter-suc go a (suc k) = placeAfter-suc go (go a) k
 
 -- places a fixed width apart
-pub onward-by : (w a k : ℕ) → onward (λ i. i + w) a k ≡ a + w * k
-onward-by w a zero = omega arith
-onward-by w a (suc k) = onward-by w (a + w) k ∙ let e : w * suc k ≡ w * k + w = mul-suc w k in omega arith
+pub placeAfter-by : (w a k : ℕ) → placeAfter (λ i. i + w) a k ≡ a + w * k
+placeAfter-by w a zero = omega arith
+placeAfter-by w a (suc k) = placeAfter-by w (a + w) k ∙ let e : w * suc k ≡ w * k + w = mul-suc w k in omega arith
 
 module _ {A B : Type 0} (go : A → A) (f : A → B) where
-  pub length-along : (a : A) (k : ℕ) → length (along go f a k) ≡ k
-  length-along a zero = refl
-  length-along a (suc k) = ap suc (length-along (go a) k)
+  pub length-valuesAlong : (a : A) (k : ℕ) → length (valuesAlong go f a k) ≡ k
+  length-valuesAlong a zero = refl
+  length-valuesAlong a (suc k) = ap suc (length-valuesAlong (go a) k)
 
-  pub getD-along : (a : A) (k j : ℕ) (d : B) → j < k → getD (along go f a k) j d ≡ f (onward go a j)
-  getD-along a zero j d h = absurd (omega arith)
-  getD-along a (suc k) zero d h = refl
-  getD-along a (suc k) (suc j) d h = getD-along (go a) k j d (omega arith)
+  pub getD-valuesAlong : (a : A) (k j : ℕ) (d : B) → j < k → getD (valuesAlong go f a k) j d ≡ f (placeAfter go a j)
+  getD-valuesAlong a zero j d h = absurd (omega arith)
+  getD-valuesAlong a (suc k) zero d h = refl
+  getD-valuesAlong a (suc k) (suc j) d h = getD-valuesAlong (go a) k j d (omega arith)
 
-  pub along-snoc : (a : A) (k : ℕ) → along go f a (suc k) ≡ along go f a k ++ (f (onward go a k) ∷ [])
-  along-snoc a zero = refl
-  along-snoc a (suc k) = ap (λ xs. f a ∷ xs) (along-snoc (go a) k)
+  pub valuesAlong-snoc : (a : A) (k : ℕ) → valuesAlong go f a (suc k) ≡ valuesAlong go f a k ++ (f (placeAfter go a k) ∷ [])
+  valuesAlong-snoc a zero = refl
+  valuesAlong-snoc a (suc k) = ap (λ xs. f a ∷ xs) (valuesAlong-snoc (go a) k)
 
 -- ---- what is given of each element, one after another
 

@@ -45,11 +45,11 @@ anyBelow (suc k) t = t k || anyBelow k t
 -- ---- place by place
 
 -- the place behind k others, the first of which is a: go leads from each to the next
-abbrev pub onward : {A : Type 0} → (A → A) → A → ℕ → A
-onward go a zero = a
-onward go a (suc k) = onward go (go a) k
+abbrev pub placeAfter : {A : Type 0} → (A → A) → A → ℕ → A
+placeAfter go a zero = a
+placeAfter go a (suc k) = placeAfter go (go a) k
 
 -- what f gives at each of k places from a on
-abbrev pub along : {A B : Type 0} → (A → A) → (A → B) → A → ℕ → List B
-along go f a zero = []
-along go f a (suc k) = f a ∷ along go f (go a) k
+abbrev pub valuesAlong : {A B : Type 0} → (A → A) → (A → B) → A → ℕ → List B
+valuesAlong go f a zero = []
+valuesAlong go f a (suc k) = f a ∷ valuesAlong go f (go a) k

@@ -8,13 +8,13 @@ use lib.ListN.{length, getD}
 use lib.Dec.{leb, ltb, eqb}
 use lib.IntN.{ℤ, natAbs}
 use Rattle.lists.specs.Lists.{allBelow}
-use Rattle.calculus.specs.Rows.{eqℤ}
+use Rattle.calculus.specs.LinearForms.{eqℤ}
 use Rattle.calculus.specs.Facts.{Question, Branch, len, code}
 use Rattle.calculus.specs.Classes.{labels, classLiteral, conflict}
 use Rattle.calculus.specs.Steps.{SProp, LIntro, LValid, CCollapse, CValid, CInj}
-use Rattle.calculus.specs.Rules.{logUp}
-use Rattle.calculus.specs.Model.{modelOf}
-use Rattle.calculus.specs.SaturationTest.{lowestVar, lowestOf, saturatedStep, saturatedCard, saturated}
+use Rattle.calculus.specs.Rules.{leastPower}
+use Rattle.calculus.specs.Model.{modelValue}
+use Rattle.calculus.specs.SaturationTest.{lowestVariable, lowestOfLength, saturatedStep, saturatedCard, saturated}
 use Rattle.calculus.specs.Strings.{freshFrom, fixedBy, fixedString, fixedStrings, stringOf, stringsTo, strings}
 use Rattle.format.specs.Records.{need}
 use Rattle.format.specs.Checking.{keeps, shortLengths, leafFault}
@@ -23,15 +23,15 @@ use Rattle.model.specs.Settled.{bare}
 module _ (u : Question) (br : Branch) (m : List ℤ) where
   -- ---- saturation
 
-  lowest-bare : (ls : List ℕ) (z : ℤ) (k : ℕ) → lowestOf (bare u) ls m z k ≡ lowestOf u ls m z k
+  lowest-bare : (ls : List ℕ) (z : ℤ) (k : ℕ) → lowestOfLength (bare u) ls m z k ≡ lowestOfLength u ls m z k
   lowest-bare ls z zero = refl
   lowest-bare ls z (suc k) =
-      ap (λ (l : List ℕ). elim (eqℤ (modelOf u m len k) z && eqb (lowestVar ls k) k) as (λ _. List ℕ) [ true ↦ k ∷ l | false ↦ l ]) (lowest-bare ls z k)
+      ap (λ (l : List ℕ). elim (eqℤ (modelValue u m len k) z && eqb (lowestVariable ls k) k) as (λ _. List ℕ) [ true ↦ k ∷ l | false ↦ l ]) (lowest-bare ls z k)
 
   card-bare : (ls : List ℕ) (x : ℕ) → saturatedCard (bare u) ls m x ≡ saturatedCard u ls m x
   card-bare ls x =
-      ap (λ (l : List ℕ). leb (length l) 1 || (not (leb (u .n) 1) && leb (logUp (length l) (u .n) (length l) 0) (natAbs (modelOf u m len x))))
-      (lowest-bare ls (modelOf u m len x) (u .p))
+      ap (λ (l : List ℕ). leb (length l) 1 || (not (leb (u .n) 1) && leb (leastPower (length l) (u .n) (length l) 0) (natAbs (modelValue u m len x))))
+      (lowest-bare ls (modelValue u m len x) (u .p))
 
   saturated-bare : saturated (bare u) br m ≡ saturated u br m
   saturated-bare = ap (λ (card : ℕ → Bool). not (conflict u br) && allBelow (u .p) (λ x.
@@ -49,7 +49,7 @@ module _ (u : Question) (br : Branch) (m : List ℤ) where
   by-literal (some l) z c = refl
 
   fixed-bare : (x : ℕ) → fixedString (bare u) br m x ≡ fixedString u br m x
-  fixed-bare x = by-literal (classLiteral u br x) (modelOf u m len x) (modelOf u m code x)
+  fixed-bare x = by-literal (classLiteral u br x) (modelValue u m len x) (modelValue u m code x)
 
   all-fixed-bare : (k : ℕ) → fixedStrings (bare u) br m k ≡ fixedStrings u br m k
   all-fixed-bare zero = refl
@@ -60,9 +60,9 @@ module _ (u : Question) (br : Branch) (m : List ℤ) where
   string-bare x done = ap₂ (λ (o : Option (List ℕ)) (ss : List (List ℕ)). elim o as (λ _. List ℕ) [
     | some s ↦ s
     | none ↦
-        elim (ltb (lowestVar (labels br) x) x) as (λ _. List ℕ) [
-          | true ↦ getD done (lowestVar (labels br) x) []
-          | false ↦ freshFrom (u .p) (u .n) (natAbs (modelOf u m len x)) (ss ++ done) 0
+        elim (ltb (lowestVariable (labels br) x) x) as (λ _. List ℕ) [
+          | true ↦ getD done (lowestVariable (labels br) x) []
+          | false ↦ freshFrom (u .p) (u .n) (natAbs (modelValue u m len x)) (ss ++ done) 0
         ]
   ]) (fixed-bare x) (all-fixed-bare (u .p))
 

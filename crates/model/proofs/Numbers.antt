@@ -6,7 +6,7 @@ use mathlib.Core.Path.{_≡_, _∙_, ap}
 use mathlib.Core.List.{List, _∷_, _++_}
 use lib.ListN.{set}
 use Rattle.calculus.specs.Limits.{columnLimit}
-use Rattle.calculus.specs.Rows.{zeros}
+use Rattle.calculus.specs.LinearForms.{zeros}
 use Rattle.format.specs.Fields.{i32, i32s}
 
 set-next : (b : List ℕ) (at j n : ℕ) → set (i32s b at j ++ zeros (suc n)) j (i32 b (at + 4 * j)) ≡ i32s b at (suc j) ++ zeros n

@@ -9,7 +9,7 @@ use lib.Seq.{take-at}
 use lib.IntN.{ℤ}
 use borrow.Author.Tests.{eq-eqb}
 use Rattle.calculus.specs.Limits.{columnLimit, valueLimit}
-use Rattle.calculus.specs.Rows.{zeros}
+use Rattle.calculus.specs.LinearForms.{zeros}
 use Rattle.calculus.specs.Facts.{Branch}
 use Rattle.calculus.specs.Classes.{labels}
 use Rattle.format.specs.Fields.{i32s, allWithin}

@@ -6,7 +6,7 @@ use mathlib.Core.List.{List, [], _++_}
 use lib.ListN.{length, take}
 use lib.IntN.{ℤ}
 use Rattle.calculus.specs.Limits.{columnLimit, valueLimit}
-use Rattle.calculus.specs.Rows.{zeros}
+use Rattle.calculus.specs.LinearForms.{zeros}
 use Rattle.calculus.specs.Facts.{Question, Branch}
 use Rattle.calculus.specs.Classes.{labels}
 use Rattle.format.specs.Checking.{shortLengths}

@@ -5,7 +5,7 @@ ghost use Prim.Native.Nat.{_+_, _*_, _-_, _≤_};
 ghost use lib.ListN.{length, take, drop};
 ghost use lib.IntN.{ℤ};
 ghost use Rattle.calculus.specs.Limits.{columnLimit, answerBytes};
-ghost use Rattle.calculus.specs.Rows.{zeros};
+ghost use Rattle.calculus.specs.LinearForms.{zeros};
 ghost use Rattle.calculus.specs.Facts.{Question, Branch};
 ghost use Rattle.calculus.specs.Classes as calculus;
 ghost use Rattle.format.specs.Fields.{i32s};

@@ -3,7 +3,7 @@ use Prim.Native.Nat.{ℕ, zero, suc, _+_}
 use native.Mathlib.Omega.{arith}
 use mathlib.Core.Path.{_≡_, refl}
 use mathlib.Core.Logic.{_≢_}
-use Rattle.calculus.specs.Rows.{column}
+use Rattle.calculus.specs.LinearForms.{column}
 use Rattle.calculus.specs.Facts.{Question, apply}
 use Rattle.format.specs.StepForms.{functionOf}
 use Rattle.question.specs.Columns.{columnAt}

@@ -14,7 +14,7 @@ use Rattle.calculus.specs.Limits.{ticketBytes, factLimit}
 use Rattle.format.specs.Fields.{u16, u32}
 use Rattle.format.specs.Records.{size, kind, next}
 use Rattle.format.specs.Question as format
-use Rattle.format.specs.Question.{fault, advanced, fresh, ending, readOn, question}
+use Rattle.format.specs.Question.{questionFault, questionAdvanced, unread, ending, readOn, question}
 use Rattle.format.specs.Places.{skip, texts, constraintsAt, literalsFrom}
 use Rattle.format.proofs.Places.{skip-far, skip-snoc, skip-up, length-texts, length-constraints, read-head, read-literal, read-constraint}
 use Rattle.format.proofs.Turns.{read-none, read-ended, read-stopped, read-more, read-long, read-begin}
@@ -53,7 +53,7 @@ after b s at =
     (cond (eqb (kind b at) 2) (record { last = 2; n = s .n; p = s .p; q = s .q; literals = s .literals + 1; constraints = s .constraints })
     (record { last = kind b at; n = s .n; p = s .p; q = s .q; literals = s .literals; constraints = s .constraints + 1 }))
 
-module _ (b : List ℕ) (s : Progress) (at : ℕ) (h : Stands b s at) (e : fault b (progressOf b s) at ≡ 0) where
+module _ (b : List ℕ) (s : Progress) (at : ℕ) (h : Stands b s at) (e : questionFault b (progressOf b s) at ≡ 0) where
   no-fault : Passed b (progressOf b s) at
   no-fault = passed b (progressOf b s) at e
 
@@ -71,10 +71,10 @@ module _ (b : List ℕ) (s : Progress) (at : ℕ) (h : Stands b s at) (e : fault
   constraint-here : (kind b at ≡ 1 → ⊥) → at ≡ skip b (s .constraints) (skip b (s .literals) literalsFrom)
   constraint-here x = h .ends-here (behind x .head-read)
 
-  pub after-advanced : progressOf b (after b s at) ≡ advanced b (progressOf b s) at
+  pub after-advanced : progressOf b (after b s at) ≡ questionAdvanced b (progressOf b s) at
   after-advanced = go (ℕ-discrete (kind b at) 1) (ℕ-discrete (kind b at) 2)
     where
-      go : Dec (kind b at ≡ 1) → Dec (kind b at ≡ 2) → progressOf b (after b s at) ≡ advanced b (progressOf b s) at
+      go : Dec (kind b at ≡ 1) → Dec (kind b at ≡ 2) → progressOf b (after b s at) ≡ questionAdvanced b (progressOf b s) at
       go (yes k) d = rw (eq-eqb _ _ k) (read-head b (progressOf b s) at k)
       go (no x) (yes k) =
           let (here, none) = literal-here k in
@@ -185,7 +185,7 @@ module _ (b : List ℕ) (s : Progress) (at : ℕ) (h : Stands b s at) (e : fault
       go (no x) (no y) = rw (ne-eqb _ _ x, ne-eqb _ _ y) (after-constraint x y)
 
   -- and so do the numbers that are known to be those after the record
-  pub advanced-stands : (t : Progress) → progressOf b t ≡ advanced b (progressOf b s) at → Stands b t (next b at)
+  pub advanced-stands : (t : Progress) → progressOf b t ≡ questionAdvanced b (progressOf b s) at → Stands b t (next b at)
   advanced-stands t g = subst (λ (u : Progress). Stands b u (next b at)) (same-numbers b (after b s at) t (after-advanced ∙ sym g)) after-stands
 
 -- ---- all records
@@ -194,7 +194,7 @@ module _ (b : List ℕ) (s : Progress) (at : ℕ) (h : Stands b s at) (e : fault
 abbrev pub begun : Progress
 begun = record { last = 0; n = 0; p = 0; q = 0; literals = 0; constraints = 0 }
 
-pub begun-fresh : (b : List ℕ) → progressOf b begun ≡ fresh
+pub begun-fresh : (b : List ℕ) → progressOf b begun ≡ unread
 unfolding texts constraintsAt
 begun-fresh b = refl
 
@@ -219,37 +219,37 @@ abbrev pub Ends : List ℕ → Progress → ℕ → Type 0
 Ends b t to = Stands b t to × (to + 6 ≤ length b)
 
 read-stands : (d : ℕ) (b : List ℕ) (s t : Progress) (r at to q : ℕ) → length b ≤ at + d → Stands b s at
-    → readOn fault b (progressOf b s) r at ≡ format.Ended (progressOf b t) to q → Ends b t to
-read-stands zero b s t r at to q l h e = let g = read-none fault b (progressOf b s) r at (omega arith) in clash cc
+    → readOn questionFault b (progressOf b s) r at ≡ format.Ended (progressOf b t) to q → Ends b t to
+read-stands zero b s t r at to q l h e = let g = read-none questionFault b (progressOf b s) r at (omega arith) in clash cc
 read-stands (suc d) b s t r at to q l h e =
-    go (leb (at + 6) (length b)) (ending (kind b at)) (fault b (progressOf b s) at) refl refl refl
+    go (leb (at + 6) (length b)) (ending (kind b at)) (questionFault b (progressOf b s) at) refl refl refl
     (λ k. read-stands d b (after b s at) t (suc r) (next b at) to q (omega arith) (after-stands b s at h k))
   where
-    go : (x y : Bool) (f : ℕ) → leb (at + 6) (length b) ≡ x → ending (kind b at) ≡ y → fault b (progressOf b s) at ≡ f
-        → (fault b (progressOf b s) at ≡ 0 → readOn fault b (progressOf b (after b s at)) (suc r) (next b at) ≡ format.Ended (progressOf b t) to q → Ends b t to) → Ends b t to
-    go false y f ex ey ef later = let g = read-none fault b (progressOf b s) r at (leb-false _ _ ex) in clash cc
+    go : (x y : Bool) (f : ℕ) → leb (at + 6) (length b) ≡ x → ending (kind b at) ≡ y → questionFault b (progressOf b s) at ≡ f
+        → (questionFault b (progressOf b s) at ≡ 0 → readOn questionFault b (progressOf b (after b s at)) (suc r) (next b at) ≡ format.Ended (progressOf b t) to q → Ends b t to) → Ends b t to
+    go false y f ex ey ef later = let g = read-none questionFault b (progressOf b s) r at (leb-false _ _ ex) in clash cc
     go true true f ex ey ef later =
-        let g = read-ended fault b (progressOf b s) r at (leb-true _ _ ex) ey in
+        let g = read-ended questionFault b (progressOf b s) r at (leb-true _ _ ex) ey in
         let here : at ≡ to = cc in
         let known : progressOf b s ≡ progressOf b t = cc in
         (subst (λ (u : Progress). Stands b u to) (same-numbers b s t known) (subst (Stands b s) here h), subst (λ z. z + 6 ≤ length b) here (leb-true _ _ ex))
-    go true false (suc f) ex ey ef later = let g = read-stopped fault b (progressOf b s) r at f (leb-true _ _ ex) ey ef in clash cc
+    go true false (suc f) ex ey ef later = let g = read-stopped questionFault b (progressOf b s) r at f (leb-true _ _ ex) ey ef in clash cc
     go true false zero ex ey ef later =
-        later ef (ap (λ (u : format.Progress). readOn fault b u (suc r) (next b at)) (after-advanced b s at h ef) ∙ sym (read-more fault b (progressOf b s) r at (leb-true _ _ ex) ey ef) ∙ e)
+        later ef (ap (λ (u : format.Progress). readOn questionFault b u (suc r) (next b at)) (after-advanced b s at h ef) ∙ sym (read-more questionFault b (progressOf b s) r at (leb-true _ _ ex) ey ef) ∙ e)
 
 -- a question is read from a ticket that is not too long
 pub question-short : (b : List ℕ) (t : format.Progress) (to q : ℕ) → question b ≡ format.Ended t to q → length b ≤ ticketBytes
 question-short b t to q e = go (leb (length b) ticketBytes) refl
   where
     go : (x : Bool) → leb (length b) ticketBytes ≡ x → length b ≤ ticketBytes
-    go false ex = let g = read-long fault b (leb-false _ _ ex) in clash cc
+    go false ex = let g = read-long questionFault b (leb-false _ _ ex) in clash cc
     go true ex = leb-true _ _ ex
 
 -- it stands in the bytes, up to the six leading bytes where reading ended
 pub question-stands : (b : List ℕ) (t : Progress) (to q : ℕ) → question b ≡ format.Ended (progressOf b t) to q → Ends b t to
 question-stands b t to q e =
     read-stands (length b) b begun t 0 0 to q (omega arith) (begun-stands b)
-    (ap (λ (u : format.Progress). readOn fault b u 0 0) (begun-fresh b) ∙ sym (read-begin fault b (question-short b (progressOf b t) to q e)) ∙ e)
+    (ap (λ (u : format.Progress). readOn questionFault b u 0 0) (begun-fresh b) ∙ sym (read-begin questionFault b (question-short b (progressOf b t) to q e)) ∙ e)
 
 pub question-posed : (b : List ℕ) (t : Progress) (to q : ℕ) → question b ≡ format.Ended (progressOf b t) to q → 1 ≤ t .last → Posed b t
 question-posed b t to q e h = record { to = to; stands = question-stands b t to q e .0; head = h; short = question-short b (progressOf b t) to q e }

@@ -11,7 +11,7 @@ ghost use Rattle.calculus.specs.Facts.{codeOf};
 ghost use Rattle.calculus.specs.Strings.{eqString, given};
 ghost use Rattle.format.specs.Fields.{u32s, signed, pairsAt};
 ghost use Rattle.format.specs.Records.{kind as kindAt, size as sizeAt};
-ghost use Rattle.format.specs.Question.{headFault, textOf, literalFault, stringRange, stringFault, coefficientInRange, pairInRange, rising, formRange, arithmeticFault, kindInPlace, bodyFault, fault, advanced, ending, question};
+ghost use Rattle.format.specs.Question.{headFault, textOf, literalFault, stringRange, stringFault, coefficientInRange, pairInRange, rising, formRange, arithmeticFault, kindInPlace, questionBodyFault, questionFault, questionAdvanced, ending, question};
 ghost use Rattle.format.specs.Places.{skip, texts, literalsFrom};
 ghost use Rattle.question.specs.Progress.{progressOf, readingOf};
 ghost use Rattle.question.specs.Standing.{Stands};
@@ -312,7 +312,7 @@ fn in_place(last: usize, literals: usize, k: usize) -> bool
 // The first of 5 to 7 that applies to a body of kind k.
 fn body_fault(b: &[u8], s: Progress, k: usize, at: usize, size: usize) -> usize
     requires { ⌜ (at + size ≤ length (now b)) × (k ≡ 2 → skip (now b) (s .literals) literalsFrom ≤ length (now b)) × (s .p ≤ variableLimit) × (s .q ≤ variableLimit) ⌝ }
-    ensures { λ r. ⌜ r ≡ bodyFault (now (b .entry)) (progressOf (now (b .entry)) s .question) k at size ⌝ }
+    ensures { λ r. ⌜ r ≡ questionBodyFault (now (b .entry)) (progressOf (now (b .entry)) s .question) k at size ⌝ }
 {
     if k == 1 {
         return head_fault(b, at, size);
@@ -330,7 +330,7 @@ fn body_fault(b: &[u8], s: Progress, k: usize, at: usize, size: usize) -> usize
 fn record_fault(b: &[u8], s: Progress, k: usize, at: usize, size: usize) -> usize
     requires { ⌜ Stands (now b) s at ⌝ }
     requires { ⌜ (k ≡ kindAt (now b) at) × (size ≡ sizeAt (now b) at) × (at + 6 + size ≤ length (now b)) ⌝ }
-    ensures { λ r. ⌜ r ≡ fault (now (b .entry)) (progressOf (now (b .entry)) s) at ⌝ }
+    ensures { λ r. ⌜ r ≡ questionFault (now (b .entry)) (progressOf (now (b .entry)) s) at ⌝ }
 {
     if !in_place(s.last, s.literals, k) {
         return 4;
@@ -349,8 +349,8 @@ fn record_fault(b: &[u8], s: Progress, k: usize, at: usize, size: usize) -> usiz
 // What was read after a record without fault.
 fn advance(b: &[u8], s: Progress, k: usize, at: usize) -> Progress
     requires { ⌜ Stands (now b) s at ⌝ }
-    requires { ⌜ (k ≡ kindAt (now b) at) × (fault (now b) (progressOf (now b) s) at ≡ 0) ⌝ }
-    ensures { λ r. ⌜ progressOf (now (b .entry)) r ≡ advanced (now (b .entry)) (progressOf (now (b .entry)) s) at ⌝ }
+    requires { ⌜ (k ≡ kindAt (now b) at) × (questionFault (now b) (progressOf (now b) s) at ≡ 0) ⌝ }
+    ensures { λ r. ⌜ progressOf (now (b .entry)) r ≡ questionAdvanced (now (b .entry)) (progressOf (now (b .entry)) s) at ⌝ }
 {
     if k == 1 {
         let body = at + 6;

@@ -5,7 +5,7 @@ use mathlib.Core.List.{List}
 use Prim.Native.Nat.{ℕ, _+_, _≤_, _<_}
 use lib.ListN.{length}
 use borrow.Author.Tests.{leb-true, leb-false}
-use Rattle.format.specs.Records.{headed, whole, next, kind, size}
+use Rattle.format.specs.Records.{leadingWhole, whole, next, kind, size}
 use Rattle.format.proofs.Faults.{clash}
 use Rattle.records.specs.Found.{foundAt}
 use Rattle.records.specs.declared.Found.{Found}
@@ -18,27 +18,27 @@ module _ (b : List ℕ) (at : ℕ) where
 
   pub found-nothing : foundAt b at ≡ Nothing → length b < at + 6
   unfolding foundAt
-  found-nothing = go (headed b at) (whole b at) refl
+  found-nothing = go (leadingWhole b at) (whole b at) refl
     where
-      go : (h w : Bool) → headed b at ≡ h → found h w ≡ Nothing → length b < at + 6
+      go : (h w : Bool) → leadingWhole b at ≡ h → found h w ≡ Nothing → length b < at + 6
       go true true eh q = clash cc
       go true false eh q = clash cc
       go false w eh q = leb-false (at + 6) (length b) eh
 
   pub found-cut : (k : ℕ) → foundAt b at ≡ Cut k → (k ≡ kind b at) × (at + 6 ≤ length b) × (length b < next b at)
   unfolding foundAt
-  found-cut k = go (headed b at) (whole b at) refl refl
+  found-cut k = go (leadingWhole b at) (whole b at) refl refl
     where
-      go : (h w : Bool) → headed b at ≡ h → whole b at ≡ w → found h w ≡ Cut k → (k ≡ kind b at) × (at + 6 ≤ length b) × (length b < next b at)
+      go : (h w : Bool) → leadingWhole b at ≡ h → whole b at ≡ w → found h w ≡ Cut k → (k ≡ kind b at) × (at + 6 ≤ length b) × (length b < next b at)
       go true true eh ew q = clash cc
       go true false eh ew q = (cc, leb-true (at + 6) (length b) eh, leb-false (next b at) (length b) ew)
       go false w eh ew q = clash cc
 
   pub found-whole : (k m : ℕ) → foundAt b at ≡ Whole k m → (k ≡ kind b at) × (m ≡ size b at) × (at + 6 + m ≤ length b)
   unfolding foundAt
-  found-whole k m = go (headed b at) (whole b at) refl refl
+  found-whole k m = go (leadingWhole b at) (whole b at) refl refl
     where
-      go : (h w : Bool) → headed b at ≡ h → whole b at ≡ w → found h w ≡ Whole k m → (k ≡ kind b at) × (m ≡ size b at) × (at + 6 + m ≤ length b)
+      go : (h w : Bool) → leadingWhole b at ≡ h → whole b at ≡ w → found h w ≡ Whole k m → (k ≡ kind b at) × (m ≡ size b at) × (at + 6 + m ≤ length b)
       go true true eh ew q =
           let e : m ≡ size b at = cc in
           (cc, e, rw e (leb-true (next b at) (length b) ew))

@@ -7,11 +7,11 @@ use mathlib.Core.List.{List, [], _∷_, _++_}
 use lib.ListN.{length, getD, drop, set, length-set}
 use lib.Seq.{getD-set-same, getD-set-other}
 use lib.IntN.{ℤ, pos, negsuc, negℤ, _+ℤ_, _*ℤ_, +ℤ-idl, +ℤ-idr, +ℤ-assoc}
-use Rattle.calculus.specs.Rows.{plus, scale, zeros, number, column, minus, less, below}
+use Rattle.calculus.specs.LinearForms.{plus, scale, zeros, number, column, minus, above, below}
 use Rattle.calculus.specs.Facts.{arithmetic, ge, eq}
 use Rattle.calculus.specs.Instances.{entry}
 use Rattle.integers.proofs.Laws.{minus-one-*ℤ}
-use Rattle.calculus.proofs.Entries.{entry-plus, entry-scale, by-entries, length-scale, whole-number, whole-column, whole-minus, whole-less}
+use Rattle.calculus.proofs.Entries.{entry-plus, entry-scale, by-entries, length-scale, whole-number, whole-column, whole-minus, whole-above}
 use Rattle.format.specs.Question.{relationOf}
 use Rattle.rows.specs.Rows.{factOf}
 use Rattle.rows.specs.Work.{single, difference}
@@ -112,9 +112,9 @@ module _ (j : ℕ) (h : j < 48) where
       (λ i q. entry-minus (number k) (column j) (suc i) ∙ ap₂ (λ x y. x +ℤ negℤ y) (number-other k i) (column-other j i q))
 
   -- column j − 1
-  pub less-column : less (column j) ≡ single (negsuc 0) j (pos 1)
-  less-column = is-single (less (column j)) (negsuc 0) j (pos 1) h
-      (whole-less (column j) (whole-column j h))
+  pub above-column : above (column j) ≡ single (negsuc 0) j (pos 1)
+  above-column = is-single (above (column j)) (negsuc 0) j (pos 1) h
+      (whole-above (column j) (whole-column j h))
       (entry-plus (column j) (number (negsuc 0)) 0)
       (entry-plus (column j) (number (negsuc 0)) (suc j) ∙ ap₂ _+ℤ_ (column-same j) (number-other (negsuc 0) j))
       (λ i q. entry-plus (column j) (number (negsuc 0)) (suc i) ∙ ap₂ _+ℤ_ (column-other j i q) (number-other (negsuc 0) i))
@@ -176,18 +176,18 @@ plus-assoc (x ∷ a) [] c = refl
 plus-assoc (x ∷ a) (y ∷ b) [] = refl
 plus-assoc (x ∷ a) (y ∷ b) (z ∷ c) = ap₂ _∷_ (+ℤ-assoc x y z) (plus-assoc a b c)
 
-pub less-form : (c : ℤ) (cs : List ℤ) → length cs ≡ 48 → less (c ∷ cs) ≡ (c +ℤ negsuc 0) ∷ cs
-less-form c cs h = ap (λ l. (c +ℤ negsuc 0) ∷ l) (plus-zeros cs 48 (omega arith))
+pub above-form : (c : ℤ) (cs : List ℤ) → length cs ≡ 48 → above (c ∷ cs) ≡ (c +ℤ negsuc 0) ∷ cs
+above-form c cs h = ap (λ l. (c +ℤ negsuc 0) ∷ l) (plus-zeros cs 48 (omega arith))
 
 pub below-form : (c : ℤ) (cs : List ℤ) → length cs ≡ 48 → below (c ∷ cs) ≡ ((negsuc 0 *ℤ c) +ℤ negsuc 0) ∷ scale (negsuc 0) cs
 below-form c cs h = ap (λ l. ((negsuc 0 *ℤ c) +ℤ negsuc 0) ∷ l) (plus-zeros (scale (negsuc 0) cs) 48 (omega (arith, length-scale (negsuc 0) cs)))
 
 -- ---- rows with these forms in place of another
 
-pub less-fact : (row : List ℤ) (v : ℤ) → length row ≡ 50 → v ≡ getD row 1 (pos 0) +ℤ negsuc 0 → factOf (set (set row 0 (pos 0)) 1 v) ≡ arithmetic ge (less (drop 1 row))
-less-fact [] v h e = absurd (omega arith)
-less-fact (x ∷ []) v h e = absurd (omega arith)
-less-fact (x ∷ c ∷ cs) v h e = relation-fact 0 (v ∷ cs) (omega arith) ∙ ap (arithmetic ge) (ap (λ z. z ∷ cs) e ∙ sym (less-form c cs (omega arith)))
+pub above-fact : (row : List ℤ) (v : ℤ) → length row ≡ 50 → v ≡ getD row 1 (pos 0) +ℤ negsuc 0 → factOf (set (set row 0 (pos 0)) 1 v) ≡ arithmetic ge (above (drop 1 row))
+above-fact [] v h e = absurd (omega arith)
+above-fact (x ∷ []) v h e = absurd (omega arith)
+above-fact (x ∷ c ∷ cs) v h e = relation-fact 0 (v ∷ cs) (omega arith) ∙ ap (arithmetic ge) (ap (λ z. z ∷ cs) e ∙ sym (above-form c cs (omega arith)))
 
 pub below-fact : (row : List ℤ) (v : ℤ) → length row ≡ 50 → v ≡ (negsuc 0 *ℤ getD row 1 (pos 0)) +ℤ negsuc 0
     → factOf (set (pos 0 ∷ scale (negsuc 0) (drop 1 row)) 1 v) ≡ arithmetic ge (below (drop 1 row))

@@ -64,14 +64,14 @@ module _ (z : ℤ) (n : ℕ) (h : natAbs z ≤ n) (room : n ≤ 4000000000000000
   fits : SFits w64 z
   fits = small-fits z (omega arith)
 
-  abs-less : natAbs (z -ℤ pos 1) ≤ n + 1
-  abs-less = abs-+-le z (negsuc 0) {m = n} {n = 1} h (omega arith)
+  abs-above : natAbs (z -ℤ pos 1) ≤ n + 1
+  abs-above = abs-+-le z (negsuc 0) {m = n} {n = 1} h (omega arith)
 
-  pub less-fits : SFits w64 (toZ w64 (ofZ w64 z) -ℤ pos 1)
-  less-fits = rw (toZ-ofZ fits) (small-fits (z -ℤ pos 1) (omega (arith, abs-less)))
+  pub above-fits : SFits w64 (toZ w64 (ofZ w64 z) -ℤ pos 1)
+  above-fits = rw (toZ-ofZ fits) (small-fits (z -ℤ pos 1) (omega (arith, abs-above)))
 
-  pub less-is : toZ w64 (ofZ w64 (toZ w64 (ofZ w64 z) -ℤ pos 1)) ≡ z +ℤ negsuc 0
-  less-is = toZ-ofZ less-fits ∙ ap (λ x. x -ℤ pos 1) (toZ-ofZ fits)
+  pub above-is : toZ w64 (ofZ w64 (toZ w64 (ofZ w64 z) -ℤ pos 1)) ≡ z +ℤ negsuc 0
+  above-is = toZ-ofZ above-fits ∙ ap (λ x. x -ℤ pos 1) (toZ-ofZ fits)
 
   pub neg-fits : SFits w64 (pos 0 -ℤ toZ w64 (ofZ w64 z))
   neg-fits = minus-fits z _ (toZ-ofZ fits) (omega arith)

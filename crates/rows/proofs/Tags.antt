@@ -11,10 +11,10 @@ use lib.Signed.{ltZ}
 use mir.Syntax.{w64}
 use mir.Val.{SFits, toZ, ofZ}
 use mir.Facts.{toZ-ofZ, toZ-pos}
-use Rattle.calculus.specs.Facts.{same, apart, isLiteral, arithmetic}
+use Rattle.calculus.specs.Facts.{same, notSame, isLiteral, arithmetic}
 use Rattle.format.specs.Question.{stringFact, relationOf}
 use Rattle.rows.specs.Rows.{index, tagged, factOf}
-use Rattle.rows.specs.Work.{kindOf}
+use Rattle.rows.specs.Work.{tagOf}
 
 -- a signed number by its bits
 pub from-bits : (z : ℤ) (n : ℕ) → SFits w64 z → ofZ w64 z ≡ n → n < 9223372036854775808 → z ≡ pos n
@@ -35,40 +35,40 @@ index-of a h = ap (λ t. cond t a 0) (lt-ltb a 16 h)
 pub string-fact : (r a b : ℕ) (l : List ℤ) → r ≤ 2 → a < 16 → b < 16 → factOf (pos (r + 3) ∷ pos a ∷ pos b ∷ l) ≡ stringFact r a b
 unfolding factOf tagged
 string-fact zero a b l h g k = ap₂ same (index-of a g) (index-of b k)
-string-fact (suc zero) a b l h g k = ap₂ apart (index-of a g) (index-of b k)
+string-fact (suc zero) a b l h g k = ap₂ notSame (index-of a g) (index-of b k)
 string-fact (suc (suc zero)) a b l h g k = ap₂ isLiteral (index-of a g) (index-of b k)
 string-fact (suc (suc (suc r))) a b l h g k = absurd (omega arith)
 
 -- ---- the kind from the tag
 
 module _ (row : List ℤ) where
-  tag-kind : (z : ℤ) → getD row 0 (pos 0) ≡ z → kindOf (factOf row) ≡ kindOf (tagged z (index (getD row 1 (pos 0))) (index (getD row 2 (pos 0))) (drop 1 row))
+  tag-kind : (z : ℤ) → getD row 0 (pos 0) ≡ z → tagOf (factOf row) ≡ tagOf (tagged z (index (getD row 1 (pos 0))) (index (getD row 2 (pos 0))) (drop 1 row))
   unfolding factOf
-  tag-kind z e = ap (λ t. kindOf (tagged t (index (getD row 1 (pos 0))) (index (getD row 2 (pos 0))) (drop 1 row))) e
+  tag-kind z e = ap (λ t. tagOf (tagged t (index (getD row 1 (pos 0))) (index (getD row 2 (pos 0))) (drop 1 row))) e
 
-  pub kind-ge : getD row 0 (pos 0) ≡ pos 0 → kindOf (factOf row) ≡ 0
-  unfolding tagged kindOf
+  pub kind-ge : getD row 0 (pos 0) ≡ pos 0 → tagOf (factOf row) ≡ 0
+  unfolding tagged tagOf
   kind-ge e = tag-kind (pos 0) e
 
-  pub kind-eq : getD row 0 (pos 0) ≡ pos 1 → kindOf (factOf row) ≡ 1
-  unfolding tagged kindOf
+  pub kind-eq : getD row 0 (pos 0) ≡ pos 1 → tagOf (factOf row) ≡ 1
+  unfolding tagged tagOf
   kind-eq e = tag-kind (pos 1) e
 
-  pub kind-same : getD row 0 (pos 0) ≡ pos 3 → kindOf (factOf row) ≡ 3
-  unfolding tagged kindOf
+  pub kind-same : getD row 0 (pos 0) ≡ pos 3 → tagOf (factOf row) ≡ 3
+  unfolding tagged tagOf
   kind-same e = tag-kind (pos 3) e
 
-  pub kind-apart : getD row 0 (pos 0) ≡ pos 4 → kindOf (factOf row) ≡ 4
-  unfolding tagged kindOf
-  kind-apart e = tag-kind (pos 4) e
+  pub kind-not-same : getD row 0 (pos 0) ≡ pos 4 → tagOf (factOf row) ≡ 4
+  unfolding tagged tagOf
+  kind-not-same e = tag-kind (pos 4) e
 
-  pub kind-literal : getD row 0 (pos 0) ≡ pos 5 → kindOf (factOf row) ≡ 5
-  unfolding tagged kindOf
+  pub kind-literal : getD row 0 (pos 0) ≡ pos 5 → tagOf (factOf row) ≡ 5
+  unfolding tagged tagOf
   kind-literal e = tag-kind (pos 5) e
 
   other : (z : ℤ) (a b : ℕ) (e : List ℤ) → (ofZ w64 z ≡ 0 → ⊥) → (ofZ w64 z ≡ 1 → ⊥) → (ofZ w64 z ≡ 3 → ⊥) → (ofZ w64 z ≡ 4 → ⊥) → (ofZ w64 z ≡ 5 → ⊥)
-      → kindOf (tagged z a b e) ≡ 2
-  unfolding tagged kindOf
+      → tagOf (tagged z a b e) ≡ 2
+  unfolding tagged tagOf
   other (pos zero) a b e h0 h1 h3 h4 h5 = absurd (h0 refl)
   other (pos (suc zero)) a b e h0 h1 h3 h4 h5 = absurd (h1 refl)
   other (pos (suc (suc zero))) a b e h0 h1 h3 h4 h5 = refl
@@ -80,13 +80,13 @@ module _ (row : List ℤ) where
 
   -- any other tag is ≠
   pub kind-ne : (z : ℤ) → getD row 0 (pos 0) ≡ z → (ofZ w64 z ≡ 0 → ⊥) → (ofZ w64 z ≡ 1 → ⊥) → (ofZ w64 z ≡ 3 → ⊥) → (ofZ w64 z ≡ 4 → ⊥) → (ofZ w64 z ≡ 5 → ⊥)
-      → kindOf (factOf row) ≡ 2
+      → tagOf (factOf row) ≡ 2
   kind-ne z e h0 h1 h3 h4 h5 = tag-kind z e ∙ other z (index (getD row 1 (pos 0))) (index (getD row 2 (pos 0))) (drop 1 row) h0 h1 h3 h4 h5
 
 -- ---- the fact from the kind
 
-kind-relation : (z : ℤ) (a b : ℕ) (e : List ℤ) → kindOf (tagged z a b e) ≤ 2 → tagged z a b e ≡ arithmetic (relationOf (kindOf (tagged z a b e))) e
-unfolding tagged kindOf
+kind-relation : (z : ℤ) (a b : ℕ) (e : List ℤ) → tagOf (tagged z a b e) ≤ 2 → tagged z a b e ≡ arithmetic (relationOf (tagOf (tagged z a b e))) e
+unfolding tagged tagOf
 kind-relation (pos zero) a b e h = refl
 kind-relation (pos (suc zero)) a b e h = refl
 kind-relation (pos (suc (suc zero))) a b e h = refl
@@ -97,14 +97,14 @@ kind-relation (pos (suc (suc (suc (suc (suc (suc n))))))) a b e h = refl
 kind-relation (negsuc n) a b e h = refl
 
 -- a row of kind 0, 1 or 2 is ≥, = or ≠ of the form behind its tag
-pub row-relation : (row : List ℤ) (k : ℕ) → k ≡ kindOf (factOf row) → k ≤ 2 → factOf row ≡ arithmetic (relationOf k) (drop 1 row)
+pub row-relation : (row : List ℤ) (k : ℕ) → k ≡ tagOf (factOf row) → k ≤ 2 → factOf row ≡ arithmetic (relationOf k) (drop 1 row)
 unfolding factOf
 row-relation row k e h =
     kind-relation (getD row 0 (pos 0)) (index (getD row 1 (pos 0))) (index (getD row 2 (pos 0))) (drop 1 row) (subst (λ n. n ≤ 2) e h)
     ∙ ap (λ n. arithmetic (relationOf n) (drop 1 row)) (sym e)
 
-kind-string : (z : ℤ) (a b : ℕ) (e : List ℤ) → 2 < kindOf (tagged z a b e) → tagged z a b e ≡ stringFact (kindOf (tagged z a b e) - 3) a b
-unfolding tagged kindOf
+kind-string : (z : ℤ) (a b : ℕ) (e : List ℤ) → 2 < tagOf (tagged z a b e) → tagged z a b e ≡ stringFact (tagOf (tagged z a b e) - 3) a b
+unfolding tagged tagOf
 kind-string (pos zero) a b e h = absurd (omega arith)
 kind-string (pos (suc zero)) a b e h = absurd (omega arith)
 kind-string (pos (suc (suc zero))) a b e h = absurd (omega arith)
@@ -115,7 +115,7 @@ kind-string (pos (suc (suc (suc (suc (suc (suc n))))))) a b e h = absurd (omega 
 kind-string (negsuc n) a b e h = absurd (omega arith)
 
 -- a row of kind 3, 4 or 5 is ≈, ≉ or ≈ literal of the operands in numbers 1 and 2
-pub row-string : (row : List ℤ) (k : ℕ) → k ≡ kindOf (factOf row) → 2 < k → factOf row ≡ stringFact (k - 3) (index (getD row 1 (pos 0))) (index (getD row 2 (pos 0)))
+pub row-string : (row : List ℤ) (k : ℕ) → k ≡ tagOf (factOf row) → 2 < k → factOf row ≡ stringFact (k - 3) (index (getD row 1 (pos 0))) (index (getD row 2 (pos 0)))
 unfolding factOf
 row-string row k e h =
     kind-string (getD row 0 (pos 0)) (index (getD row 1 (pos 0))) (index (getD row 2 (pos 0))) (drop 1 row) (subst (λ n. 2 < n) e h)

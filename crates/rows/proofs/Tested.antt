@@ -17,14 +17,14 @@ use mir.Val.{SFits, toZ, ofZ}
 use mir.Facts.{toZ-ofZ}
 use Rattle.lists.proofs.Options.{some-none}
 use Rattle.lists.proofs.Tests.{true→}
-use Rattle.calculus.specs.Rows.{scale, isZero, eqℤ, eqRow, allZero}
-use Rattle.calculus.specs.Facts.{Fact, same, apart, isLiteral, arithmetic, Relation, ge, eq, ne, holds}
-use Rattle.calculus.specs.Rules.{guard, falsum, joined, statesZero}
+use Rattle.calculus.specs.LinearForms.{scale, isZero, eqℤ, eqIntegers, allZero}
+use Rattle.calculus.specs.Facts.{Fact, same, notSame, isLiteral, arithmetic, Relation, ge, eq, ne, holds}
+use Rattle.calculus.specs.Rules.{guard, isFalse, joinOf, statesZero}
 use Rattle.calculus.specs.Children.{one}
 use Rattle.calculus.proofs.Tests.{→guard}
 use Rattle.format.specs.Checking.{fits, factWithin, keepsFact}
 use Rattle.rows.specs.Rows.{index, tagged, factOf}
-use Rattle.rows.specs.Work.{kindOf}
+use Rattle.rows.specs.Work.{tagOf}
 use Rattle.rows.proofs.Tags.{row-relation}
 
 -- ---- numbers by their bits
@@ -58,28 +58,28 @@ eqℤ-no (negsuc m) (negsuc n) h = ne-eqb m n (λ e. h (ap negsuc e))
 
 -- ---- string facts pass or fail every test of arithmetic
 
-pub string-within : (f : Fact) → 2 < kindOf f → factWithin f ≡ true
-unfolding kindOf
+pub string-within : (f : Fact) → 2 < tagOf f → factWithin f ≡ true
+unfolding tagOf
 string-within (same x y) h = refl
-string-within (apart x y) h = refl
+string-within (notSame x y) h = refl
 string-within (isLiteral x l) h = refl
 string-within (arithmetic ge e) h = absurd (omega arith)
 string-within (arithmetic eq e) h = absurd (omega arith)
 string-within (arithmetic ne e) h = absurd (omega arith)
 
-pub string-falsum : (f : Fact) → 2 < kindOf f → falsum f ≡ false
-unfolding kindOf
+pub string-falsum : (f : Fact) → 2 < tagOf f → isFalse f ≡ false
+unfolding tagOf
 string-falsum (same x y) h = refl
-string-falsum (apart x y) h = refl
+string-falsum (notSame x y) h = refl
 string-falsum (isLiteral x l) h = refl
 string-falsum (arithmetic ge e) h = absurd (omega arith)
 string-falsum (arithmetic eq e) h = absurd (omega arith)
 string-falsum (arithmetic ne e) h = absurd (omega arith)
 
-pub string-keeps : (m : List ℤ) (f : Fact) → 2 < kindOf f → keepsFact m f ≡ true
-unfolding kindOf
+pub string-keeps : (m : List ℤ) (f : Fact) → 2 < tagOf f → keepsFact m f ≡ true
+unfolding tagOf
 string-keeps m (same x y) h = refl
-string-keeps m (apart x y) h = refl
+string-keeps m (notSame x y) h = refl
 string-keeps m (isLiteral x l) h = refl
 string-keeps m (arithmetic ge e) h = absurd (omega arith)
 string-keeps m (arithmetic eq e) h = absurd (omega arith)
@@ -87,24 +87,24 @@ string-keeps m (arithmetic ne e) h = absurd (omega arith)
 
 -- ---- A-Conf and Join
 
-pub falsum-row : (r : Relation) (row : List ℤ) → length row ≡ 50 → falsum (arithmetic r (drop 1 row)) ≡ (allZero (drop 2 row) && not (holds r (getD row 1 (pos 0))))
+pub falsum-row : (r : Relation) (row : List ℤ) → length row ≡ 50 → isFalse (arithmetic r (drop 1 row)) ≡ (allZero (drop 2 row) && not (holds r (getD row 1 (pos 0))))
 falsum-row r [] h = absurd (omega arith)
 falsum-row r (x ∷ []) h = absurd (omega arith)
 falsum-row r (x ∷ c ∷ cs) h = refl
 
-pub joined-first : (f g : Fact) → (kindOf f ≡ 0 → ⊥) → joined f g ≡ none
-unfolding kindOf
+pub joined-first : (f g : Fact) → (tagOf f ≡ 0 → ⊥) → joinOf f g ≡ none
+unfolding tagOf
 joined-first (same x y) g h = refl
-joined-first (apart x y) g h = refl
+joined-first (notSame x y) g h = refl
 joined-first (isLiteral x l) g h = refl
 joined-first (arithmetic ge e) g h = absurd (h refl)
 joined-first (arithmetic eq e) g h = refl
 joined-first (arithmetic ne e) g h = refl
 
-pub joined-second : (e : List ℤ) (g : Fact) → (kindOf g ≡ 0 → ⊥) → joined (arithmetic ge e) g ≡ none
-unfolding kindOf
+pub joined-second : (e : List ℤ) (g : Fact) → (tagOf g ≡ 0 → ⊥) → joinOf (arithmetic ge e) g ≡ none
+unfolding tagOf
 joined-second e (same x y) h = refl
-joined-second e (apart x y) h = refl
+joined-second e (notSame x y) h = refl
 joined-second e (isLiteral x l) h = refl
 joined-second e (arithmetic ge g) h = absurd (h refl)
 joined-second e (arithmetic eq g) h = refl
@@ -113,18 +113,18 @@ joined-second e (arithmetic ne g) h = refl
 -- ---- two rows, from place j on
 
 eqRow-step : (a b : List ℤ) (j : ℕ) → j < length a → j < length b
-    → eqRow (drop j a) (drop j b) ≡ (eqℤ (getD a j (pos 0)) (getD b j (pos 0)) && eqRow (drop (j + 1) a) (drop (j + 1) b))
+    → eqIntegers (drop j a) (drop j b) ≡ (eqℤ (getD a j (pos 0)) (getD b j (pos 0)) && eqIntegers (drop (j + 1) a) (drop (j + 1) b))
 eqRow-step a b j h k = rw (drop-cons a j (pos 0) h, drop-cons b j (pos 0) k, add-one)
 
-pub eqRow-fails : (a b : List ℤ) (j : ℕ) → j < length a → j < length b → eqℤ (getD a j (pos 0)) (getD b j (pos 0)) ≡ false → eqRow (drop j a) (drop j b) ≡ false
-eqRow-fails a b j h k e = eqRow-step a b j h k ∙ rw e
+pub eqIntegers-fails : (a b : List ℤ) (j : ℕ) → j < length a → j < length b → eqℤ (getD a j (pos 0)) (getD b j (pos 0)) ≡ false → eqIntegers (drop j a) (drop j b) ≡ false
+eqIntegers-fails a b j h k e = eqRow-step a b j h k ∙ rw e
 
-pub eqRow-on : (a b : List ℤ) (j : ℕ) → j < length a → j < length b → eqℤ (getD a j (pos 0)) (getD b j (pos 0)) ≡ true
-    → eqRow (drop (j + 1) a) (drop (j + 1) b) ≡ eqRow (drop j a) (drop j b)
-eqRow-on a b j h k e = sym (eqRow-step a b j h k ∙ rw e)
+pub eqIntegers-on : (a b : List ℤ) (j : ℕ) → j < length a → j < length b → eqℤ (getD a j (pos 0)) (getD b j (pos 0)) ≡ true
+    → eqIntegers (drop (j + 1) a) (drop (j + 1) b) ≡ eqIntegers (drop j a) (drop j b)
+eqIntegers-on a b j h k e = sym (eqRow-step a b j h k ∙ rw e)
 
-pub eqRow-done : (a b : List ℤ) (j : ℕ) → length a ≤ j → length b ≤ j → eqRow (drop j a) (drop j b) ≡ true
-eqRow-done a b j h k = rw (drop-of-length-le a h, drop-of-length-le b k)
+pub eqIntegers-done : (a b : List ℤ) (j : ℕ) → length a ≤ j → length b ≤ j → eqIntegers (drop j a) (drop j b) ≡ true
+eqIntegers-done a b j h k = rw (drop-of-length-le a h, drop-of-length-le b k)
 
 pub scale-behind : (k : ℤ) (a : List ℤ) → drop 1 (scale k a) ≡ scale k (drop 1 a)
 scale-behind k [] = refl
@@ -132,7 +132,7 @@ scale-behind k (x ∷ a) = refl
 
 -- ---- Card: a fact states that a form is 0
 
-states-row : (e : List ℤ) (z : ℤ) (a b : ℕ) (g : List ℤ) → statesZero e (tagged z a b g) ≡ (eqℤ (pos 1) z && eqRow e g)
+states-row : (e : List ℤ) (z : ℤ) (a b : ℕ) (g : List ℤ) → statesZero e (tagged z a b g) ≡ (eqℤ (pos 1) z && eqIntegers e g)
 unfolding tagged
 states-row e (pos zero) a b g = refl
 states-row e (pos (suc zero)) a b g = refl
@@ -140,11 +140,11 @@ states-row e (pos (suc (suc zero))) a b g = refl
 states-row e (pos (suc (suc (suc zero)))) a b g = refl
 states-row e (pos (suc (suc (suc (suc zero))))) a b g = refl
 states-row e (pos (suc (suc (suc (suc (suc zero)))))) a b g = refl
-states-row e (pos (suc (suc (suc (suc (suc (suc k))))))) a b g = sym (ap (λ t. t && eqRow e g) (ne-eqb 1 (suc (suc (suc (suc (suc (suc k)))))) (omega arith)))
+states-row e (pos (suc (suc (suc (suc (suc (suc k))))))) a b g = sym (ap (λ t. t && eqIntegers e g) (ne-eqb 1 (suc (suc (suc (suc (suc (suc k)))))) (omega arith)))
 states-row e (negsuc k) a b g = refl
 
 -- its row is the tag 1 and the form
-pub states-by-row : (e row : List ℤ) → length row ≡ 50 → statesZero e (factOf row) ≡ eqRow (pos 1 ∷ e) row
+pub states-by-row : (e row : List ℤ) → length row ≡ 50 → statesZero e (factOf row) ≡ eqIntegers (pos 1 ∷ e) row
 unfolding factOf
 states-by-row e [] h = absurd (omega arith)
 states-by-row e (z ∷ g) h = states-row e z (index (getD (z ∷ g) 1 (pos 0))) (index (getD (z ∷ g) 2 (pos 0))) g
@@ -184,15 +184,15 @@ no-fit none e h = subst T (sym e) tt
 no-fit (some a) e h = some-none h
 
 -- Join's fact is the first as an equation
-pub joined-fits : (row other : List ℤ) → fits (joined (factOf row) (factOf other)) ≡ true → joined (factOf row) (factOf other) ≡ some (one (arithmetic eq (drop 1 row)))
-joined-fits row other e = go (ℕ-discrete (kindOf (factOf row)) 0) (ℕ-discrete (kindOf (factOf other)) 0)
+pub joined-fits : (row other : List ℤ) → fits (joinOf (factOf row) (factOf other)) ≡ true → joinOf (factOf row) (factOf other) ≡ some (one (arithmetic eq (drop 1 row)))
+joined-fits row other e = go (ℕ-discrete (tagOf (factOf row)) 0) (ℕ-discrete (tagOf (factOf other)) 0)
   where
-    go : Dec (kindOf (factOf row) ≡ 0) → Dec (kindOf (factOf other) ≡ 0) → joined (factOf row) (factOf other) ≡ some (one (arithmetic eq (drop 1 row)))
-    go (no n) d = absurd (no-fit (joined (factOf row) (factOf other)) e (joined-first (factOf row) (factOf other) n))
+    go : Dec (tagOf (factOf row) ≡ 0) → Dec (tagOf (factOf other) ≡ 0) → joinOf (factOf row) (factOf other) ≡ some (one (arithmetic eq (drop 1 row)))
+    go (no n) d = absurd (no-fit (joinOf (factOf row) (factOf other)) e (joined-first (factOf row) (factOf other) n))
     go (yes p) (no n) =
         let f = row-relation row 0 (sym p) (omega arith) in
-        absurd (no-fit (joined (factOf row) (factOf other)) e (ap (λ (x : Fact). joined x (factOf other)) f ∙ joined-second (drop 1 row) (factOf other) n))
+        absurd (no-fit (joinOf (factOf row) (factOf other)) e (ap (λ (x : Fact). joinOf x (factOf other)) f ∙ joined-second (drop 1 row) (factOf other) n))
     go (yes p) (yes q) =
-        let f : joined (factOf row) (factOf other) ≡ guard (eqRow (scale (negsuc 0) (drop 1 row)) (drop 1 other)) (one (arithmetic eq (drop 1 row))) =
-        ap₂ joined (row-relation row 0 (sym p) (omega arith)) (row-relation other 0 (sym q) (omega arith)) in
-        f ∙ guard-given (eqRow (scale (negsuc 0) (drop 1 row)) (drop 1 other)) (one (arithmetic eq (drop 1 row))) (sym (ap fits f) ∙ e)
+        let f : joinOf (factOf row) (factOf other) ≡ guard (eqIntegers (scale (negsuc 0) (drop 1 row)) (drop 1 other)) (one (arithmetic eq (drop 1 row))) =
+        ap₂ joinOf (row-relation row 0 (sym p) (omega arith)) (row-relation other 0 (sym q) (omega arith)) in
+        f ∙ guard-given (eqIntegers (scale (negsuc 0) (drop 1 row)) (drop 1 other)) (one (arithmetic eq (drop 1 row))) (sym (ap fits f) ∙ e)

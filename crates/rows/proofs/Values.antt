@@ -14,8 +14,8 @@ use mir.Facts.{toZ-ofZ}
 use Rattle.integers.proofs.Laws.{abs-+-le, abs-*-le}
 use Rattle.lists.proofs.Lists.{all-append, all-replicate}
 use Rattle.calculus.specs.Limits.{valueLimit, Small}
-use Rattle.calculus.specs.Rows.{dot, zeros, valueIn}
-use Rattle.calculus.specs.Facts.{Fact, Branch, same, apart, isLiteral, arithmetic, holds}
+use Rattle.calculus.specs.LinearForms.{dot, zeros, valueIn}
+use Rattle.calculus.specs.Facts.{Fact, Branch, same, notSame, isLiteral, arithmetic, holds}
 use Rattle.format.specs.Fields.{allWithin}
 use Rattle.format.specs.Checking.{keepsFact, keeps}
 use Rattle.format.proofs.Limits.{within→}
@@ -77,7 +77,7 @@ dot-filled (k ∷ e) (z ∷ v) n = ap (λ x. (k *ℤ z) +ℤ x) (dot-filled e v 
 
 keeps-fact-filled : (m : List ℤ) (n : ℕ) (f : Fact) → keepsFact (m ++ zeros n) f ≡ keepsFact m f
 keeps-fact-filled m n (same x y) = refl
-keeps-fact-filled m n (apart x y) = refl
+keeps-fact-filled m n (notSame x y) = refl
 keeps-fact-filled m n (isLiteral x l) = refl
 keeps-fact-filled m n (arithmetic r e) = ap (holds r) (dot-filled e (pos 1 ∷ m) n)
 

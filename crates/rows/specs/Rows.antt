@@ -6,7 +6,7 @@ use lib.ListN.{getD, take, drop}
 use lib.Dec.{ltb}
 use lib.IntN.{ℤ, pos, negsuc}
 use Rattle.calculus.specs.Limits.{variableLimit, columnLimit}
-use Rattle.calculus.specs.Facts.{Fact, Branch, same, apart, isLiteral, arithmetic, ge, eq, ne}
+use Rattle.calculus.specs.Facts.{Fact, Branch, same, notSame, isLiteral, arithmetic, ge, eq, ne}
 
 -- a row's numbers: its tag, the constant and a coefficient for each column
 abbrev pub rowLength : ℕ
@@ -24,7 +24,7 @@ tagged (pos zero) a b e = arithmetic ge e
 tagged (pos (suc zero)) a b e = arithmetic eq e
 tagged (pos (suc (suc zero))) a b e = arithmetic ne e
 tagged (pos (suc (suc (suc zero)))) a b e = same a b
-tagged (pos (suc (suc (suc (suc zero))))) a b e = apart a b
+tagged (pos (suc (suc (suc (suc zero))))) a b e = notSame a b
 tagged (pos (suc (suc (suc (suc (suc zero)))))) a b e = isLiteral a b
 tagged (pos (suc (suc (suc (suc (suc (suc k))))))) a b e = arithmetic ne e
 tagged (negsuc k) a b e = arithmetic ne e

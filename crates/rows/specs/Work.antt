@@ -6,8 +6,8 @@ use mathlib.Core.List.{List}
 use lib.ListN.{length, getD, set}
 use lib.IntN.{ℤ, pos, negsuc, natAbs}
 use Rattle.calculus.specs.Limits.{factLimit, workNumbers}
-use Rattle.calculus.specs.Rows.{number}
-use Rattle.calculus.specs.Facts.{Fact, same, apart, isLiteral, arithmetic, ge, eq, ne}
+use Rattle.calculus.specs.LinearForms.{number}
+use Rattle.calculus.specs.Facts.{Fact, same, notSame, isLiteral, arithmetic, ge, eq, ne}
 use Rattle.format.specs.Checking.{factsWithin}
 use Rattle.rows.specs.Rows.{branchOf}
 
@@ -22,13 +22,13 @@ abbrev pub Within : ℕ → List ℤ → Type 0
 Within n zs = (j : ℕ) → natAbs (getD zs j (pos 0)) ≤ n
 
 -- the number of a fact's kind
-unfoldable pub kindOf : Fact → ℕ
-kindOf (arithmetic ge e) = 0
-kindOf (arithmetic eq e) = 1
-kindOf (arithmetic ne e) = 2
-kindOf (same x y) = 3
-kindOf (apart x y) = 4
-kindOf (isLiteral x l) = 5
+unfoldable pub tagOf : Fact → ℕ
+tagOf (arithmetic ge e) = 0
+tagOf (arithmetic eq e) = 1
+tagOf (arithmetic ne e) = 2
+tagOf (same x y) = 3
+tagOf (notSame x y) = 4
+tagOf (isLiteral x l) = 5
 
 -- the form c + k × column j
 unfoldable pub single : ℤ → ℕ → ℤ → List ℤ

@@ -8,14 +8,14 @@ ghost use lib.ListN.{length, getD, drop};
 ghost use lib.IntN.{pos, negsuc};
 ghost use Rattle.lists.specs.Lists.{any};
 ghost use Rattle.calculus.specs.Limits.{variableLimit, columnLimit, numberLimit, valueLimit, factLimit, workNumbers};
-ghost use Rattle.calculus.specs.Rows.{zeros, column, scale, minus, less, below, allZero, eqRow, valueIn};
+ghost use Rattle.calculus.specs.LinearForms.{zeros, column, scale, minus, above, below, allZero, eqIntegers, valueIn};
 ghost use Rattle.calculus.specs.Facts.{holds, arithmetic, ge, eq};
-ghost use Rattle.calculus.specs.Rules.{falsum, joined, statesZero, statesEqual};
+ghost use Rattle.calculus.specs.Rules.{isFalse, joinOf, statesZero, statesEqual};
 ghost use Rattle.format.specs.Fields.{within, allWithin};
 ghost use Rattle.format.specs.Question.{stringFact, relationOf};
 ghost use Rattle.format.specs.Checking.{fits, factWithin, keepsFact, keeps};
 ghost use Rattle.rows.specs.Rows.{rowLength, index, factOf, rowAt, branchOf};
-ghost use Rattle.rows.specs.Work.{kindOf, Fine, Within, single, difference};
+ghost use Rattle.rows.specs.Work.{tagOf, Fine, Within, single, difference};
 use limits::COLUMN_LIMIT;
 use limits::INDEX_MAX;
 use limits::NUMBER_MAX;
@@ -58,9 +58,9 @@ pub fn put_row(work: &mut [i64], k: usize, row: &[i64])
 }
 
 // What a row says by its tag: 0 is ≥, 1 is =, 2 is ≠, 3 is variable ≈ variable, 4 is ≉, 5 is variable ≈ literal.
-pub fn kind_of(row: &[i64]) -> usize
+pub fn tag_of(row: &[i64]) -> usize
     requires { ⌜ length (now row) ≡ rowLength ⌝ }
-    ensures { λ r. ⌜ r ≡ kindOf (factOf (now (row .entry))) ⌝ }
+    ensures { λ r. ⌜ r ≡ tagOf (factOf (now (row .entry))) ⌝ }
 {
     let tag = row[0];
     if tag == 0 {
@@ -148,10 +148,10 @@ pub fn fill_difference(row: &mut [i64], relation: usize, i: usize, j: usize)
 }
 
 // e − 1 ≥ 0, of the row of e.
-pub fn fill_less(out: &mut [i64], row: &[i64])
+pub fn fill_above(out: &mut [i64], row: &[i64])
     requires { ⌜ (length (now out) ≡ rowLength) × (length (now row) ≡ rowLength) ⌝ }
     requires { ⌜ allWithin numberLimit (drop 1 (now row)) ≡ true ⌝ }
-    ensures { λ _. ⌜ factOf (now (out .exit)) ≡ arithmetic ge (less (drop 1 (now (row .entry)))) ⌝ }
+    ensures { λ _. ⌜ factOf (now (out .exit)) ≡ arithmetic ge (above (drop 1 (now (row .entry)))) ⌝ }
 {
     fill_row(out, row);
     let c = row[1];
@@ -282,7 +282,7 @@ pub fn fact_within(row: &[i64]) -> bool
     requires { ⌜ length (now row) ≡ rowLength ⌝ }
     ensures { λ r. ⌜ r ≡ factWithin (factOf (now (row .entry))) ⌝ }
 {
-    if kind_of(row) > 2 {
+    if tag_of(row) > 2 {
         return true;
     }
     form_within(row)
@@ -322,9 +322,9 @@ pub fn relation_holds(relation: usize, value: i64) -> bool
 // A-Conf: an arithmetic fact without coefficients and false.
 pub fn is_false(row: &[i64]) -> bool
     requires { ⌜ length (now row) ≡ rowLength ⌝ }
-    ensures { λ r. ⌜ r ≡ falsum (factOf (now (row .entry))) ⌝ }
+    ensures { λ r. ⌜ r ≡ isFalse (factOf (now (row .entry))) ⌝ }
 {
-    let kind = kind_of(row);
+    let kind = tag_of(row);
     if kind > 2 {
         return false;
     }
@@ -339,7 +339,7 @@ pub fn is_false(row: &[i64]) -> bool
 fn negates(row: &[i64], other: &[i64]) -> bool
     requires { ⌜ (length (now row) ≡ rowLength) × (length (now other) ≡ rowLength) ⌝ }
     requires { ⌜ allWithin numberLimit (drop 1 (now row)) ≡ true ⌝ }
-    ensures { λ r. ⌜ r ≡ eqRow (scale (negsuc 0) (drop 1 (now (row .entry)))) (drop 1 (now (other .entry))) ⌝ }
+    ensures { λ r. ⌜ r ≡ eqIntegers (scale (negsuc 0) (drop 1 (now (row .entry)))) (drop 1 (now (other .entry))) ⌝ }
 {
     let mut j = 1;
     while j < ROW_LENGTH {
@@ -357,12 +357,12 @@ fn negates(row: &[i64], other: &[i64]) -> bool
 pub fn joins(row: &[i64], other: &[i64]) -> bool
     requires { ⌜ (length (now row) ≡ rowLength) × (length (now other) ≡ rowLength) ⌝ }
     requires { ⌜ factWithin (factOf (now row)) ≡ true ⌝ }
-    ensures { λ r. ⌜ r ≡ fits (joined (factOf (now (row .entry))) (factOf (now (other .entry)))) ⌝ }
+    ensures { λ r. ⌜ r ≡ fits (joinOf (factOf (now (row .entry))) (factOf (now (other .entry)))) ⌝ }
 {
-    if kind_of(row) != 0 {
+    if tag_of(row) != 0 {
         return false;
     }
-    if kind_of(other) != 0 {
+    if tag_of(other) != 0 {
         return false;
     }
     negates(row, other)
@@ -371,7 +371,7 @@ pub fn joins(row: &[i64], other: &[i64]) -> bool
 // Are two rows the same, number by number?
 fn same_row(row: &[i64], other: &[i64]) -> bool
     requires { ⌜ (length (now row) ≡ rowLength) × (length (now other) ≡ rowLength) ⌝ }
-    ensures { λ r. ⌜ r ≡ eqRow (now (row .entry)) (now (other .entry)) ⌝ }
+    ensures { λ r. ⌜ r ≡ eqIntegers (now (row .entry)) (now (other .entry)) ⌝ }
 {
     let mut j = 0;
     while j < ROW_LENGTH {
@@ -442,7 +442,7 @@ fn keeps_row(row: &[i64], model: &[i64]) -> bool
     requires { ⌜ Within valueLimit (now model) ⌝ }
     ensures { λ r. ⌜ r ≡ keepsFact (now (model .entry)) (factOf (now (row .entry))) ⌝ }
 {
-    let kind = kind_of(row);
+    let kind = tag_of(row);
     if kind > 2 {
         return true;
     }

@@ -12,7 +12,7 @@ use Rattle.calculus.specs.Steps.{shape}
 use Rattle.calculus.proofs.Shapes.{children-shape}
 use Rattle.format.specs.Records.{need}
 use Rattle.format.specs.StepForms.{rule, stepAt, childInRange}
-use Rattle.format.specs.Checking.{fits, orNone, factsWithin, childrenWithin, room, roomForAll, roomToPend, allTried, takenTried, nth}
+use Rattle.format.specs.Checking.{fits, orNone, factsWithin, childrenWithin, room, roomForAll, roomToPend, allTried, takenTried, childIn}
 use Rattle.format.proofs.Faults.{clash}
 use Rattle.question.specs.declared.Progress.{Progress}
 use Rattle.question.specs.Posed.{asked}
@@ -52,19 +52,19 @@ module _ (br : Branch) (o : Option (List Fact)) where
 -- ---- the child taken
 
 -- a step that closes has none
-none-taken : (br : Branch) (o : Option (List (List Fact))) (k : ℕ) → ((cs : List (List Fact)) → o ≡ some cs → map length cs ≡ []) → 8 ≡ takenTried br (nth o k)
+none-taken : (br : Branch) (o : Option (List (List Fact))) (k : ℕ) → ((cs : List (List Fact)) → o ≡ some cs → map length cs ≡ []) → 8 ≡ takenTried br (childIn o k)
 none-taken br none k h = refl
 none-taken br (some []) zero h = refl
 none-taken br (some []) (suc k) h = refl
 none-taken br (some (c ∷ cs)) k h = let f = h (c ∷ cs) refl in clash cc
 
 module _ {b : List ℕ} {s : Progress} {at m : ℕ} {w : List ℤ} {count : ℕ} (h : Ready b s at m w count) (k : ℕ) where
-  pub closing-eight : conclusionsOf (rule b at) ≡ Nothing → 8 ≡ takenTried (before h) (nth (given h) k)
+  pub closing-eight : conclusionsOf (rule b at) ≡ Nothing → 8 ≡ takenTried (before h) (childIn (given h) k)
   unfolding offered
   closing-eight e = none-taken (before h) (given h) k (λ cs f. children-shape (asked b s) (before h) (stepAt b at m) cs f ∙ no-child b (asked b s .n) at m (h .formed .fits) e)
 
   -- of a split that fits there is one
-  pub taken-there : conclusionsOf (rule b at) ≡ Several → childInRange (s .n) (stepAt b at m) k ≡ true → fits (given h) ≡ true → fits (nth (given h) k) ≡ true
+  pub taken-there : conclusionsOf (rule b at) ≡ Several → childInRange (s .n) (stepAt b at m) k ≡ true → fits (given h) ≡ true → fits (childIn (given h) k) ≡ true
   taken-there several e f =
       let (l, g) = child-between (shape (s .n) (stepAt b at m)) k (some-child b (s .n) at m (h .formed .fits) several) e in
       nth-there (given h) k f l (omega (arith, length-map (orNone (given h)) length, ap length (its-shape h f)))

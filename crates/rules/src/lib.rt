@@ -7,8 +7,8 @@ ghost use lib.ListN.{length};
 ghost use Rattle.calculus.specs.Limits.{factLimit};
 ghost use Rattle.calculus.specs.Facts.{Fact};
 ghost use Rattle.calculus.specs.Steps.{shape};
-ghost use Rattle.format.specs.StepForms.{rule, child, lengthFits, stepAt, childInRange};
-ghost use Rattle.format.specs.Checking.{roomForAll, roomToPend, allTried, takenTried, nth};
+ghost use Rattle.format.specs.StepForms.{rule, childField, lengthFits, stepAt, childInRange};
+ghost use Rattle.format.specs.Checking.{roomForAll, roomToPend, allTried, takenTried, childIn};
 ghost use Rattle.question.specs.Posed.{asked};
 ghost use Rattle.rows.specs.Rows.{branchOf};
 ghost use Rattle.rows.specs.Work.{Fine};
@@ -96,7 +96,7 @@ fn taken_fault(
     requires { ⌜ Ready (now ticket) s at size (now work) count ⌝ }
     requires { ⌜ conclusionsOf (rule (now ticket) at) ≡ Several ⌝ }
     requires { ⌜ childInRange (s .n) (stepAt (now ticket) at size) k ≡ true ⌝ }
-    ensures { λ r. ⌜ r ≡ takenTried (branchOf (now (work .entry)) count) (nth (offered (now (ticket .entry)) (asked (now (ticket .entry)) s) (branchOf (now (work .entry)) count) at size) k) ⌝ }
+    ensures { λ r. ⌜ r ≡ takenTried (branchOf (now (work .entry)) count) (childIn (offered (now (ticket .entry)) (asked (now (ticket .entry)) s) (branchOf (now (work .entry)) count) at size) k) ⌝ }
 {
     if !splits::fits(ticket, s, at, size, work, count) {
         return 8;
@@ -121,9 +121,9 @@ fn take_split_child(
 ) -> Taken
     requires { ⌜ Ready (now ticket) s at size (now work) count ⌝ }
     requires { ⌜ conclusionsOf (rule (now ticket) at) ≡ Several ⌝ }
-    requires { ⌜ childInRange (s .n) (stepAt (now ticket) at size) (child (now ticket) at) ≡ true ⌝ }
-    ensures fault { λ r. ⌜ r .fault ≡ takenTried (branchOf (now (work .entry)) count) (nth (offered (now (ticket .entry)) (asked (now (ticket .entry)) s) (branchOf (now (work .entry)) count) at size) (child (now (ticket .entry)) at)) ⌝ }
-    ensures added { λ r. ⌜ (r .fault ≡ 0 → branchOf (now (work .exit)) (r .count) ≡ branchOf (now (work .entry)) count ++ offeredChild (now (ticket .entry)) (asked (now (ticket .entry)) s) (branchOf (now (work .entry)) count) at size (child (now (ticket .entry)) at)) ⌝ }
+    requires { ⌜ childInRange (s .n) (stepAt (now ticket) at size) (childField (now ticket) at) ≡ true ⌝ }
+    ensures fault { λ r. ⌜ r .fault ≡ takenTried (branchOf (now (work .entry)) count) (childIn (offered (now (ticket .entry)) (asked (now (ticket .entry)) s) (branchOf (now (work .entry)) count) at size) (childField (now (ticket .entry)) at)) ⌝ }
+    ensures added { λ r. ⌜ (r .fault ≡ 0 → branchOf (now (work .exit)) (r .count) ≡ branchOf (now (work .entry)) count ++ offeredChild (now (ticket .entry)) (asked (now (ticket .entry)) s) (branchOf (now (work .entry)) count) at size (childField (now (ticket .entry)) at)) ⌝ }
     ensures fine { λ r. ⌜ (r .fault ≡ 0 → Fine (now (work .exit)) (r .count)) ⌝ }
 {
     let k = u16_at(ticket, at + 2);
@@ -148,9 +148,9 @@ fn take_only_child(
 ) -> Taken
     requires { ⌜ Ready (now ticket) s at size (now work) count ⌝ }
     requires { ⌜ conclusionsOf (rule (now ticket) at) ≡ One ⌝ }
-    requires { ⌜ childInRange (s .n) (stepAt (now ticket) at size) (child (now ticket) at) ≡ true ⌝ }
-    ensures fault { λ r. ⌜ r .fault ≡ takenTried (branchOf (now (work .entry)) count) (nth (offered (now (ticket .entry)) (asked (now (ticket .entry)) s) (branchOf (now (work .entry)) count) at size) (child (now (ticket .entry)) at)) ⌝ }
-    ensures added { λ r. ⌜ (r .fault ≡ 0 → branchOf (now (work .exit)) (r .count) ≡ branchOf (now (work .entry)) count ++ offeredChild (now (ticket .entry)) (asked (now (ticket .entry)) s) (branchOf (now (work .entry)) count) at size (child (now (ticket .entry)) at)) ⌝ }
+    requires { ⌜ childInRange (s .n) (stepAt (now ticket) at size) (childField (now ticket) at) ≡ true ⌝ }
+    ensures fault { λ r. ⌜ r .fault ≡ takenTried (branchOf (now (work .entry)) count) (childIn (offered (now (ticket .entry)) (asked (now (ticket .entry)) s) (branchOf (now (work .entry)) count) at size) (childField (now (ticket .entry)) at)) ⌝ }
+    ensures added { λ r. ⌜ (r .fault ≡ 0 → branchOf (now (work .exit)) (r .count) ≡ branchOf (now (work .entry)) count ++ offeredChild (now (ticket .entry)) (asked (now (ticket .entry)) s) (branchOf (now (work .entry)) count) at size (childField (now (ticket .entry)) at)) ⌝ }
     ensures fine { λ r. ⌜ (r .fault ≡ 0 → Fine (now (work .exit)) (r .count)) ⌝ }
 {
     let fault = conclusions::conclude(ticket, s, at, size, work, count);
@@ -170,9 +170,9 @@ pub fn take_child(
     count: usize,
 ) -> Taken
     requires { ⌜ Ready (now ticket) s at size (now work) count ⌝ }
-    requires { ⌜ childInRange (s .n) (stepAt (now ticket) at size) (child (now ticket) at) ≡ true ⌝ }
-    ensures fault { λ r. ⌜ r .fault ≡ takenTried (branchOf (now (work .entry)) count) (nth (offered (now (ticket .entry)) (asked (now (ticket .entry)) s) (branchOf (now (work .entry)) count) at size) (child (now (ticket .entry)) at)) ⌝ }
-    ensures added { λ r. ⌜ (r .fault ≡ 0 → branchOf (now (work .exit)) (r .count) ≡ branchOf (now (work .entry)) count ++ offeredChild (now (ticket .entry)) (asked (now (ticket .entry)) s) (branchOf (now (work .entry)) count) at size (child (now (ticket .entry)) at)) ⌝ }
+    requires { ⌜ childInRange (s .n) (stepAt (now ticket) at size) (childField (now ticket) at) ≡ true ⌝ }
+    ensures fault { λ r. ⌜ r .fault ≡ takenTried (branchOf (now (work .entry)) count) (childIn (offered (now (ticket .entry)) (asked (now (ticket .entry)) s) (branchOf (now (work .entry)) count) at size) (childField (now (ticket .entry)) at)) ⌝ }
+    ensures added { λ r. ⌜ (r .fault ≡ 0 → branchOf (now (work .exit)) (r .count) ≡ branchOf (now (work .entry)) count ++ offeredChild (now (ticket .entry)) (asked (now (ticket .entry)) s) (branchOf (now (work .entry)) count) at size (childField (now (ticket .entry)) at)) ⌝ }
     ensures fine { λ r. ⌜ (r .fault ≡ 0 → Fine (now (work .exit)) (r .count)) ⌝ }
 {
     match steps::conclusions_of(u16_at(ticket, at)) {

@@ -11,16 +11,16 @@ use lib.ListN.{length, set, drop, getElem?}
 use lib.Dec.{eqb, leb}
 use lib.IntN.{ℤ, pos, negsuc, negℤ, natAbs}
 use Rattle.calculus.specs.Limits.{numberLimit}
-use Rattle.calculus.specs.Rows.{number}
-use Rattle.calculus.specs.Facts.{Fact, same, apart, isLiteral, arithmetic, ge, eq, ne}
+use Rattle.calculus.specs.LinearForms.{number}
+use Rattle.calculus.specs.Facts.{Fact, same, notSame, isLiteral, arithmetic, ge, eq, ne}
 use Rattle.calculus.specs.Children.{childAt, apartChildren, cValidChildren, boundChild}
-use Rattle.calculus.specs.Rules.{then, parted, logUp, lastChild}
+use Rattle.calculus.specs.Rules.{then, apartOf, leastPower, lastChild}
 use Rattle.format.specs.Checking.{fits, orNone, factWithin}
 use Rattle.format.specs.Fields.{allWithin}
 use Rattle.format.proofs.Faults.{not-both}
 use Rattle.rows.specs.Rows.{factOf, rowAt, branchOf}
-use Rattle.rows.specs.Work.{single, difference, kindOf}
-use Rattle.rows.proofs.Forms.{column-single, minus-number, number-minus, less-column}
+use Rattle.rows.specs.Work.{single, difference, tagOf}
+use Rattle.rows.proofs.Forms.{column-single, minus-number, number-minus, above-column}
 use Rattle.rows.proofs.Branches.{branch-at, branch-beyond}
 use Rattle.rows.proofs.Tags.{row-relation}
 use Rattle.question.specs.declared.Progress.{Progress}
@@ -41,51 +41,51 @@ child-three c d e cs k q = ap (λ n. orNone (childAt (c ∷ d ∷ e ∷ cs) n)) 
 
 -- ---- Apart
 
-pub parted-beyond : (w : List ℤ) (count k : ℕ) → count ≤ k → fits (then (getElem? (branchOf w count) k) parted) ≡ false
+pub parted-beyond : (w : List ℤ) (count k : ℕ) → count ≤ k → fits (then (getElem? (branchOf w count) k) apartOf) ≡ false
 parted-beyond w count k h = rw (branch-beyond w count k h)
 
-parted-kind : (f : Fact) → (kindOf f ≡ 2 → ⊥) → fits (parted f) ≡ false
-unfolding kindOf
+parted-kind : (f : Fact) → (tagOf f ≡ 2 → ⊥) → fits (apartOf f) ≡ false
+unfolding tagOf
 parted-kind (same x y) h = refl
-parted-kind (apart x y) h = refl
+parted-kind (notSame x y) h = refl
 parted-kind (isLiteral x l) h = refl
 parted-kind (arithmetic ge e) h = refl
 parted-kind (arithmetic eq e) h = refl
 parted-kind (arithmetic ne e) h = absurd (h refl)
 
-pub parted-no : (w : List ℤ) (count k : ℕ) → k < count → (kindOf (factOf (rowAt w k)) ≡ 2 → ⊥) → fits (then (getElem? (branchOf w count) k) parted) ≡ false
-parted-no w count k h n = ap (λ o. fits (then o parted)) (branch-at w count k h) ∙ parted-kind (factOf (rowAt w k)) n
+pub parted-no : (w : List ℤ) (count k : ℕ) → k < count → (tagOf (factOf (rowAt w k)) ≡ 2 → ⊥) → fits (then (getElem? (branchOf w count) k) apartOf) ≡ false
+parted-no w count k h n = ap (λ o. fits (then o apartOf)) (branch-at w count k h) ∙ parted-kind (factOf (rowAt w k)) n
 
-pub parted-is : (w : List ℤ) (count k : ℕ) → k < count → kindOf (factOf (rowAt w k)) ≡ 2
-    → then (getElem? (branchOf w count) k) parted ≡ some (apartChildren (drop 1 (rowAt w k)))
+pub parted-is : (w : List ℤ) (count k : ℕ) → k < count → tagOf (factOf (rowAt w k)) ≡ 2
+    → then (getElem? (branchOf w count) k) apartOf ≡ some (apartChildren (drop 1 (rowAt w k)))
 parted-is w count k h e =
-    ap (λ o. then o parted) (branch-at w count k h)
-    ∙ ap parted (row-relation (rowAt w k) 2 (sym e) (omega arith))
+    ap (λ o. then o apartOf) (branch-at w count k h)
+    ∙ ap apartOf (row-relation (rowAt w k) 2 (sym e) (omega arith))
 
-pub parted-test : (w : List ℤ) (count k : ℕ) → k < count → eqb (kindOf (factOf (rowAt w k))) 2 ≡ fits (then (getElem? (branchOf w count) k) parted)
-parted-test w count k h = go (ℕ-discrete (kindOf (factOf (rowAt w k))) 2)
+pub parted-test : (w : List ℤ) (count k : ℕ) → k < count → eqb (tagOf (factOf (rowAt w k))) 2 ≡ fits (then (getElem? (branchOf w count) k) apartOf)
+parted-test w count k h = go (ℕ-discrete (tagOf (factOf (rowAt w k))) 2)
   where
-    go : Dec (kindOf (factOf (rowAt w k)) ≡ 2) → eqb (kindOf (factOf (rowAt w k))) 2 ≡ fits (then (getElem? (branchOf w count) k) parted)
-    go (yes e) = eq-eqb (kindOf (factOf (rowAt w k))) 2 e ∙ sym (ap fits (parted-is w count k h e))
-    go (no n) = ne-eqb (kindOf (factOf (rowAt w k))) 2 n ∙ sym (parted-no w count k h n)
+    go : Dec (tagOf (factOf (rowAt w k)) ≡ 2) → eqb (tagOf (factOf (rowAt w k))) 2 ≡ fits (then (getElem? (branchOf w count) k) apartOf)
+    go (yes e) = eq-eqb (tagOf (factOf (rowAt w k))) 2 e ∙ sym (ap fits (parted-is w count k h e))
+    go (no n) = ne-eqb (tagOf (factOf (rowAt w k))) 2 n ∙ sym (parted-no w count k h n)
 
-pub parted-fits : (w : List ℤ) (count k : ℕ) → fits (then (getElem? (branchOf w count) k) parted) ≡ true → (k < count) × (kindOf (factOf (rowAt w k)) ≡ 2)
-parted-fits w count k e = go (decLt k count) (ℕ-discrete (kindOf (factOf (rowAt w k))) 2)
+pub parted-fits : (w : List ℤ) (count k : ℕ) → fits (then (getElem? (branchOf w count) k) apartOf) ≡ true → (k < count) × (tagOf (factOf (rowAt w k)) ≡ 2)
+parted-fits w count k e = go (decLt k count) (ℕ-discrete (tagOf (factOf (rowAt w k))) 2)
   where
-    go : Dec (k < count) → Dec (kindOf (factOf (rowAt w k)) ≡ 2) → (k < count) × (kindOf (factOf (rowAt w k)) ≡ 2)
+    go : Dec (k < count) → Dec (tagOf (factOf (rowAt w k)) ≡ 2) → (k < count) × (tagOf (factOf (rowAt w k)) ≡ 2)
     go (yes h) (yes q) = (h, q)
-    go (yes h) (no n) = absurd (not-both (fits (then (getElem? (branchOf w count) k) parted)) e (parted-no w count k h n))
-    go (no n) d = absurd (not-both (fits (then (getElem? (branchOf w count) k) parted)) e (parted-beyond w count k (omega arith)))
+    go (yes h) (no n) = absurd (not-both (fits (then (getElem? (branchOf w count) k) apartOf)) e (parted-no w count k h n))
+    go (no n) d = absurd (not-both (fits (then (getElem? (branchOf w count) k) apartOf)) e (parted-beyond w count k (omega arith)))
 
-pub ne-within : (row : List ℤ) → kindOf (factOf row) ≡ 2 → factWithin (factOf row) ≡ true → allWithin numberLimit (drop 1 row) ≡ true
+pub ne-within : (row : List ℤ) → tagOf (factOf row) ≡ 2 → factWithin (factOf row) ≡ true → allWithin numberLimit (drop 1 row) ≡ true
 ne-within row e h = sym (ap factWithin (row-relation row 2 (sym e) (omega arith))) ∙ h
 
 -- ---- Branch
 
 pub ge-form : (row e : List ℤ) → factOf row ≡ arithmetic ge e → drop 1 row ≡ e
-unfolding kindOf
+unfolding tagOf
 ge-form row e h =
-    let k : kindOf (factOf row) ≡ 0 = ap kindOf h in
+    let k : tagOf (factOf row) ≡ 0 = ap tagOf h in
     let f : arithmetic ge (drop 1 row) ≡ arithmetic ge e = sym (row-relation row 0 (sym k) (omega arith)) ∙ h in cc
 
 -- ---- C-Valid
@@ -96,7 +96,7 @@ module _ (s : Progress) (x len code : ℕ) (el : len ≡ columnAt (s .p) (s .q) 
       ∷ (arithmetic eq (single (negsuc 0) len (pos 1)) ∷ arithmetic ge (single (pos 0) code (pos 1)) ∷ arithmetic ge (single (pos (s .n - 1)) code (negsuc 0)) ∷ [])
       ∷ []
   unfolding columnAt
-  c-valid-children = rw (sym el, sym ec, less-column len hl, minus-number code hc (negsuc 0), number-minus code hc (pos (s .n - 1)), column-single code hc)
+  c-valid-children = rw (sym el, sym ec, above-column len hl, minus-number code hc (negsuc 0), number-minus code hc (pos (s .n - 1)), column-single code hc)
 
   pub c-valid-one : (k : ℕ) → k ≡ 1
       → arithmetic ne (single (negsuc 0) len (pos 1)) ∷ arithmetic eq (single (pos 1) code (pos 1)) ∷ [] ≡ orNone (childAt (cValidChildren (numbered s) x) k)
@@ -129,18 +129,18 @@ put-three v x y k f g h p q =
 -- ---- Card's last child
 
 pub last-is : (s : Progress) (x m : ℕ) → 2 ≤ s .n → s .q + x < 48
-    → lastChild (numbered s) x m ≡ (arithmetic ge (single (negℤ (pos (logUp m (s .n) m 0))) (s .q + x) (pos 1)) ∷ []) ∷ []
+    → lastChild (numbered s) x m ≡ (arithmetic ge (single (negℤ (pos (leastPower m (s .n) m 0))) (s .q + x) (pos 1)) ∷ []) ∷ []
 last-is s x m h g =
-    ap (λ (t : Bool). elim t [ true ↦ [] | false ↦ boundChild (numbered s) x (logUp m (s .n) m 0) ]) (lt-leb (s .n) 1 (omega arith))
-    ∙ ap (λ (e : List ℤ). (arithmetic ge e ∷ []) ∷ []) (minus-number (s .q + x) g (pos (logUp m (s .n) m 0)))
+    ap (λ (t : Bool). elim t [ true ↦ [] | false ↦ boundChild (numbered s) x (leastPower m (s .n) m 0) ]) (lt-leb (s .n) 1 (omega arith))
+    ∙ ap (λ (e : List ℤ). (arithmetic ge e ∷ []) ∷ []) (minus-number (s .q + x) g (pos (leastPower m (s .n) m 0)))
 
 pub last-none : (s : Progress) (x m : ℕ) → s .n ≤ 1 → lastChild (numbered s) x m ≡ []
-last-none s x m h = ap (λ (t : Bool). elim t [ true ↦ [] | false ↦ boundChild (numbered s) x (logUp m (s .n) m 0) ]) (le-leb (s .n) 1 h)
+last-none s x m h = ap (λ (t : Bool). elim t [ true ↦ [] | false ↦ boundChild (numbered s) x (leastPower m (s .n) m 0) ]) (le-leb (s .n) 1 h)
 
 pub last-short : (s : Progress) (x m : ℕ) → length (lastChild (numbered s) x m) ≤ 1
 last-short s x m = go (leb (s .n) 1)
   where
-    go : (t : Bool) → length {A = List Fact} (elim t as (λ _. List (List Fact)) [ true ↦ [] | false ↦ boundChild (numbered s) x (logUp m (s .n) m 0) ]) ≤ 1
+    go : (t : Bool) → length {A = List Fact} (elim t as (λ _. List (List Fact)) [ true ↦ [] | false ↦ boundChild (numbered s) x (leastPower m (s .n) m 0) ]) ≤ 1
     go true = omega arith
     go false = omega arith
 

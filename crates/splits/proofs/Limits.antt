@@ -12,18 +12,18 @@ use lib.IntN.{ℤ, pos, negsuc, negℤ, natAbs, _+ℤ_, _*ℤ_}
 use Rattle.lists.proofs.Every.{every-append}
 use Rattle.integers.proofs.Laws.{abs-neg, minus-one-*ℤ}
 use Rattle.calculus.specs.Limits.{numberLimit, factLimit}
-use Rattle.calculus.specs.Rows.{scale, less, below}
+use Rattle.calculus.specs.LinearForms.{scale, above, below}
 use Rattle.calculus.specs.Facts.{Fact, isLiteral, arithmetic, ge}
-use Rattle.calculus.specs.Children.{lValidChildren, cValidChildren, cInjChildren, pairsWith, pairs}
-use Rattle.calculus.specs.Rules.{logUp, lastChild}
+use Rattle.calculus.specs.Children.{lValidChildren, cValidChildren, cInjChildren, pairChildrenWith, pairChildren}
+use Rattle.calculus.specs.Rules.{leastPower, lastChild}
 use Rattle.format.specs.Fields.{u16, u16s, within, allWithin}
 use Rattle.format.specs.StepForms.{rule}
-use Rattle.format.specs.Checking.{fits, orNone, nth, factWithin, factsWithin, childrenWithin}
+use Rattle.format.specs.Checking.{fits, orNone, childIn, factWithin, factsWithin, childrenWithin}
 use Rattle.format.proofs.Faults.{and-true}
 use Rattle.rows.specs.Rows.{branchOf}
 use Rattle.rows.specs.Work.{Fine}
 use Rattle.rows.proofs.Branches.{length-branch}
-use Rattle.rows.proofs.Forms.{less-form, below-form, less-column, minus-number, columns-difference}
+use Rattle.rows.proofs.Forms.{above-form, below-form, above-column, minus-number, columns-difference}
 use Rattle.question.specs.declared.Progress.{Progress}
 use Rattle.question.specs.Columns.{columnAt}
 use Rattle.question.specs.Posed.{numbered}
@@ -45,10 +45,10 @@ pub one-within : (f : Fact) → factWithin f ≡ factsWithin (f ∷ [])
 unfolding factsWithin
 one-within f = and-one (factWithin f)
 
-pub two-within : (o : Option (List (List Fact))) (c d : List Fact) → o ≡ some (c ∷ d ∷ []) → childrenWithin (orNone o) ≡ (factsWithin (orNone (nth o 1)) && factsWithin (orNone (nth o 2)))
+pub two-within : (o : Option (List (List Fact))) (c d : List Fact) → o ≡ some (c ∷ d ∷ []) → childrenWithin (orNone o) ≡ (factsWithin (orNone (childIn o 1)) && factsWithin (orNone (childIn o 2)))
 unfolding childrenWithin
 two-within o c d e =
-    subst (λ (p : Option (List (List Fact))). childrenWithin (orNone p) ≡ (factsWithin (orNone (nth p 1)) && factsWithin (orNone (nth p 2)))) (sym e)
+    subst (λ (p : Option (List (List Fact))). childrenWithin (orNone p) ≡ (factsWithin (orNone (childIn p 1)) && factsWithin (orNone (childIn p 2)))) (sym e)
     (ap (λ t. factsWithin c && t) (sym (and-one (factsWithin d))))
 
 -- ---- Branch and Apart: only the constant of e − 1 and of −e − 1 can pass the limit
@@ -62,12 +62,12 @@ first-within : (v : ℤ) (cs : List ℤ) → allWithin numberLimit cs ≡ true �
 unfolding factsWithin allWithin
 first-within v cs h = and-one (within numberLimit v) ∙ ap (λ t. within numberLimit v && t) (sym h) ∙ and-one (within numberLimit v && allWithin numberLimit cs)
 
-pub less-within : (e : List ℤ) (v : ℤ) → length e ≡ 49 → allWithin numberLimit e ≡ true → v ≡ getD e 0 (pos 0) +ℤ negsuc 0 → within numberLimit v ≡ factsWithin (arithmetic ge (less e) ∷ [])
+pub above-within : (e : List ℤ) (v : ℤ) → length e ≡ 49 → allWithin numberLimit e ≡ true → v ≡ getD e 0 (pos 0) +ℤ negsuc 0 → within numberLimit v ≡ factsWithin (arithmetic ge (above e) ∷ [])
 unfolding allWithin
-less-within [] v l h q = absurd (omega arith)
-less-within (c ∷ cs) v l h q =
+above-within [] v l h q = absurd (omega arith)
+above-within (c ∷ cs) v l h q =
     first-within v cs (and-true (within numberLimit c) (allWithin numberLimit cs) h .1)
-    ∙ ap (λ (r : List ℤ). factsWithin (arithmetic ge r ∷ [])) (ap (λ (z : ℤ). z ∷ cs) q ∙ sym (less-form c cs (omega arith)))
+    ∙ ap (λ (r : List ℤ). factsWithin (arithmetic ge r ∷ [])) (ap (λ (z : ℤ). z ∷ cs) q ∙ sym (above-form c cs (omega arith)))
 
 pub below-within : (e : List ℤ) (v : ℤ) → length e ≡ 49 → allWithin numberLimit e ≡ true → v ≡ (negsuc 0 *ℤ getD e 0 (pos 0)) +ℤ negsuc 0 → within numberLimit v ≡ factsWithin (arithmetic ge (below e) ∷ [])
 unfolding allWithin
@@ -82,7 +82,7 @@ module _ (s : Progress) (x : ℕ) (hl : s .q + x < 48) where
   l-valid-within : childrenWithin (lValidChildren (numbered s) x) ≡ true
   unfolding childrenWithin factsWithin
   l-valid-within =
-      ap (λ (e : List ℤ). childrenWithin ((isLiteral x 0 ∷ []) ∷ (arithmetic ge e ∷ []) ∷ [])) (less-column (s .q + x) hl)
+      ap (λ (e : List ℤ). childrenWithin ((isLiteral x 0 ∷ []) ∷ (arithmetic ge e ∷ []) ∷ [])) (above-column (s .q + x) hl)
       ∙ ap (λ t. (t && true) && true) (within-single (negsuc 0) (s .q + x) (pos 1) (omega arith) (omega arith))
 
   c-valid-within : s .q + (s .p + x) < 48 → s .n ≤ 196608 → childrenWithin (cValidChildren (numbered s) x) ≡ true
@@ -106,20 +106,20 @@ c-inj-within s x y hx hy n =
       within-difference (s .q + (s .p + x)) (s .q + (s .p + y)),
     )
 
-with-within : (x : ℕ) (ys : List ℕ) (more : List (List Fact)) → childrenWithin (pairsWith x ys more) ≡ childrenWithin more
+with-within : (x : ℕ) (ys : List ℕ) (more : List (List Fact)) → childrenWithin (pairChildrenWith x ys more) ≡ childrenWithin more
 unfolding childrenWithin factsWithin
 with-within x [] more = refl
 with-within x (y ∷ ys) more = with-within x ys more
 
-pairs-within : (xs : List ℕ) (more : List (List Fact)) → childrenWithin (pairs xs more) ≡ childrenWithin more
+pairs-within : (xs : List ℕ) (more : List (List Fact)) → childrenWithin (pairChildren xs more) ≡ childrenWithin more
 pairs-within [] more = refl
-pairs-within (x ∷ xs) more = with-within x xs (pairs xs more) ∙ pairs-within xs more
+pairs-within (x ∷ xs) more = with-within x xs (pairChildren xs more) ∙ pairs-within xs more
 
-log-bound : (d n m k : ℕ) → logUp d n m k ≤ k + d
+log-bound : (d n m k : ℕ) → leastPower d n m k ≤ k + d
 log-bound zero n m k = omega arith
 log-bound (suc d) n m k = go (leb m (n ^ k)) (log-bound d n m (suc k))
   where
-    go : (t : Bool) → logUp d n m (suc k) ≤ suc k + d → elim t [ true ↦ k | false ↦ logUp d n m (suc k) ] ≤ k + suc d
+    go : (t : Bool) → leastPower d n m (suc k) ≤ suc k + d → elim t [ true ↦ k | false ↦ leastPower d n m (suc k) ] ≤ k + suc d
     go true h = omega arith
     go false h = omega arith
 
@@ -129,10 +129,10 @@ last-within s x m h g = go (decLt 1 (s .n))
   where
     go : Dec (1 < s .n) → childrenWithin (lastChild (numbered s) x m) ≡ true
     go (yes n) =
-        let l : logUp m (s .n) m 0 ≤ 0 + m = log-bound m (s .n) m 0 in
-        let a : natAbs (negℤ (pos (logUp m (s .n) m 0))) ≡ logUp m (s .n) m 0 = abs-neg (pos (logUp m (s .n) m 0)) in
+        let l : leastPower m (s .n) m 0 ≤ 0 + m = log-bound m (s .n) m 0 in
+        let a : natAbs (negℤ (pos (leastPower m (s .n) m 0))) ≡ leastPower m (s .n) m 0 = abs-neg (pos (leastPower m (s .n) m 0)) in
         ap childrenWithin (last-is s x m n h)
-        ∙ ap (λ t. (t && true) && true) (within-single (negℤ (pos (logUp m (s .n) m 0))) (s .q + x) (pos 1) (omega arith) (omega arith))
+        ∙ ap (λ t. (t && true) && true) (within-single (negℤ (pos (leastPower m (s .n) m 0))) (s .q + x) (pos 1) (omega arith) (omega arith))
     go (no n) = ap childrenWithin (last-none s x m (omega arith))
 
 -- ---- by the rule's number

@@ -11,19 +11,19 @@ use lib.Dec.{eqb}
 use lib.IntN.{ℤ}
 use Rattle.calculus.specs.Limits.{columnLimit, numberLimit}
 use Rattle.calculus.specs.Facts.{Branch}
-use Rattle.calculus.specs.Children.{splitChildren, apartChildren, lValidChildren, cValidChildren, cInjChildren, pairs}
+use Rattle.calculus.specs.Children.{branchChildren, apartChildren, lValidChildren, cValidChildren, cInjChildren, pairChildren}
 use Rattle.calculus.specs.Rules.{guard, distinct, neighbours, sameLength, lastChild, cardChildren, children}
 use Rattle.format.specs.Fields.{u16, u16s, i32, pairsAt, within}
 use Rattle.format.specs.Question.{rising, formRange, formOf}
 use Rattle.format.specs.Checking.{fits}
-use Rattle.format.specs.StepForms.{ruleOf, formFor, variables, operandsInRange, stepOf}
+use Rattle.format.specs.StepForms.{ruleOf, formFor, areVariables, operandsInRange, stepOf}
 use Rattle.format.proofs.Faults.{and-true}
 use Rattle.format.proofs.Decoded.{below→}
 use Rattle.constraints.proofs.Ranges.{form-rises}
 use Rattle.question.specs.declared.Progress.{Progress}
 use Rattle.question.specs.Posed.{asked, numbered}
 use Rattle.rows.specs.Rows.{factOf, rowAt}
-use Rattle.rows.specs.Work.{kindOf}
+use Rattle.rows.specs.Work.{tagOf}
 use Rattle.rows.proofs.Tested.{guard-fits, guard-given}
 use Rattle.steps.specs.Ready.{Ready}
 use Rattle.steps.proofs.Table.{at-most}
@@ -44,13 +44,13 @@ unfolding asked
 card-same b s br [] = refl
 card-same b s br (x ∷ []) = refl
 card-same b s br (x ∷ y ∷ xs) =
-    ap (λ t. guard (distinct (x ∷ y ∷ xs) && t) (pairs (x ∷ y ∷ xs) (lastChild (numbered s) x (length (x ∷ y ∷ xs))))) (neighbours-same b s br x (y ∷ xs))
+    ap (λ t. guard (distinct (x ∷ y ∷ xs) && t) (pairChildren (x ∷ y ∷ xs) (lastChild (numbered s) x (length (x ∷ y ∷ xs))))) (neighbours-same b s br x (y ∷ xs))
 
 card-given : (s : Progress) (br : Branch) (b : List ℕ) (at m : ℕ) → 2 ≤ m → fits (cardChildren (numbered s) br (u16s b at m)) ≡ true
-    → cardChildren (numbered s) br (u16s b at m) ≡ some (pairs (u16s b at m) (lastChild (numbered s) (u16 b at) m))
+    → cardChildren (numbered s) br (u16s b at m) ≡ some (pairChildren (u16s b at m) (lastChild (numbered s) (u16 b at) m))
 card-given s br b at m h e =
     let q = card-children (numbered s) br b at m h in
-    q ∙ guard-given (distinct (u16s b at m) && neighbours (numbered s) br (u16 b at) (u16s b (at + 2) (m - 1))) (pairs (u16s b at m) (lastChild (numbered s) (u16 b at) m)) (sym (ap fits q) ∙ e)
+    q ∙ guard-given (distinct (u16s b at m) && neighbours (numbered s) br (u16 b at) (u16s b (at + 2) (m - 1))) (pairChildren (u16s b at m) (lastChild (numbered s) (u16 b at) m)) (sym (ap fits q) ∙ e)
 
 module _ {b : List ℕ} {s : Progress} {at m : ℕ} {w : List ℤ} {count : ℕ} (h : Ready b s at m w count) where
   -- Branch: the form
@@ -80,7 +80,7 @@ module _ {b : List ℕ} {s : Progress} {at m : ℕ} {w : List ℤ} {count : ℕ}
       (omega arith, x, y)
 
   -- Card: the variables
-  pub card-operands : 12 ≡ u16 b at → (2 ≤ (m - 4) / 2) × ((m - 4) / 2 ≤ 16) × (at + 4 + 2 * ((m - 4) / 2) ≤ length b) × (variables (s .p) (u16s b (at + 4) ((m - 4) / 2)) ≡ true) × (4 ≤ m)
+  pub card-operands : 12 ≡ u16 b at → (2 ≤ (m - 4) / 2) × ((m - 4) / 2 ≤ 16) × (at + 4 + 2 * ((m - 4) / 2) ≤ length b) × (areVariables (s .p) (u16s b (at + 4) ((m - 4) / 2)) ≡ true) × (4 ≤ m)
   unfolding operandsInRange
   card-operands e =
       let l : 8 ≤ m = long h 12 e in
@@ -93,7 +93,7 @@ module _ {b : List ℕ} {s : Progress} {at m : ℕ} {w : List ℤ} {count : ℕ}
   by : (k : ℕ) → k ≡ u16 b at → given h ≡ children (asked b s) (before h) (stepOf b (ruleOf k) at m)
   by k e = offered-by b (asked b s) (before h) at m k e
 
-  pub branch-child : 2 ≡ u16 b at → given h ≡ some (splitChildren (formOf b (at + 4) ((m - 8) / 6)))
+  pub branch-child : 2 ≡ u16 b at → given h ≡ some (branchChildren (formOf b (at + 4) ((m - 8) / 6)))
   unfolding stepOf asked
   branch-child e = by 2 e
 
@@ -109,7 +109,7 @@ module _ {b : List ℕ} {s : Progress} {at m : ℕ} {w : List ℤ} {count : ℕ}
     fits-by-rule : (k : ℕ) → k ≡ u16 b at → fits (children (asked b s) (before h) (stepOf b (ruleOf k) at m)) ≡ true
     fits-by-rule k e = sym (ap fits (by k e)) ∙ f
 
-    pub apart-fact : 3 ≡ u16 b at → (u16 b (at + 4) < count) × (kindOf (factOf (rowAt w (u16 b (at + 4)))) ≡ 2)
+    pub apart-fact : 3 ≡ u16 b at → (u16 b (at + 4) < count) × (tagOf (factOf (rowAt w (u16 b (at + 4)))) ≡ 2)
     unfolding stepOf asked
     apart-fact e = parted-fits w count (u16 b (at + 4)) (fits-by-rule 3 e)
 
@@ -128,7 +128,7 @@ module _ {b : List ℕ} {s : Progress} {at m : ℕ} {w : List ℤ} {count : ℕ}
     unfolding stepOf asked
     c-inj-child e = by 11 e ∙ guard-given (not (eqb (u16 b (at + 4)) (u16 b (at + 6)))) (cInjChildren (numbered s) (u16 b (at + 4)) (u16 b (at + 6))) (differ e)
 
-    pub card-child : 12 ≡ u16 b at → given h ≡ some (pairs (u16s b (at + 4) ((m - 4) / 2)) (lastChild (numbered s) (u16 b (at + 4)) ((m - 4) / 2)))
+    pub card-child : 12 ≡ u16 b at → given h ≡ some (pairChildren (u16s b (at + 4) ((m - 4) / 2)) (lastChild (numbered s) (u16 b (at + 4)) ((m - 4) / 2)))
     unfolding stepOf asked
     card-child e =
         let q = by 12 e ∙ sym (card-same b s (before h) (u16s b (at + 4) ((m - 4) / 2))) in

@@ -9,10 +9,10 @@ use borrow.Author.Tests.{eq-eqb, ne-eqb, ltb-true}
 use lib.ListN.{getD}
 use lib.Dec.{ltb}
 use Rattle.calculus.specs.Facts.{Question, Branch}
-use Rattle.calculus.specs.Children.{pairs}
-use Rattle.calculus.specs.Rules.{guard, elem, distinct, neighbours, sameLength, lastChild, cardChildren, statesEqual}
+use Rattle.calculus.specs.Children.{pairChildren}
+use Rattle.calculus.specs.Rules.{guard, among, distinct, neighbours, sameLength, lastChild, cardChildren, statesEqual}
 use Rattle.format.specs.Fields.{u16, u16s}
-use Rattle.format.specs.StepForms.{variables}
+use Rattle.format.specs.StepForms.{areVariables}
 use Rattle.format.proofs.Faults.{and-true, not-both}
 use Rattle.format.proofs.Fields.{length-u16s}
 
@@ -40,27 +40,27 @@ u16s-at b i (suc n) (suc j) h =
 
 -- ---- a variable among others
 
-pub elem-yes : (b : List ℕ) (i left x : ℕ) → 0 < left → u16 b i ≡ x → elem x (u16s b i left) ≡ true
-elem-yes b i left x h e = ap (elem x) (u16s-more b i left h) ∙ ap (λ t. t || elem x (u16s b (i + 2) (left - 1))) (eq-eqb x (u16 b i) (sym e))
+pub among-yes : (b : List ℕ) (i left x : ℕ) → 0 < left → u16 b i ≡ x → among x (u16s b i left) ≡ true
+among-yes b i left x h e = ap (among x) (u16s-more b i left h) ∙ ap (λ t. t || among x (u16s b (i + 2) (left - 1))) (eq-eqb x (u16 b i) (sym e))
 
-pub elem-no : (b : List ℕ) (i left x : ℕ) → 0 < left → (u16 b i ≡ x → ⊥) → elem x (u16s b i left) ≡ elem x (u16s b (i + 2) (left - 1))
-elem-no b i left x h e = ap (elem x) (u16s-more b i left h) ∙ ap (λ t. t || elem x (u16s b (i + 2) (left - 1))) (ne-eqb x (u16 b i) (λ q. e (sym q)))
+pub among-no : (b : List ℕ) (i left x : ℕ) → 0 < left → (u16 b i ≡ x → ⊥) → among x (u16s b i left) ≡ among x (u16s b (i + 2) (left - 1))
+among-no b i left x h e = ap (among x) (u16s-more b i left h) ∙ ap (λ t. t || among x (u16s b (i + 2) (left - 1))) (ne-eqb x (u16 b i) (λ q. e (sym q)))
 
 -- ---- different variables
 
-pub distinct-no : (b : List ℕ) (i left : ℕ) → 0 < left → elem (u16 b i) (u16s b (i + 2) (left - 1)) ≡ true → distinct (u16s b i left) ≡ false
+pub distinct-no : (b : List ℕ) (i left : ℕ) → 0 < left → among (u16 b i) (u16s b (i + 2) (left - 1)) ≡ true → distinct (u16s b i left) ≡ false
 distinct-no b i left h e = ap distinct (u16s-more b i left h) ∙ ap (λ t. not t && distinct (u16s b (i + 2) (left - 1))) e
 
-pub distinct-yes : (b : List ℕ) (i left : ℕ) → 0 < left → elem (u16 b i) (u16s b (i + 2) (left - 1)) ≡ false → distinct (u16s b i left) ≡ distinct (u16s b (i + 2) (left - 1))
+pub distinct-yes : (b : List ℕ) (i left : ℕ) → 0 < left → among (u16 b i) (u16s b (i + 2) (left - 1)) ≡ false → distinct (u16s b i left) ≡ distinct (u16s b (i + 2) (left - 1))
 distinct-yes b i left h e = ap distinct (u16s-more b i left h) ∙ ap (λ t. not t && distinct (u16s b (i + 2) (left - 1))) e
 
 not-true : (t : Bool) → not t ≡ true → t ≡ false
 not-true true e = sym e
 not-true false e = refl
 
-distinct-parts : (b : List ℕ) (i others : ℕ) → distinct (u16s b i (others + 1)) ≡ true → (elem (u16 b i) (u16s b (i + 2) others) ≡ false) × (distinct (u16s b (i + 2) others) ≡ true)
+distinct-parts : (b : List ℕ) (i others : ℕ) → distinct (u16s b i (others + 1)) ≡ true → (among (u16 b i) (u16s b (i + 2) others) ≡ false) × (distinct (u16s b (i + 2) others) ≡ true)
 distinct-parts b i others e =
-    let (p, q) = and-true (not (elem (u16 b i) (u16s b (i + 2) others))) (distinct (u16s b (i + 2) others)) (sym (ap distinct (u16s-one-more b i others)) ∙ e) in
+    let (p, q) = and-true (not (among (u16 b i) (u16s b (i + 2) others))) (distinct (u16s b (i + 2) others)) (sym (ap distinct (u16s-one-more b i others)) ∙ e) in
     (not-true _ p, q)
 
 recount : (others : ℕ) → 0 < others → others - 1 + 1 ≡ others
@@ -71,38 +71,38 @@ distinct-rest b i others h e = ap (λ n. distinct (u16s b (i + 2) n)) (recount o
 
 pub neighbours-differ : (b : List ℕ) (i others : ℕ) → 0 < others → distinct (u16s b i (others + 1)) ≡ true → u16 b i ≡ u16 b (i + 2) → ⊥
 neighbours-differ b i others h e q =
-    let f : elem (u16 b i) (u16s b (i + 2) others) ≡ true = elem-yes b (i + 2) others (u16 b i) h (sym q) in
-    not-both (elem (u16 b i) (u16s b (i + 2) others)) f (distinct-parts b i others e .0)
+    let f : among (u16 b i) (u16s b (i + 2) others) ≡ true = among-yes b (i + 2) others (u16 b i) h (sym q) in
+    not-both (among (u16 b i) (u16s b (i + 2) others)) f (distinct-parts b i others e .0)
 
 -- ---- variables below p
 
-pub below-first : (b : List ℕ) (p i left : ℕ) → 0 < left → variables p (u16s b i left) ≡ true → u16 b i < p
-below-first b p i left h e = ltb-true (u16 b i) p (and-true (ltb (u16 b i) p) (variables p (u16s b (i + 2) (left - 1))) (sym (ap (variables p) (u16s-more b i left h)) ∙ e) .0)
+pub below-first : (b : List ℕ) (p i left : ℕ) → 0 < left → areVariables p (u16s b i left) ≡ true → u16 b i < p
+below-first b p i left h e = ltb-true (u16 b i) p (and-true (ltb (u16 b i) p) (areVariables p (u16s b (i + 2) (left - 1))) (sym (ap (areVariables p) (u16s-more b i left h)) ∙ e) .0)
 
-pub below-others : (b : List ℕ) (p i left : ℕ) → 0 < left → variables p (u16s b i left) ≡ true → variables p (u16s b (i + 2) (left - 1)) ≡ true
-below-others b p i left h e = and-true (ltb (u16 b i) p) (variables p (u16s b (i + 2) (left - 1))) (sym (ap (variables p) (u16s-more b i left h)) ∙ e) .1
+pub below-others : (b : List ℕ) (p i left : ℕ) → 0 < left → areVariables p (u16s b i left) ≡ true → areVariables p (u16s b (i + 2) (left - 1)) ≡ true
+below-others b p i left h e = and-true (ltb (u16 b i) p) (areVariables p (u16s b (i + 2) (left - 1))) (sym (ap (areVariables p) (u16s-more b i left h)) ∙ e) .1
 
-pub below-at : (b : List ℕ) (p i n j : ℕ) → j < n → variables p (u16s b i n) ≡ true → u16 b (i + 2 * j) < p
+pub below-at : (b : List ℕ) (p i n j : ℕ) → j < n → areVariables p (u16s b i n) ≡ true → u16 b (i + 2 * j) < p
 below-at b p i zero j h e = absurd (omega arith)
 below-at b p i (suc n) zero h e = let q : i + 2 * 0 ≡ i = omega arith in rw q (below-first b p i (suc n) (omega arith) e)
 below-at b p i (suc n) (suc j) h e =
     let r : suc n - 1 ≡ n = omega arith in
-    let q : i + 2 * suc j ≡ i + 2 + 2 * j = omega arith in rw q (below-at b p (i + 2) n j (omega arith) (subst (λ l. variables p (u16s b (i + 2) l) ≡ true) r (below-others b p i (suc n) (omega arith) e)))
+    let q : i + 2 * suc j ≡ i + 2 + 2 * j = omega arith in rw q (below-at b p (i + 2) n j (omega arith) (subst (λ l. areVariables p (u16s b (i + 2) l) ≡ true) r (below-others b p i (suc n) (omega arith) e)))
 
-pub below-later : (b : List ℕ) (p i others j : ℕ) → j < others → variables p (u16s b i (others + 1)) ≡ true → u16 b (i + 2 + 2 * j) < p
+pub below-later : (b : List ℕ) (p i others j : ℕ) → j < others → areVariables p (u16s b i (others + 1)) ≡ true → u16 b (i + 2 + 2 * j) < p
 below-later b p i others j h e =
     let q : i + 2 * (j + 1) ≡ i + 2 + 2 * j = omega arith in
     subst (λ k. u16 b k < p) q (below-at b p i (others + 1) (j + 1) (omega arith) e)
 
-pub below-second : (b : List ℕ) (p i others : ℕ) → 0 < others → variables p (u16s b i (others + 1)) ≡ true → u16 b (i + 2) < p
+pub below-second : (b : List ℕ) (p i others : ℕ) → 0 < others → areVariables p (u16s b i (others + 1)) ≡ true → u16 b (i + 2) < p
 below-second b p i others h e =
     let q : i + 2 + 2 * 0 ≡ i + 2 = omega arith in
     subst (λ k. u16 b k < p) q (below-later b p i others 0 h e)
 
-pub below-rest : (b : List ℕ) (p i others : ℕ) → 0 < others → variables p (u16s b i (others + 1)) ≡ true → variables p (u16s b (i + 2) (others - 1 + 1)) ≡ true
+pub below-rest : (b : List ℕ) (p i others : ℕ) → 0 < others → areVariables p (u16s b i (others + 1)) ≡ true → areVariables p (u16s b (i + 2) (others - 1 + 1)) ≡ true
 below-rest b p i others h e =
     let q : others + 1 - 1 ≡ others - 1 + 1 = omega arith in
-    subst (λ n. variables p (u16s b (i + 2) n) ≡ true) q (below-others b p i (others + 1) (omega arith) e)
+    subst (λ n. areVariables p (u16s b (i + 2) n) ≡ true) q (below-others b p i (others + 1) (omega arith) e)
 
 -- ---- neighbours
 
@@ -127,10 +127,10 @@ module _ (u : Question) (br : Branch) where
 
   -- Card's children, of two variables or more
   pub card-children : (b : List ℕ) (at m : ℕ) → 2 ≤ m
-      → cardChildren u br (u16s b at m) ≡ guard (distinct (u16s b at m) && neighbours u br (u16 b at) (u16s b (at + 2) (m - 1))) (pairs (u16s b at m) (lastChild u (u16 b at) m))
+      → cardChildren u br (u16s b at m) ≡ guard (distinct (u16s b at m) && neighbours u br (u16 b at) (u16s b (at + 2) (m - 1))) (pairChildren (u16s b at m) (lastChild u (u16 b at) m))
   unfolding u16s
   card-children b at zero h = absurd (omega arith)
   card-children b at (suc zero) h = absurd (omega arith)
   card-children b at (suc (suc m)) h =
       let e : suc (suc m) - 1 ≡ suc m = omega arith in
-      rw e (ap (λ n. guard (distinct (u16s b at (suc (suc m))) && neighbours u br (u16 b at) (u16s b (at + 2) (suc m))) (pairs (u16s b at (suc (suc m))) (lastChild u (u16 b at) n))) (length-u16s b at (suc (suc m))))
+      rw e (ap (λ n. guard (distinct (u16s b at (suc (suc m))) && neighbours u br (u16 b at) (u16s b (at + 2) (suc m))) (pairChildren (u16s b at (suc (suc m))) (lastChild u (u16 b at) n))) (length-u16s b at (suc (suc m))))

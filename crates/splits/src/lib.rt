@@ -8,14 +8,14 @@ ghost use lib.ListN.{length, getElem?, drop};
 ghost use lib.IntN.{pos, negsuc};
 ghost use Rattle.calculus.specs.Limits.{alphabetLimit, variableLimit, columnLimit, factLimit, workNumbers};
 ghost use Rattle.calculus.specs.Facts.{arithmetic, ge, eq, ne};
-ghost use Rattle.calculus.specs.Children.{childAt, splitChildren, apartChildren, lValidChildren, cValidChildren, cInjChildren, pairs};
-ghost use Rattle.calculus.specs.Rules.{then, parted, elem, distinct, neighbours, lastChild, cardChildren};
+ghost use Rattle.calculus.specs.Children.{childAt, branchChildren, apartChildren, lValidChildren, cValidChildren, cInjChildren, pairChildren};
+ghost use Rattle.calculus.specs.Rules.{then, apartOf, among, distinct, neighbours, lastChild, cardChildren};
 ghost use Rattle.format.specs.Fields.{u16, u16s};
 ghost use Rattle.format.specs.Question.{formRange, formOf};
-ghost use Rattle.format.specs.StepForms.{rule, variables};
-ghost use Rattle.format.specs.Checking.{fits as fitting, orNone, factWithin, factsWithin, childrenWithin, takenTried, nth};
+ghost use Rattle.format.specs.StepForms.{rule, areVariables};
+ghost use Rattle.format.specs.Checking.{fits as fitting, orNone, factWithin, factsWithin, childrenWithin, takenTried, childIn};
 ghost use Rattle.rows.specs.Rows.{rowLength, factOf, rowAt, branchOf};
-ghost use Rattle.rows.specs.Work.{Fine, kindOf, single};
+ghost use Rattle.rows.specs.Work.{Fine, tagOf, single};
 ghost use Rattle.question.specs.Posed.{asked, numbered};
 ghost use Rattle.steps.specs.Conclusions.{conclusionsOf};
 ghost use Rattle.steps.specs.declared.Conclusions.the-variants.{Several};
@@ -31,18 +31,18 @@ use records::u16_at;
 // Apart: a fact e ≠ 0 of the branch.
 fn parts(work: &[i64], count: usize, fact: usize) -> bool
     requires { ⌜ (count ≤ factLimit) × (workNumbers ≤ length (now work)) ⌝ }
-    ensures { λ r. ⌜ r ≡ fitting (then (getElem? (branchOf (now (work .entry)) count) fact) parted) ⌝ }
+    ensures { λ r. ⌜ r ≡ fitting (then (getElem? (branchOf (now (work .entry)) count) fact) apartOf) ⌝ }
 {
     if count <= fact {
         return false;
     }
-    rows::kind_of(rows::row_at(work, fact)) == 2
+    rows::tag_of(rows::row_at(work, fact)) == 2
 }
 
 // Is x among the count variables from a position?
 fn occurs(b: &[u8], x: usize, at: usize, count: usize) -> bool
     requires { ⌜ at + 2 * count ≤ length (now b) ⌝ }
-    ensures { λ r. ⌜ r ≡ elem x (u16s (now (b .entry)) at count) ⌝ }
+    ensures { λ r. ⌜ r ≡ among x (u16s (now (b .entry)) at count) ⌝ }
 {
     let mut i = at;
     let mut left = count;
@@ -84,7 +84,7 @@ fn lengths_agree(
     count: usize,
 ) -> bool
     requires { ⌜ (at + 2 + 2 * others ≤ length (now b)) × (s .p ≤ variableLimit) × (s .q ≤ variableLimit) ⌝ }
-    requires { ⌜ (distinct (u16s (now b) at (others + 1)) ≡ true) × (variables (s .p) (u16s (now b) at (others + 1)) ≡ true) ⌝ }
+    requires { ⌜ (distinct (u16s (now b) at (others + 1)) ≡ true) × (areVariables (s .p) (u16s (now b) at (others + 1)) ≡ true) ⌝ }
     requires { ⌜ (count ≤ factLimit) × (workNumbers ≤ length (now work)) ⌝ }
     ensures { λ r. ⌜ r ≡ neighbours (numbered s) (branchOf (now (work .entry)) count) (u16 (now (b .entry)) at) (u16s (now (b .entry)) (at + 2) others) ⌝ }
 {
@@ -110,7 +110,7 @@ fn lengths_agree(
 // Card fits on the m variables from a position.
 fn card_fits(b: &[u8], s: Progress, at: usize, m: usize, work: &[i64], count: usize) -> bool
     requires { ⌜ (2 ≤ m) × (at + 2 * m ≤ length (now b)) × (s .p ≤ variableLimit) × (s .q ≤ variableLimit) ⌝ }
-    requires { ⌜ variables (s .p) (u16s (now b) at m) ≡ true ⌝ }
+    requires { ⌜ areVariables (s .p) (u16s (now b) at m) ≡ true ⌝ }
     requires { ⌜ (count ≤ factLimit) × (workNumbers ≤ length (now work)) ⌝ }
     ensures { λ r. ⌜ r ≡ fitting (cardChildren (numbered s) (branchOf (now (work .entry)) count) (u16s (now (b .entry)) at m)) ⌝ }
 {
@@ -143,7 +143,7 @@ pub fn fits(ticket: &[u8], s: Progress, at: usize, size: usize, work: &[i64], co
 fn fill_branch(row: &mut [i64], b: &[u8], at: usize, pairs: usize, k: usize)
     requires { ⌜ (length (now row) ≡ rowLength) × (at + 4 + 6 * pairs ≤ length (now b)) × (1 ≤ k) × (k ≤ 2) ⌝ }
     requires { ⌜ formRange (now b) columnLimit at pairs ≡ true ⌝ }
-    ensures { λ _. ⌜ factOf (now (row .exit)) ∷ [] ≡ orNone (childAt (splitChildren (formOf (now (b .entry)) at pairs)) k) ⌝ }
+    ensures { λ _. ⌜ factOf (now (row .exit)) ∷ [] ≡ orNone (childAt (branchChildren (formOf (now (b .entry)) at pairs)) k) ⌝ }
 {
     constraints::fill_form(row, b, 0, at, pairs);
     if k == 1 {
@@ -155,7 +155,7 @@ fn fill_branch(row: &mut [i64], b: &[u8], at: usize, pairs: usize, k: usize)
 fn put_branch(work: &mut [i64], count: usize, b: &[u8], at: usize, pairs: usize, k: usize)
     requires { ⌜ (count < factLimit) × (workNumbers ≤ length (now work)) × (at + 4 + 6 * pairs ≤ length (now b)) × (1 ≤ k) × (k ≤ 2) ⌝ }
     requires { ⌜ formRange (now b) columnLimit at pairs ≡ true ⌝ }
-    ensures { λ _. ⌜ branchOf (now (work .exit)) (count + 1) ≡ branchOf (now (work .entry)) count ++ orNone (childAt (splitChildren (formOf (now (b .entry)) at pairs)) k) ⌝ }
+    ensures { λ _. ⌜ branchOf (now (work .exit)) (count + 1) ≡ branchOf (now (work .entry)) count ++ orNone (childAt (branchChildren (formOf (now (b .entry)) at pairs)) k) ⌝ }
 {
     let from = ROW_LENGTH * count;
     let to = from + ROW_LENGTH;
@@ -165,12 +165,12 @@ fn put_branch(work: &mut [i64], count: usize, b: &[u8], at: usize, pairs: usize,
 // Apart: "Children e−1 ≥ 0; −e−1 ≥ 0", in a row.
 fn fill_apart(out: &mut [i64], work: &[i64], fact: usize, k: usize)
     requires { ⌜ (length (now out) ≡ rowLength) × (fact < factLimit) × (workNumbers ≤ length (now work)) × (1 ≤ k) × (k ≤ 2) ⌝ }
-    requires { ⌜ (kindOf (factOf (rowAt (now work) fact)) ≡ 2) × (factWithin (factOf (rowAt (now work) fact)) ≡ true) ⌝ }
+    requires { ⌜ (tagOf (factOf (rowAt (now work) fact)) ≡ 2) × (factWithin (factOf (rowAt (now work) fact)) ≡ true) ⌝ }
     ensures { λ _. ⌜ factOf (now (out .exit)) ∷ [] ≡ orNone (childAt (apartChildren (drop 1 (rowAt (now (work .entry)) fact))) k) ⌝ }
 {
     let row = rows::row_at(work, fact);
     if k == 1 {
-        rows::fill_less(out, row);
+        rows::fill_above(out, row);
         return;
     }
     rows::fill_below(out, row);
@@ -179,7 +179,7 @@ fn fill_apart(out: &mut [i64], work: &[i64], fact: usize, k: usize)
 // The fact stands in the work area itself, so its child is built aside.
 fn put_apart(work: &mut [i64], count: usize, fact: usize, k: usize)
     requires { ⌜ (count < factLimit) × (fact < factLimit) × (workNumbers ≤ length (now work)) × (1 ≤ k) × (k ≤ 2) ⌝ }
-    requires { ⌜ (kindOf (factOf (rowAt (now work) fact)) ≡ 2) × (factWithin (factOf (rowAt (now work) fact)) ≡ true) ⌝ }
+    requires { ⌜ (tagOf (factOf (rowAt (now work) fact)) ≡ 2) × (factWithin (factOf (rowAt (now work) fact)) ≡ true) ⌝ }
     ensures { λ _. ⌜ branchOf (now (work .exit)) (count + 1) ≡ branchOf (now (work .entry)) count ++ orNone (childAt (apartChildren (drop 1 (rowAt (now (work .entry)) fact))) k) ⌝ }
 {
     let mut row = [0i64; ROW_LENGTH];
@@ -224,17 +224,17 @@ fn put_bound(work: &mut [i64], count: usize, s: Progress, x: usize, m: usize)
     requires { ⌜ (x < variableLimit) × (m ≤ variableLimit) × (2 ≤ s .n) × (s .n ≤ alphabetLimit) × (s .p ≤ variableLimit) × (s .q ≤ variableLimit) ⌝ }
     ensures { λ _. ⌜ branchOf (now (work .exit)) (count + 1) ≡ branchOf (now (work .entry)) count ++ orNone (childAt (lastChild (numbered s) x m) 1) ⌝ }
 {
-    let bound = classes::log_up(s.n, m) as i64;
+    let bound = classes::least_power(s.n, m) as i64;
     rows::put_single(work, count, 0, 0 - bound, column_of(s.p, s.q, 0, x), 1);
 }
 
 // Card: "Children, for each pair i < j in lexicographic order, x_i ≈ x_j; last, len(x_1) ≥ L", of the m variables from a position.
 fn put_card(work: &mut [i64], count: usize, b: &[u8], s: Progress, at: usize, m: usize, k: usize)
     requires { ⌜ (count < factLimit) × (workNumbers ≤ length (now work)) ⌝ }
-    requires { ⌜ (2 ≤ m) × (m ≤ variableLimit) × (at + 2 * m ≤ length (now b)) × (variables (s .p) (u16s (now b) at m) ≡ true) ⌝ }
+    requires { ⌜ (2 ≤ m) × (m ≤ variableLimit) × (at + 2 * m ≤ length (now b)) × (areVariables (s .p) (u16s (now b) at m) ≡ true) ⌝ }
     requires { ⌜ (s .p ≤ variableLimit) × (s .q ≤ variableLimit) × (1 ≤ s .n) × (s .n ≤ alphabetLimit) ⌝ }
-    requires { ⌜ (1 ≤ k) × (k ≤ length (pairs (u16s (now b) at m) (lastChild (numbered s) (u16 (now b) at) m))) ⌝ }
-    ensures { λ _. ⌜ branchOf (now (work .exit)) (count + 1) ≡ branchOf (now (work .entry)) count ++ orNone (childAt (pairs (u16s (now (b .entry)) at m) (lastChild (numbered s) (u16 (now (b .entry)) at) m)) k) ⌝ }
+    requires { ⌜ (1 ≤ k) × (k ≤ length (pairChildren (u16s (now b) at m) (lastChild (numbered s) (u16 (now b) at) m))) ⌝ }
+    ensures { λ _. ⌜ branchOf (now (work .exit)) (count + 1) ≡ branchOf (now (work .entry)) count ++ orNone (childAt (pairChildren (u16s (now (b .entry)) at m) (lastChild (numbered s) (u16 (now (b .entry)) at) m)) k) ⌝ }
 {
     let mut i = at;
     let mut others = m - 1;
@@ -266,7 +266,7 @@ fn put_fact(
     requires { ⌜ Ready (now ticket) s at size (now work) count ⌝ }
     requires { ⌜ conclusionsOf (rule (now ticket) at) ≡ Several ⌝ }
     requires { ⌜ (u16 (now ticket) at ≢ 10) × (count < factLimit) ⌝ }
-    requires { ⌜ fitting (nth (offered (now ticket) (asked (now ticket) s) (branchOf (now work) count) at size) k) ≡ true ⌝ }
+    requires { ⌜ fitting (childIn (offered (now ticket) (asked (now ticket) s) (branchOf (now work) count) at size) k) ≡ true ⌝ }
     ensures { λ _. ⌜ branchOf (now (work .exit)) (count + 1) ≡ branchOf (now (work .entry)) count ++ offeredChild (now (ticket .entry)) (asked (now (ticket .entry)) s) (branchOf (now (work .entry)) count) at size k ⌝ }
 {
     let number = u16_at(ticket, at);
@@ -335,7 +335,7 @@ pub fn put_child(
 ) -> usize
     requires { ⌜ Ready (now ticket) s at size (now work) count ⌝ }
     requires { ⌜ conclusionsOf (rule (now ticket) at) ≡ Several ⌝ }
-    requires { ⌜ takenTried (branchOf (now work) count) (nth (offered (now ticket) (asked (now ticket) s) (branchOf (now work) count) at size) k) ≡ 0 ⌝ }
+    requires { ⌜ takenTried (branchOf (now work) count) (childIn (offered (now ticket) (asked (now ticket) s) (branchOf (now work) count) at size) k) ≡ 0 ⌝ }
     ensures added { λ r. ⌜ branchOf (now (work .exit)) r ≡ branchOf (now (work .entry)) count ++ offeredChild (now (ticket .entry)) (asked (now (ticket .entry)) s) (branchOf (now (work .entry)) count) at size k ⌝ }
     ensures fine { λ r. ⌜ Fine (now (work .exit)) r ⌝ }
 {
@@ -352,7 +352,7 @@ pub fn put_child(
 // Apart: is child k within the limit? The coefficients are those of the fact or their negatives, so only the constant can pass it.
 fn apart_within(work: &[i64], fact: usize, k: usize) -> bool
     requires { ⌜ (fact < factLimit) × (workNumbers ≤ length (now work)) × (1 ≤ k) × (k ≤ 2) ⌝ }
-    requires { ⌜ (kindOf (factOf (rowAt (now work) fact)) ≡ 2) × (factWithin (factOf (rowAt (now work) fact)) ≡ true) ⌝ }
+    requires { ⌜ (tagOf (factOf (rowAt (now work) fact)) ≡ 2) × (factWithin (factOf (rowAt (now work) fact)) ≡ true) ⌝ }
     ensures { λ r. ⌜ r ≡ factsWithin (orNone (childAt (apartChildren (drop 1 (rowAt (now (work .entry)) fact))) k)) ⌝ }
 {
     let row = rows::row_at(work, fact);
@@ -376,7 +376,7 @@ pub fn child_within(
 ) -> bool
     requires { ⌜ Ready (now ticket) s at size (now work) count ⌝ }
     requires { ⌜ conclusionsOf (rule (now ticket) at) ≡ Several ⌝ }
-    requires { ⌜ fitting (nth (offered (now ticket) (asked (now ticket) s) (branchOf (now work) count) at size) k) ≡ true ⌝ }
+    requires { ⌜ fitting (childIn (offered (now ticket) (asked (now ticket) s) (branchOf (now work) count) at size) k) ≡ true ⌝ }
     ensures { λ r. ⌜ r ≡ factsWithin (offeredChild (now (ticket .entry)) (asked (now (ticket .entry)) s) (branchOf (now (work .entry)) count) at size k) ⌝ }
 {
     let number = u16_at(ticket, at);

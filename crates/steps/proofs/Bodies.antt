@@ -9,7 +9,7 @@ use lib.ListN.{length}
 use lib.IntN.{ℤ}
 use Rattle.calculus.specs.Facts.{Fact, Branch}
 use Rattle.format.specs.Fields.{u16}
-use Rattle.format.specs.StepForms.{ruleOf, formFor, fitsForm, rule, variables, operandsInRange}
+use Rattle.format.specs.StepForms.{ruleOf, formFor, fitsForm, rule, areVariables, operandsInRange}
 use Rattle.format.proofs.Decoded.{at-least, below→}
 use Rattle.question.specs.declared.Progress.{Progress}
 use Rattle.question.specs.Posed.{asked}
@@ -46,7 +46,7 @@ module _ {b : List ℕ} {s : Progress} {at m : ℕ} {w : List ℤ} {count : ℕ}
     ranged = ap (λ j. operandsInRange b (s .p) (s .q + (s .p + s .p)) (ruleOf j) at m) e ∙ h .formed .in-range
 
   -- L-Intro, L-Valid, C-Collapse and C-Valid: the variable
-  one-variable : 6 ≤ m → variables (s .p) (u16 b (at + 4) ∷ []) ≡ true → (at + 4 + 2 ≤ length b) × (u16 b (at + 4) < s .p)
+  one-variable : 6 ≤ m → areVariables (s .p) (u16 b (at + 4) ∷ []) ≡ true → (at + 4 + 2 ≤ length b) × (u16 b (at + 4) < s .p)
   one-variable l e = let within = h .formed .within in (omega arith, below→ (s .p) (u16 b (at + 4) ∷ []) e .0)
 
   pub variable : (k : ℕ) → 7 ≤ k → k < 11 → k ≡ u16 b at → (at + 4 + 2 ≤ length b) × (u16 b (at + 4) < s .p)

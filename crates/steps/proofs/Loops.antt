@@ -7,7 +7,7 @@ use native.Mathlib.Omega.{arith}
 use borrow.Author.Tests.{lt-ltb, le-ltb}
 use Rattle.calculus.specs.Limits.{numberLimit}
 use Rattle.format.specs.Fields.{u16, i32, u16s, pairsAt, within}
-use Rattle.format.specs.StepForms.{multipliersWithin, variables}
+use Rattle.format.specs.StepForms.{multipliersWithin, areVariables}
 use Rattle.format.proofs.Fields.{down}
 
 -- ---- multipliers
@@ -31,17 +31,17 @@ module _ (b : List ℕ) (at : ℕ) where
 -- ---- variables
 
 module _ (b : List ℕ) (p at : ℕ) where
-  pub variables-done : (k : ℕ) → k ≤ 0 → variables p (u16s b at k) ≡ true
+  pub variables-done : (k : ℕ) → k ≤ 0 → areVariables p (u16s b at k) ≡ true
   unfolding u16s
   variables-done zero h = refl
   variables-done (suc k) h = absurd (omega arith)
 
-  pub variables-yes : (k : ℕ) → 0 < k → u16 b at < p → variables p (u16s b at k) ≡ variables p (u16s b (at + 2) (k - 1))
+  pub variables-yes : (k : ℕ) → 0 < k → u16 b at < p → areVariables p (u16s b at k) ≡ areVariables p (u16s b (at + 2) (k - 1))
   unfolding u16s
   variables-yes zero h g = absurd (omega arith)
   variables-yes (suc k) h g = rw (lt-ltb (u16 b at) p g, down k)
 
-  pub variables-no : (k : ℕ) → 0 < k → p ≤ u16 b at → variables p (u16s b at k) ≡ false
+  pub variables-no : (k : ℕ) → 0 < k → p ≤ u16 b at → areVariables p (u16s b at k) ≡ false
   unfolding u16s
   variables-no zero h g = absurd (omega arith)
   variables-no (suc k) h g = rw (le-ltb (u16 b at) p g)

@@ -18,7 +18,7 @@ use Rattle.calculus.proofs.Shapes.{children-shape}
 use Rattle.format.specs.Fields.{u16}
 use Rattle.format.specs.Records.{need}
 use Rattle.format.specs.StepForms.{ruleOf, stepOf, stepAt}
-use Rattle.format.specs.Checking.{fits, orNone, factsWithin, childrenWithin, room, takenTried, nth}
+use Rattle.format.specs.Checking.{fits, orNone, factsWithin, childrenWithin, room, takenTried, childIn}
 use Rattle.format.proofs.Faults.{none-applies, and-true, not-both}
 use Rattle.question.specs.declared.Progress.{Progress}
 use Rattle.question.specs.Posed.{asked}
@@ -62,38 +62,38 @@ fitted none e = absurd (not-both false e refl)
 fitted (some a) e = refl
 
 -- a step that does not fit has none
-pub none-there : (o : Option (List (List Fact))) (k : ℕ) → fits o ≡ false → fits (nth o k) ≡ false
+pub none-there : (o : Option (List (List Fact))) (k : ℕ) → fits o ≡ false → fits (childIn o k) ≡ false
 none-there none k e = refl
 none-there (some cs) k e = absurd (not-both true refl e)
 
-pub nth-there : (o : Option (List (List Fact))) (k : ℕ) → fits o ≡ true → 1 ≤ k → k ≤ length (orNone o) → fits (nth o k) ≡ true
+pub nth-there : (o : Option (List (List Fact))) (k : ℕ) → fits o ≡ true → 1 ≤ k → k ≤ length (orNone o) → fits (childIn o k) ≡ true
 nth-there none k f l h = absurd (not-both false f refl)
 nth-there (some cs) k f l h = child-there cs k l h
 
-module _ (o : Option (List (List Fact))) (k : ℕ) (e : fits (nth o k) ≡ true) where
+module _ (o : Option (List (List Fact))) (k : ℕ) (e : fits (childIn o k) ≡ true) where
   pub step-fits : fits o ≡ true
   step-fits = go o e
     where
-      go : (o : Option (List (List Fact))) → fits (nth o k) ≡ true → fits o ≡ true
+      go : (o : Option (List (List Fact))) → fits (childIn o k) ≡ true → fits o ≡ true
       go none e = absurd (not-both false e refl)
       go (some cs) e = refl
 
   pub number-of : (cs : List (List Fact)) → o ≡ some cs → (1 ≤ k) × (k ≤ length cs)
-  number-of cs q = child-number cs k (subst (λ (p : Option (List (List Fact))). fits (nth p k) ≡ true) q e)
+  number-of cs q = child-number cs k (subst (λ (p : Option (List (List Fact))). fits (childIn p k) ≡ true) q e)
 
   -- its number and how many facts it adds, by the step's shape
   pub in-shape : (sh : List ℕ) → map length (orNone o) ≡ sh → (1 ≤ k) × (k ≤ length sh)
   in-shape sh q = let (l, h) = number-of (orNone o) (fitted o step-fits) in (l, omega (arith, length-map (orNone o) length, ap length q))
 
-  pub child-size : (sh : List ℕ) → map length (orNone o) ≡ sh → getD sh (k - 1) 0 ≡ length (orNone (nth o k))
+  pub child-size : (sh : List ℕ) → map length (orNone o) ≡ sh → getD sh (k - 1) 0 ≡ length (orNone (childIn o k))
   child-size sh q =
       let cs : List (List Fact) = orNone o in
       let its = fitted o step-fits in
       let (l, h) = number-of cs its in
-      ap (λ (s : List ℕ). getD s (k - 1) 0) (sym q) ∙ getD-map length cs (k - 1) [] 0 (omega arith) ∙ sym (ap length (child-at cs k l)) ∙ sym (ap (λ (p : Option (List (List Fact))). length (orNone (nth p k))) its)
+      ap (λ (s : List ℕ). getD s (k - 1) 0) (sym q) ∙ getD-map length cs (k - 1) [] 0 (omega arith) ∙ sym (ap length (child-at cs k l)) ∙ sym (ap (λ (p : Option (List (List Fact))). length (orNone (childIn p k))) its)
 
 -- what holds of the numbers of all holds of its own
-pub nth-within : (o : Option (List (List Fact))) (k : ℕ) → childrenWithin (orNone o) ≡ true → factsWithin (orNone (nth o k)) ≡ true
+pub nth-within : (o : Option (List (List Fact))) (k : ℕ) → childrenWithin (orNone o) ≡ true → factsWithin (orNone (childIn o k)) ≡ true
 unfolding childrenWithin factsWithin
 nth-within none k e = refl
 nth-within (some cs) zero e = refl

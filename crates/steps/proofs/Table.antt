@@ -13,15 +13,15 @@ use Rattle.format.specs.Fields.{u16}
 use Rattle.format.specs.StepForms as format
 use Rattle.format.specs.StepForms.{Rule, sum, branch, apart, aConf, sConf, sProp, lIntro, lValid, cCollapse, cValid, cInj, card, join, unknown, ruleNames, ruleOf, formFor, fitsForm, lengthFits}
 use Rattle.format.proofs.Faults.{and-true}
-use Rattle.steps.specs.Forms.{formOf}
+use Rattle.steps.specs.Forms.{stepForm}
 use Rattle.steps.specs.declared.Form.{Form}
 
 -- the forms of the rules in order, as the code's table holds them
 abbrev entryOf : Rule → Form
 entryOf r = record { 0 = formFor r .least; 1 = formFor r .stride; 2 = formFor r .greatest }
 
-pub entry-right : (k : ℕ) (d : Form) → k < 14 → formOf (getD (map entryOf ruleNames) k d) ≡ formFor (ruleOf k)
-entry-right k d h = ap formOf (getD-map entryOf ruleNames k unknown d h)
+pub entry-right : (k : ℕ) (d : Form) → k < 14 → stepForm (getD (map entryOf ruleNames) k d) ≡ formFor (ruleOf k)
+entry-right k d h = ap stepForm (getD-map entryOf ruleNames k unknown d h)
 
 -- a length that fits is at least the least, and at most so many strides more
 pub at-most : (f : format.Form) (m : ℕ) → fitsForm f m ≡ true → (m - f .least) / f .stride ≤ f .greatest

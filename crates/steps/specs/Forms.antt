@@ -9,8 +9,8 @@ use Rattle.format.specs.StepForms as format
 use Rattle.format.specs.StepForms.{rule, lengthFits, operandsInRange}
 use Rattle.steps.specs.declared.Form.{Form}
 
-abbrev pub formOf : Form → format.Form
-formOf f = format.form (f .0) (f .1) (f .2)
+abbrev pub stepForm : Form → format.Form
+stepForm f = format.form (f .0) (f .1) (f .2)
 
 -- a step's body of m bytes at a position: it stands in the bytes, its length fits its rule, and its operands are in their ranges
 pub record Formed (b : List ℕ) (u : Question) (at m : ℕ) : Type 0 where

@@ -9,10 +9,10 @@ ghost use Rattle.calculus.specs.Limits.{variableLimit};
 ghost use Rattle.calculus.specs.Alphabet.{characterCount};
 ghost use Rattle.calculus.specs.Steps.{pairCount, lastCount, shape};
 ghost use Rattle.format.specs.Fields.{u16s, pairsAt};
-ghost use Rattle.format.specs.StepForms.{sum, sProp, ruleOf, formFor, fitsForm, rule, child, lengthFits, multipliersWithin, variables, operandsInRange, stepAt, childInRange};
+ghost use Rattle.format.specs.StepForms.{sum, sProp, ruleOf, formFor, fitsForm, rule, childField, lengthFits, multipliersWithin, areVariables, operandsInRange, stepAt, childInRange};
 ghost use Rattle.format.specs.Reading.{stepFault};
 ghost use Rattle.question.specs.Posed.{asked};
-ghost use Rattle.steps.specs.Forms.{formOf};
+ghost use Rattle.steps.specs.Forms.{stepForm};
 ghost use Rattle.steps.specs.Conclusions.{conclusionsOf};
 use limits::COLUMN_LIMIT;
 use limits::NUMBER_LIMIT;
@@ -63,14 +63,14 @@ const FORMS: [Form; 14] = [
 
 // The form of a rule's steps. Nothing else sees the table.
 fn form_for(number: usize) -> Form
-    ensures { λ r. ⌜ formOf r ≡ formFor (ruleOf number) ⌝ }
+    ensures { λ r. ⌜ stepForm r ≡ formFor (ruleOf number) ⌝ }
 {
     if number < 14 { FORMS[number] } else { FORMS[0] }
 }
 
 fn fits_form(f: Form, size: usize) -> bool
     requires { ⌜ 0 < f .1 ⌝ }
-    ensures { λ r. ⌜ r ≡ fitsForm (formOf f) size ⌝ }
+    ensures { λ r. ⌜ r ≡ fitsForm (stepForm f) size ⌝ }
 {
     let least = f.0;
     let stride = f.1;
@@ -134,7 +134,7 @@ fn sum_in_range(b: &[u8], at: usize, size: usize) -> bool
 // Whether the count variables from a position are below p.
 fn variables_below(b: &[u8], p: usize, at: usize, count: usize) -> bool
     requires { ⌜ at + 2 * count ≤ length (now b) ⌝ }
-    ensures { λ r. ⌜ r ≡ variables p (u16s (now (b .entry)) at count) ⌝ }
+    ensures { λ r. ⌜ r ≡ areVariables p (u16s (now (b .entry)) at count) ⌝ }
 {
     let mut i = at;
     let mut left = count;
@@ -249,7 +249,7 @@ pub fn child_facts(b: &[u8], at: usize, k: usize) -> usize
 fn child_in_range(b: &[u8], n: usize, at: usize, size: usize) -> bool
     requires { ⌜ at + size ≤ length (now b) ⌝ }
     requires { ⌜ lengthFits (now b) at size ≡ true ⌝ }
-    ensures { λ r. ⌜ r ≡ childInRange n (stepAt (now (b .entry)) at size) (child (now (b .entry)) at) ⌝ }
+    ensures { λ r. ⌜ r ≡ childInRange n (stepAt (now (b .entry)) at size) (childField (now (b .entry)) at) ⌝ }
 {
     let k = u16_at(b, at + 2);
     if k <= 1 {
@@ -278,7 +278,7 @@ fn operands_fault(b: &[u8], s: Progress, at: usize, size: usize) -> usize
 // Claim 1: "the child field is 0".
 pub fn step_fault_one(b: &[u8], s: Progress, at: usize, size: usize) -> usize
     requires { ⌜ (at + size ≤ length (now b)) × (s .p ≤ variableLimit) × (s .q ≤ variableLimit) ⌝ }
-    ensures { λ r. ⌜ r ≡ stepFault (now (b .entry)) (asked (now (b .entry)) s) (eqb (child (now (b .entry)) at) 0) 0 at size ⌝ }
+    ensures { λ r. ⌜ r ≡ stepFault (now (b .entry)) (asked (now (b .entry)) s) (eqb (childField (now (b .entry)) at) 0) 0 at size ⌝ }
 {
     let f = operands_fault(b, s, at, size);
     if f != 0 {
@@ -290,7 +290,7 @@ pub fn step_fault_one(b: &[u8], s: Progress, at: usize, size: usize) -> usize
 // Claim 2: the child taken.
 pub fn step_fault_two(b: &[u8], s: Progress, at: usize, size: usize) -> usize
     requires { ⌜ (at + size ≤ length (now b)) × (s .p ≤ variableLimit) × (s .q ≤ variableLimit) ⌝ }
-    ensures { λ r. ⌜ r ≡ stepFault (now (b .entry)) (asked (now (b .entry)) s) (childInRange (s .n) (stepAt (now (b .entry)) at size) (child (now (b .entry)) at)) 0 at size ⌝ }
+    ensures { λ r. ⌜ r ≡ stepFault (now (b .entry)) (asked (now (b .entry)) s) (childInRange (s .n) (stepAt (now (b .entry)) at size) (childField (now (b .entry)) at)) 0 at size ⌝ }
 {
     let f = operands_fault(b, s, at, size);
     if f != 0 {

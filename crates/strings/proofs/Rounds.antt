@@ -19,8 +19,8 @@ use Rattle.lists.proofs.Below.{all-below→}
 use Rattle.calculus.specs.Limits.{lengthLimit}
 use Rattle.calculus.specs.Facts.{Question, Branch, len}
 use Rattle.calculus.specs.Classes.{labels}
-use Rattle.calculus.specs.Model.{modelOf}
-use Rattle.calculus.specs.SaturationTest.{lowestVar}
+use Rattle.calculus.specs.Model.{modelValue}
+use Rattle.calculus.specs.SaturationTest.{lowestVariable}
 use Rattle.calculus.specs.Strings.{given, fixedString, fixedStrings, stringsTo, strings}
 use Rattle.calculus.proofs.Lowest.{lowest-le}
 use Rattle.calculus.proofs.Strings.{S, length-strings, strings-at, in-strings→, →in-strings, in-fixed→, →in-fixed, S-fixed, S-copied, S-new}
@@ -89,10 +89,10 @@ module _ (u : Question) (b : Branch) (m : List ℤ) where
 
   module _ (characters sizes : List ℕ) (x : ℕ) (h : x < u .p) (f : Filled characters sizes x) where
     abbrev low : ℕ
-    low = lowestVar (labels b) x
+    low = lowestVariable (labels b) x
 
     abbrev l : ℕ
-    l = natAbs (modelOf u m len x)
+    l = natAbs (modelValue u m len x)
 
     -- the strings of the table are those that are given before x gets its own
     given-is : (w : List ℕ) → given w (givenStrings characters sizes (u .p)) ≡ given w (before-x x)
@@ -179,5 +179,5 @@ sizes-more sizes x size inside h l y k = go (ℕ-discrete y x)
     go (yes e) = omega (arith, ap (λ (i : ℕ). getD (set sizes x size) i 0) e, getD-set-same sizes x size 0 inside)
     go (no n) = omega (arith, getD-set-other sizes x y size 0 n, h y (omega arith))
 
-pub short-length : (u : Question) (m : List ℤ) (x : ℕ) → shortLengths u m ≡ true → x < u .p → natAbs (modelOf u m len x) ≤ lengthLimit
-short-length u m x e h = leb→le (natAbs (modelOf u m len x)) lengthLimit (all-below→ (u .p) (λ y. leb (natAbs (modelOf u m len y)) lengthLimit) (true→ e) x h)
+pub short-length : (u : Question) (m : List ℤ) (x : ℕ) → shortLengths u m ≡ true → x < u .p → natAbs (modelValue u m len x) ≤ lengthLimit
+short-length u m x e h = leb→le (natAbs (modelValue u m len x)) lengthLimit (all-below→ (u .p) (λ y. leb (natAbs (modelValue u m len y)) lengthLimit) (true→ e) x h)

@@ -18,11 +18,11 @@ use Rattle.answer.proofs.Written.{length-row}
 use Rattle.lists.proofs.Options.{none-some, some-injective}
 use Rattle.lists.proofs.Stores.{sets-sets}
 use Rattle.calculus.specs.Limits.{lengthLimit}
-use Rattle.calculus.specs.Rows.{eqℤ}
+use Rattle.calculus.specs.LinearForms.{eqℤ}
 use Rattle.calculus.specs.Facts.{Question, literal, len, code}
-use Rattle.calculus.specs.Classes.{lowest}
-use Rattle.calculus.specs.Model.{modelOf}
-use Rattle.calculus.specs.SaturationTest.{lowestVar}
+use Rattle.calculus.specs.Classes.{lowestLiteral}
+use Rattle.calculus.specs.Model.{modelValue}
+use Rattle.calculus.specs.SaturationTest.{lowestVariable}
 use Rattle.calculus.specs.Strings.{given, freshFrom, oneChar, fixedBy}
 use Rattle.format.specs.Records.{size}
 use Rattle.format.specs.Places.{skip, texts, literalsFrom}
@@ -202,31 +202,31 @@ module _ (n p : ℕ) (ls : List ℕ) (l : ℕ) (characters sizes : List ℕ) (x 
     | some s ↦ s
     | none ↦
         elim t as (λ _. List ℕ) [
-          | true ↦ row characters (lowestVar ls x) (getD sizes (lowestVar ls x) 0)
+          | true ↦ row characters (lowestVariable ls x) (getD sizes (lowestVariable ls x) 0)
           | false ↦ freshFrom p n l (givenStrings characters sizes p) 0
         ]
   ]
 
   pub completed-own : (s : List ℕ) → entry characters sizes x ≡ some s → completed n p ls l characters sizes x ≡ s
   unfolding completed
-  completed-own s e = ap (λ (o : Option (List ℕ)). third o (ltb (lowestVar ls x) x)) e
+  completed-own s e = ap (λ (o : Option (List ℕ)). third o (ltb (lowestVariable ls x) x)) e
 
-  pub completed-copied : entry characters sizes x ≡ none → lowestVar ls x < x → completed n p ls l characters sizes x ≡ row characters (lowestVar ls x) (getD sizes (lowestVar ls x) 0)
+  pub completed-copied : entry characters sizes x ≡ none → lowestVariable ls x < x → completed n p ls l characters sizes x ≡ row characters (lowestVariable ls x) (getD sizes (lowestVariable ls x) 0)
   unfolding completed
-  completed-copied e h = ap₂ third e (lt-ltb (lowestVar ls x) x h)
+  completed-copied e h = ap₂ third e (lt-ltb (lowestVariable ls x) x h)
 
-  pub completed-fresh : entry characters sizes x ≡ none → x ≤ lowestVar ls x → completed n p ls l characters sizes x ≡ freshFrom p n l (givenStrings characters sizes p) 0
+  pub completed-fresh : entry characters sizes x ≡ none → x ≤ lowestVariable ls x → completed n p ls l characters sizes x ≡ freshFrom p n l (givenStrings characters sizes p) 0
   unfolding completed
-  completed-fresh e h = ap₂ third e (le-ltb (lowestVar ls x) x h)
+  completed-fresh e h = ap₂ third e (le-ltb (lowestVariable ls x) x h)
 
 -- ---- the first two rounds, by the literal of the class
 
 module _ (u : Question) (ls : List ℕ) (m : List ℤ) (x : ℕ) where
-  pub fixed-literal : (l : ℕ) → lowest ls x 0 (suc (length (u .literals))) ≡ some l → fixedAt u ls m x ≡ some (literal u l)
-  fixed-literal l e = ap (λ (o : Option ℕ). fixedBy u o (modelOf u m len x) (modelOf u m code x)) e
+  pub fixed-literal : (l : ℕ) → lowestLiteral ls x 0 (suc (length (u .literals))) ≡ some l → fixedAt u ls m x ≡ some (literal u l)
+  fixed-literal l e = ap (λ (o : Option ℕ). fixedBy u o (modelValue u m len x) (modelValue u m code x)) e
 
-  pub fixed-other : lowest ls x 0 (suc (length (u .literals))) ≡ none → fixedAt u ls m x ≡ oneChar (eqℤ (modelOf u m len x) (pos 1)) (modelOf u m code x)
-  fixed-other e = ap (λ (o : Option ℕ). fixedBy u o (modelOf u m len x) (modelOf u m code x)) e
+  pub fixed-other : lowestLiteral ls x 0 (suc (length (u .literals))) ≡ none → fixedAt u ls m x ≡ oneChar (eqℤ (modelValue u m len x) (pos 1)) (modelValue u m code x)
+  fixed-other e = ap (λ (o : Option ℕ). fixedBy u o (modelValue u m len x) (modelValue u m code x)) e
 
 pub literal-short : (b : List ℕ) (k l : ℕ) → ShortLiterals b k → l ≤ k → length (getD ([] ∷ texts b k literalsFrom) l []) ≤ lengthLimit
 literal-short b k zero h g = omega arith

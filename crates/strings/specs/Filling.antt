@@ -9,8 +9,8 @@ use lib.IntN.{ℤ}
 use Rattle.calculus.specs.Limits.{lengthLimit}
 use Rattle.calculus.specs.Facts.{Question, len, code}
 use Rattle.calculus.specs.Classes.{literalIn}
-use Rattle.calculus.specs.Model.{modelOf}
-use Rattle.calculus.specs.SaturationTest.{lowestVar}
+use Rattle.calculus.specs.Model.{modelValue}
+use Rattle.calculus.specs.SaturationTest.{lowestVariable}
 use Rattle.calculus.specs.Strings.{eqString, freshFrom, fixedBy}
 use Rattle.format.specs.Records.{size}
 use Rattle.format.specs.Places.{skip, literalsFrom}
@@ -40,15 +40,15 @@ isIt (some s) w = eqString w s
 
 -- what the first two rounds give to variable x: the calculus' `fixedString` with the labels ls of the branch
 abbrev pub fixedAt : Question → List ℕ → List ℤ → ℕ → Option (List ℕ)
-fixedAt u ls m x = fixedBy u (literalIn u ls x) (modelOf u m len x) (modelOf u m code x)
+fixedAt u ls m x = fixedBy u (literalIn u ls x) (modelValue u m len x) (modelValue u m code x)
 
 -- the string of variable x, of length l, in the third round: its own, that of the lowest variable of its class, or the first that is not given
 unfoldable pub completed : ℕ → ℕ → List ℕ → ℕ → List ℕ → List ℕ → ℕ → List ℕ
 completed n p ls l characters sizes x = elim (entry characters sizes x) [
   | some s ↦ s
   | none ↦
-      elim (ltb (lowestVar ls x) x) [
-        | true ↦ row characters (lowestVar ls x) (getD sizes (lowestVar ls x) 0)
+      elim (ltb (lowestVariable ls x) x) [
+        | true ↦ row characters (lowestVariable ls x) (getD sizes (lowestVariable ls x) 0)
         | false ↦ freshFrom p n l (givenStrings characters sizes p) 0
       ]
 ]

@@ -7,10 +7,10 @@ ghost use lib.ListN.{length, getD, take, drop, replicate};
 ghost use lib.Seq.{sets};
 ghost use lib.IntN.{pos, natAbs};
 ghost use Rattle.calculus.specs.Limits.{alphabetLimit, variableLimit, lengthLimit, valueLimit};
-ghost use Rattle.calculus.specs.Rows.{eqℤ};
+ghost use Rattle.calculus.specs.LinearForms.{eqℤ};
 ghost use Rattle.calculus.specs.Facts.{Branch, len};
 ghost use Rattle.calculus.specs.Classes.{labels};
-ghost use Rattle.calculus.specs.Model.{modelOf};
+ghost use Rattle.calculus.specs.Model.{modelValue};
 ghost use Rattle.calculus.specs.Strings.{word, eqString, given, freshFrom, oneChar, strings};
 ghost use Rattle.format.specs.Fields.{u32s};
 ghost use Rattle.format.specs.Checking.{shortLengths};
@@ -241,10 +241,10 @@ fn complete(
     x: usize,
 ) -> usize
     requires { ⌜ Modelled (now model) leaf × (1 ≤ leaf .n) × (leaf .n ≤ alphabetLimit) × (x < leaf .p) × (lengthLimit * leaf .p ≤ length (now characters)) ⌝ }
-    requires { ⌜ natAbs (modelOf (asked [] leaf) (now model) len x) ≤ lengthLimit ⌝ }
+    requires { ⌜ natAbs (modelValue (asked [] leaf) (now model) len x) ≤ lengthLimit ⌝ }
     requires { ⌜ ((y : ℕ) → y < x → getD sizes y 0 ≤ lengthLimit) ⌝ }
-    ensures { λ r. ⌜ now (characters .exit) ≡ sets (now (characters .entry)) (lengthLimit * x) (completed (leaf .n) (leaf .p) (leaf .labels) (natAbs (modelOf (asked [] leaf) (now (model .entry)) len x)) (now (characters .entry)) sizes x) ⌝ }
-    ensures { λ r. ⌜ r ≡ length (completed (leaf .n) (leaf .p) (leaf .labels) (natAbs (modelOf (asked [] leaf) (now (model .entry)) len x)) (now (characters .entry)) sizes x) ⌝ }
+    ensures { λ r. ⌜ now (characters .exit) ≡ sets (now (characters .entry)) (lengthLimit * x) (completed (leaf .n) (leaf .p) (leaf .labels) (natAbs (modelValue (asked [] leaf) (now (model .entry)) len x)) (now (characters .entry)) sizes x) ⌝ }
+    ensures { λ r. ⌜ r ≡ length (completed (leaf .n) (leaf .p) (leaf .labels) (natAbs (modelValue (asked [] leaf) (now (model .entry)) len x)) (now (characters .entry)) sizes x) ⌝ }
     ensures { λ r. ⌜ r ≤ lengthLimit ⌝ }
 {
     let own = sizes[x];
@@ -252,7 +252,7 @@ fn complete(
         return own;
     }
     let labels = leaf.labels;
-    let first = classes::lowest_var(labels, x);
+    let first = classes::lowest_variable(labels, x);
     if first < x {
         let size = sizes[first];
         let w = row_of(characters, first, size);

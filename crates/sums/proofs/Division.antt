@@ -14,11 +14,11 @@ use Rattle.integers.proofs.Ring.{v, _⊕_, _⊗_, le-by, lt-by}
 use Rattle.integers.proofs.Laws.{one-*ℤ, pos-≤ℤ, ≤ℤ-trans, abs-nonneg, ≤ℤ-abs, floor-multiple}
 use Rattle.integers.proofs.Machine.{quot-multiple}
 use Rattle.lists.proofs.Options.{some-injective, none-some, some-none}
-use Rattle.calculus.specs.Rows.{scale, eqRow, floorDiv, divRow}
+use Rattle.calculus.specs.LinearForms.{scale, eqIntegers, floorDiv, floorDivAll}
 use Rattle.calculus.specs.Facts.{arithmetic, ge}
 use Rattle.calculus.specs.Rules.{guard, then, divided}
 use Rattle.calculus.specs.Instances.{entry}
-use Rattle.calculus.proofs.Entries.{entry-scale, length-scale, floor-same, length-divRow, →divided}
+use Rattle.calculus.proofs.Entries.{entry-scale, length-scale, floor-same, length-floorDivAll, →divided}
 use Rattle.rows.specs.Rows.{factOf}
 use Rattle.rows.proofs.Tags.{relation-fact}
 use Rattle.sums.specs.Sums.{geRow, rowIn, factIn}
@@ -43,18 +43,18 @@ exact-no x n h f e =
 
 -- ---- a row
 
-pub divided-number : (a : List ℤ) (n j : ℕ) → j < length a → getD (divRow a n) j (pos 0) ≡ floorDiv (getD a j (pos 0)) n
+pub divided-number : (a : List ℤ) (n j : ℕ) → j < length a → getD (floorDivAll a n) j (pos 0) ≡ floorDiv (getD a j (pos 0)) n
 divided-number [] n j h = absurd (omega arith)
 divided-number (x ∷ a) n zero h = refl
 divided-number (x ∷ a) n (suc j) h = divided-number a n j (omega arith)
 
 -- the row that division gives, behind the tag 0
 abbrev pub quotients : List ℤ → ℕ → List ℤ
-quotients row n = pos 0 ∷ floorDiv (getD row 1 (pos 0)) n ∷ divRow (drop 2 row) n
+quotients row n = pos 0 ∷ floorDiv (getD row 1 (pos 0)) n ∷ floorDivAll (drop 2 row) n
 
 -- the row with its columns divided, and its constant as it was
 abbrev pub partly : List ℤ → ℕ → List ℤ
-partly row n = take 2 row ++ divRow (drop 2 row) n
+partly row n = take 2 row ++ floorDivAll (drop 2 row) n
 
 pub partly-first : (row : List ℤ) (n : ℕ) → length row ≡ 50 → take 2 row ≡ take 2 (partly row n)
 partly-first [] n h = absurd (omega arith)
@@ -64,7 +64,7 @@ partly-first (x ∷ c ∷ cs) n h = refl
 pub length-partly : (row : List ℤ) (n : ℕ) → length row ≡ 50 → length (partly row n) ≡ 50
 length-partly [] n h = absurd (omega arith)
 length-partly (x ∷ []) n h = absurd (omega arith)
-length-partly (x ∷ c ∷ cs) n h = ap (λ k. suc (suc k)) (length-divRow cs n) ∙ h
+length-partly (x ∷ c ∷ cs) n h = ap (λ k. suc (suc k)) (length-floorDivAll cs n) ∙ h
 
 pub partly-number : (row : List ℤ) (n j : ℕ) → 2 ≤ j → j < length row → getD (partly row n) j (pos 0) ≡ floorDiv (getD row j (pos 0)) n
 partly-number row n zero h k = absurd (omega arith)
@@ -82,29 +82,29 @@ partly-constant (x ∷ c ∷ cs) n h = refl
 pub partly-whole : (row : List ℤ) (n : ℕ) (q : ℤ) → length row ≡ 50 → getD row 0 (pos 0) ≡ pos 0 → q ≡ floorDiv (getD row 1 (pos 0)) n → set (partly row n) 1 q ≡ quotients row n
 partly-whole [] n q h t e = absurd (omega arith)
 partly-whole (x ∷ []) n q h t e = absurd (omega arith)
-partly-whole (x ∷ c ∷ cs) n q h t e = ap₂ (λ y z. y ∷ z ∷ divRow cs n) t e
+partly-whole (x ∷ c ∷ cs) n q h t e = ap₂ (λ y z. y ∷ z ∷ floorDivAll cs n) t e
 
 -- the quotients times the divisor
 abbrev pub multiples : List ℤ → ℕ → List ℤ
-multiples row n = scale (pos n) (divRow row n)
+multiples row n = scale (pos n) (floorDivAll row n)
 
 pub length-multiples : (row : List ℤ) (n : ℕ) → length (multiples row n) ≡ length row
-length-multiples row n = length-scale (pos n) (divRow row n) ∙ length-divRow row n
+length-multiples row n = length-scale (pos n) (floorDivAll row n) ∙ length-floorDivAll row n
 
 pub multiple-number : (row : List ℤ) (n j : ℕ) → j < length row → getD (multiples row n) j (pos 0) ≡ pos n *ℤ floorDiv (getD row j (pos 0)) n
-multiple-number row n j h = entry-scale (pos n) (divRow row n) j ∙ ap (λ z. pos n *ℤ z) (divided-number row n j h)
+multiple-number row n j h = entry-scale (pos n) (floorDivAll row n) j ∙ ap (λ z. pos n *ℤ z) (divided-number row n j h)
 
 -- ---- the whole division
 
-pub divided-no : (row : List ℤ) (n : ℕ) → length row ≡ 50 → eqRow (drop 2 (multiples row n)) (drop 2 row) ≡ false → divided n (drop 1 row) ≡ none
+pub divided-no : (row : List ℤ) (n : ℕ) → length row ≡ 50 → eqIntegers (drop 2 (multiples row n)) (drop 2 row) ≡ false → divided n (drop 1 row) ≡ none
 divided-no [] n h e = absurd (omega arith)
 divided-no (x ∷ []) n h e = absurd (omega arith)
-divided-no (x ∷ c ∷ cs) n h e = ap (λ t. guard t (floorDiv c n ∷ divRow cs n)) (ap (λ t. leb 1 n && t) e ∙ and-false (leb 1 n))
+divided-no (x ∷ c ∷ cs) n h e = ap (λ t. guard t (floorDiv c n ∷ floorDivAll cs n)) (ap (λ t. leb 1 n && t) e ∙ and-false (leb 1 n))
 
-pub divided-yes : (row : List ℤ) (n : ℕ) → 1 ≤ n → length row ≡ 50 → eqRow (drop 2 (multiples row n)) (drop 2 row) ≡ true → divided n (drop 1 row) ≡ some (drop 1 (quotients row n))
+pub divided-yes : (row : List ℤ) (n : ℕ) → 1 ≤ n → length row ≡ 50 → eqIntegers (drop 2 (multiples row n)) (drop 2 row) ≡ true → divided n (drop 1 row) ≡ some (drop 1 (quotients row n))
 divided-yes [] n d h e = absurd (omega arith)
 divided-yes (x ∷ []) n d h e = absurd (omega arith)
-divided-yes (x ∷ c ∷ cs) n d h e = ap (λ t. guard t (floorDiv c n ∷ divRow cs n)) (ap₂ _&&_ (le-leb 1 n d) e)
+divided-yes (x ∷ c ∷ cs) n d h e = ap (λ t. guard t (floorDiv c n ∷ floorDivAll cs n)) (ap₂ _&&_ (le-leb 1 n d) e)
 
 -- by 1
 pub divided-one : (e : List ℤ) → 1 ≤ length e → divided 1 e ≡ some e

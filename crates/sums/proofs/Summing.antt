@@ -9,7 +9,7 @@ use borrow.Author.Tests.{leb-true}
 use lib.ListN.{length, getD, drop}
 use lib.IntN.{ℤ, pos, natAbs}
 use Rattle.calculus.specs.Limits.{numberLimit}
-use Rattle.calculus.specs.Rows.{zeros}
+use Rattle.calculus.specs.LinearForms.{zeros}
 use Rattle.calculus.specs.Rules.{summand, sumOf}
 use Rattle.format.specs.Fields.{u16, i32, pairsAt, within, allWithin}
 use Rattle.format.specs.StepForms.{multipliersWithin}

@@ -15,8 +15,8 @@ use lib.Signed.{ltZ, nonNeg}
 use Rattle.integers.proofs.Laws.{abs-+-le, abs-*-le}
 use Rattle.lists.proofs.Options.{none-some, some-injective}
 use Rattle.calculus.specs.Limits.{numberLimit}
-use Rattle.calculus.specs.Rows.{plus, scale, zeros, isZero}
-use Rattle.calculus.specs.Facts.{Question, Fact, Branch, same, apart, isLiteral, arithmetic, ge, eq, ne}
+use Rattle.calculus.specs.LinearForms.{plus, scale, zeros, isZero}
+use Rattle.calculus.specs.Facts.{Question, Fact, Branch, same, notSame, isLiteral, arithmetic, ge, eq, ne}
 use Rattle.calculus.specs.Steps.{Sum}
 use Rattle.calculus.specs.Children.{one}
 use Rattle.calculus.specs.Rules.{then, summand, sumOf, divided, children}
@@ -25,7 +25,7 @@ use Rattle.calculus.proofs.Tests.{then→}
 use Rattle.format.specs.Checking.{fits, factWithin}
 use Rattle.format.specs.Fields.{allWithin}
 use Rattle.rows.specs.Rows.{rowLength, factOf, rowAt, branchOf}
-use Rattle.rows.specs.Work.{Within, kindOf}
+use Rattle.rows.specs.Work.{Within, tagOf}
 use Rattle.rows.proofs.Branches.{branch-at, branch-beyond, length-row}
 use Rattle.rows.proofs.Tags.{row-relation}
 use Rattle.rows.proofs.Forms.{zeros-plus, plus-none, plus-assoc}
@@ -41,10 +41,10 @@ positive-test (pos zero) = refl
 positive-test (pos (suc n)) = lt-ltb 0 (suc n) (omega arith)
 positive-test (negsuc n) = refl
 
-pub no-summand : (m : ℤ) (f : Fact) → (kindOf f ≡ 0 → ⊥) → (kindOf f ≡ 1 → ⊥) → summand m f ≡ none
-unfolding kindOf
+pub no-summand : (m : ℤ) (f : Fact) → (tagOf f ≡ 0 → ⊥) → (tagOf f ≡ 1 → ⊥) → summand m f ≡ none
+unfolding tagOf
 no-summand m (same x y) h k = refl
-no-summand m (apart x y) h k = refl
+no-summand m (notSame x y) h k = refl
 no-summand m (isLiteral x l) h k = refl
 no-summand m (arithmetic ge e) h k = absurd (h refl)
 no-summand m (arithmetic eq e) h k = absurd (k refl)
@@ -56,9 +56,9 @@ pub record Taken (m : ℤ) (row : List ℤ) : Type 0 where
   pub small : factWithin (factOf row) ≡ allWithin numberLimit (drop 1 row)
 
 pub taken : (m : ℤ) (row : List ℤ) → fits (summand m (factOf row)) ≡ true → Taken m row
-taken m row e = go (ℕ-discrete (kindOf (factOf row)) 0) (ℕ-discrete (kindOf (factOf row)) 1)
+taken m row e = go (ℕ-discrete (tagOf (factOf row)) 0) (ℕ-discrete (tagOf (factOf row)) 1)
   where
-    go : Dec (kindOf (factOf row) ≡ 0) → Dec (kindOf (factOf row) ≡ 1) → Taken m row
+    go : Dec (tagOf (factOf row) ≡ 0) → Dec (tagOf (factOf row) ≡ 1) → Taken m row
     go (yes p) d =
         let f : factOf row ≡ arithmetic ge (drop 1 row) = row-relation row 0 (sym p) (omega arith) in
         record {

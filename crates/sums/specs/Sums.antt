@@ -5,7 +5,7 @@ use mathlib.Core.Option.{Option, none, some}
 use mathlib.Core.List.{List, _∷_, _++_}
 use lib.ListN.{take, drop}
 use lib.IntN.{ℤ, pos}
-use Rattle.calculus.specs.Rows.{plus, scale}
+use Rattle.calculus.specs.LinearForms.{plus, scale}
 use Rattle.calculus.specs.Facts.{Fact, Branch, arithmetic, ge}
 use Rattle.calculus.specs.Rules.{guard, then, sumOf, divided}
 use Rattle.rows.specs.Rows.{factOf}

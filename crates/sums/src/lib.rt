@@ -6,7 +6,7 @@ ghost use lib.ListN.{length, getD, drop};
 ghost use lib.IntN.{pos, natAbs};
 ghost use lib.Signed.{_≤ℤ_};
 ghost use Rattle.calculus.specs.Limits.{numberLimit, summandLimit};
-ghost use Rattle.calculus.specs.Rows.{zeros, floorDiv};
+ghost use Rattle.calculus.specs.LinearForms.{zeros, floorDiv};
 ghost use Rattle.calculus.specs.Rules.{summand, sumOf, divided};
 ghost use Rattle.format.specs.Fields.{pairsAt, allWithin};
 ghost use Rattle.format.specs.StepForms.{multipliersWithin};
@@ -21,7 +21,7 @@ fn takes(row: &[i64], multiplier: i64) -> bool
     requires { ⌜ length (now row) ≡ rowLength ⌝ }
     ensures { λ r. ⌜ r ≡ fits (summand multiplier (factOf (now (row .entry)))) ⌝ }
 {
-    let kind = rows::kind_of(row);
+    let kind = rows::tag_of(row);
     if kind == 0 {
         return multiplier > 0;
     }

@@ -29,14 +29,14 @@ returns c =
     refused (now (s .answer))
     (unsettled b (asked b (s .s)) (branchOf (now (s .work)) (s .count)) (s .r) (s .at) (c .before .before .u32-at .result) (c .before .before .u32-at .ensures .0) (pre .1) (pre .2) _ (c .before .settle .ensures .0) (c .if1 .taken))
 
-add-end-number : tie.Need-add-end-number
-add-end-number c = search needs
+add-end-fault : tie.Need-add-end-fault
+add-end-fault c = search needs
 
-add-end-number-2 : tie.Need-add-end-number-2
-add-end-number-2 c = search needs
+add-end-fault-2 : tie.Need-add-end-fault-2
+add-end-fault-2 c = search needs
 
-end-number-requires : tie.Need-end-number-requires
-end-number-requires c κs = search needs
+end-fault-requires : tie.Need-end-fault-requires
+end-fault-requires c κs = search needs
 
 add-t15 : tie.Need-add-t15
 add-t15 c = search needs
@@ -48,7 +48,7 @@ returns-2 c =
     let pre = c .before .before .before .before .before .before .before .pre in
     refused (now (s .answer))
     (unended b (asked b (s .s)) (branchOf (now (s .work)) (s .count)) (s .r) (s .at) (c .before .before .before .before .u32-at .result) (c .before .before .before .before .u32-at .ensures .0) (pre .1) (pre .2)
-    (sym (c .before .before .before .settle .ensures .0) ∙ c .before .before .if1 .left) _ (c .before .end-number .ensures) (c .if2 .taken))
+    (sym (c .before .before .before .settle .ensures .0) ∙ c .before .before .if1 .left) _ (c .before .end-fault .ensures) (c .if2 .taken))
 
 write-requires : tie.Need-write-requires
 write-requires c κs = (c .before .before .before .before .settle .ensures .1 (c .before .before .before .if1 .left) .writable, omega arith)
@@ -65,7 +65,7 @@ returns-3 c =
     let pre = c .before .before .before .before .before .before .before .before .before .before .before .pre in
     strings (now (s .answer)) _
     (ended b u br (s .r) (s .at) (c .before .before .before .before .before .before .before .before .u32-at .result) (c .before .before .before .before .before .before .before .before .u32-at .ensures .0) (pre .1) (pre .2)
-    (sym (c .before .before .before .before .before .before .before .settle .ensures .0) ∙ c .before .before .before .before .before .before .if1 .left) (sym (c .before .before .before .before .before .end-number .ensures) ∙ c .before .before .before .before .if2 .left))
+    (sym (c .before .before .before .before .before .before .before .settle .ensures .0) ∙ c .before .before .before .before .before .before .if1 .left) (sym (c .before .before .before .before .before .end-fault .ensures) ∙ c .before .before .before .before .if2 .left))
     (c .before .before .write .ensures u br (modelAt b u (s .at + 6)) (c .before .before .before .before .before .before .before .settle .ensures .1 (c .before .before .before .before .before .before .if1 .left)))
 
 pub at-model-spec : {M : Type 1} → statement M
@@ -76,9 +76,9 @@ at-model-spec =
     add-settle
     settle-requires
     returns
-    add-end-number
-    add-end-number-2
-    end-number-requires
+    add-end-fault
+    add-end-fault-2
+    end-fault-requires
     add-t15
     returns-2
     write-requires

@@ -18,8 +18,8 @@ enum-known-c c = search needs
 enum-known-to : tie.Need-enum-known-to
 enum-known-to c = search needs
 
-end-number-requires : tie.Need-end-number-requires
-end-number-requires c κs = search needs
+end-fault-requires : tie.Need-end-fault-requires
+end-fault-requires c κs = search needs
 
 same-length : tie.Need-same-length
 same-length c = search needs
@@ -32,7 +32,7 @@ returns c =
     let u = asked b (s .s) in
     let to = c .before .before .before .to .given .0 in
     λ a. decided-by (sym (c .before .before .before .before .before .before .walk .ensures) ∙ ap (walkedOf b u) (c .before .before .before .to .given .1))
-    (refused a (nonzero (closed-refused b u (to .1 .0) (to .0)) (c .before .end-number .result) (c .before .end-number .ensures) (c .if1 .taken)))
+    (refused a (nonzero (closed-refused b u (to .1 .0) (to .0)) (c .before .end-fault .result) (c .before .end-fault .ensures) (c .if1 .taken)))
 
 same-length-2 : tie.Need-same-length-2
 same-length-2 c = search needs
@@ -55,7 +55,7 @@ returns-3 c =
     let u = asked b (s .s) in
     let to = c .before .before .before .to .given .0 in
     λ a. decided-by (sym (c .before .before .before .before .before .before .walk .ensures) ∙ ap (walkedOf b u) (c .before .before .before .to .given .1))
-    (no-solution a (closed-done b u (to .1 .0) (to .0) (sym (c .before .end-number .ensures) ∙ c .if1 .left)))
+    (no-solution a (closed-done b u (to .1 .0) (to .0) (sym (c .before .end-fault .ensures) ∙ c .if1 .left)))
 
 pub prove-spec : {M : Type 1} → statement M
 prove-spec =
@@ -64,7 +64,7 @@ prove-spec =
     walk-requires
     enum-known-c
     enum-known-to
-    end-number-requires
+    end-fault-requires
     same-length
     returns
     same-length-2

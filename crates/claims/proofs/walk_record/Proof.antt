@@ -4,7 +4,7 @@ use borrow.Author.Needs.{needs}
 use denote.Ref.{now}
 use lib.Dec.{eqb}
 use mathlib.Core.Path.{sym, _∙_}
-use Rattle.format.specs.StepForms.{child}
+use Rattle.format.specs.StepForms.{childField}
 use Rattle.rows.specs.Rows.{branchOf}
 use Rattle.question.specs.Posed.{asked}
 use Rattle.derivation.specs.Actions.{Acts}
@@ -51,7 +51,7 @@ take-step-requires c κs =
     let a = s .args in
     let b = now (a .ticket) in
     let u = asked b (a .s) in
-    let formed = its-form b u (a .at) (a .kind) (a .size) (s .pre .1 .1) (eqb (child b (a .at + 6)) 0) (sym (c .before .if2 .left) ∙ c .before .before .step-fault-one .ensures) in
+    let formed = its-form b u (a .at) (a .kind) (a .size) (s .pre .1 .1) (eqb (childField b (a .at + 6)) 0) (sym (c .before .if2 .left) ∙ c .before .before .step-fault-one .ensures) in
     (record { posed = s .pre .0; formed = formed; fine = s .pre .1 .0 }, s .pre .1 .1 .1)
 
 same-length : tie.Need-same-length

@@ -3,14 +3,14 @@ use Prim.Native.Nat.{_+_}
 use borrow.Author.Needs.{needs}
 use mathlib.Core.Path.{_∙_, _≡_, refl, sym}
 use native.Mathlib.Omega.{arith}
-use Rattle.calculus.specs.Classes.{lowest}
+use Rattle.calculus.specs.Classes.{lowestLiteral}
 use Rattle.classes.proofs.Laws.{lowest-done, lowest-no, lowest-yes}
 use Rattle.classes.specs.Classes.{literalOf}
 use Rattle.classes.proofs.class_literal.Statement.{statement}
 use Rattle.classes.proofs.class_literal.Tie as tie
 
 abbrev Inv-loop : tie.InvT-loop
-Inv-loop labels m x l₀ left₀ l left = (l + left ≡ m) × (lowest labels x l left ≡ lowest labels x 0 m)
+Inv-loop labels m x l₀ left₀ l left = (l + left ≡ m) × (lowestLiteral labels x l left ≡ lowestLiteral labels x 0 m)
 
 abbrev μ-loop : tie.MeasureT-loop
 μ-loop labels m x l₀ left₀ l left = left

@@ -7,7 +7,7 @@ use lib.ListN.{length}
 use mathlib.Core.List.{List}
 use mathlib.Core.Path.{_∙_, _≡_, ap, ap₂, sym}
 use native.Mathlib.Omega.{arith}
-use Rattle.calculus.specs.Classes.{joinFact, labels}
+use Rattle.calculus.specs.Classes.{mergeFact, labels}
 use Rattle.classes.proofs.Laws.{labels-snoc}
 use Rattle.rows.proofs.Branches.{branch-more, length-row}
 use Rattle.rows.specs.Rows.{branchOf, factOf, rowAt}
@@ -30,8 +30,8 @@ loop-holds c = (omega arith, c .first-labels .ensures)
 row-at-requires : tie.Need-row-at-requires Inv-loop μ-loop
 row-at-requires c κs = search needs
 
-join-row-requires : tie.Need-join-row-requires Inv-loop μ-loop
-join-row-requires c κs =
+merge-row-requires : tie.Need-merge-row-requires Inv-loop μ-loop
+merge-row-requires c κs =
     let s = c .before .before .before .before in
     ap length (c .row-at .ensures) ∙ length-row (now (s .args .work)) (c .before .before .loop .k) (omega arith)
 
@@ -46,8 +46,8 @@ loop-again c =
     let l = c .before .before .before .loop in
     let w = now (c .before .before .before .before .before .args .work) in (
       omega arith,
-      c .join-row .ensures
-          ∙ ap₂ (λ (ls : List ℕ) (row : List ℤ). joinFact ls (factOf row)) (l .inv .1) (c .before .row-at .ensures)
+      c .merge-row .ensures
+          ∙ ap₂ (λ (ls : List ℕ) (row : List ℤ). mergeFact ls (factOf row)) (l .inv .1) (c .before .row-at .ensures)
           ∙ sym (ap labels (branch-more w (l .k)) ∙ labels-snoc (branchOf w (l .k)) (factOf (rowAt w (l .k)))),
     )
 
@@ -67,7 +67,7 @@ labels-spec =
     first-labels-requires
     loop-holds
     row-at-requires
-    join-row-requires
+    merge-row-requires
     add-k
     loop-less
     loop-again

@@ -8,7 +8,7 @@ use mathlib.Core.Option.{Option}
 use mathlib.Core.Path.{_∙_, ap, sym}
 use native.Mathlib.Omega.{arith}
 use Rattle.calculus.specs.Facts.{Fact, Question}
-use Rattle.calculus.specs.Rules.{falsum, guard, then}
+use Rattle.calculus.specs.Rules.{isFalse, guard, then}
 use Rattle.conclusions.specs.Made.{closingOf}
 use Rattle.rows.proofs.Branches.{branch-at, branch-beyond, length-row}
 use Rattle.rows.specs.Rows.{factOf}
@@ -19,7 +19,7 @@ returns : tie.Need-returns
 unfolding closingOf
 returns c =
     let s = c .before in
-    λ (u : Question). sym (ap (λ (o : Option Fact). then o (λ f. guard (falsum f) [])) (branch-beyond (now (s .args .work)) (s .args .count) (s .args .k) (c .if1 .taken)))
+    λ (u : Question). sym (ap (λ (o : Option Fact). then o (λ f. guard (isFalse f) [])) (branch-beyond (now (s .args .work)) (s .args .count) (s .args .k) (c .if1 .taken)))
 
 row-at-requires : tie.Need-row-at-requires
 row-at-requires c κs = search needs
@@ -34,8 +34,8 @@ unfolding closingOf
 returns-2 c =
     let s = c .before .before .before in
     let w = now (s .args .work) in
-    λ (u : Question). ap closingOf (c .is-false .ensures ∙ ap (λ (l : List ℤ). falsum (factOf l)) (c .before .row-at .ensures))
-    ∙ sym (ap (λ (o : Option Fact). then o (λ f. guard (falsum f) [])) (branch-at w (s .args .count) (s .args .k) (omega arith)))
+    λ (u : Question). ap closingOf (c .is-false .ensures ∙ ap (λ (l : List ℤ). isFalse (factOf l)) (c .before .row-at .ensures))
+    ∙ sym (ap (λ (o : Option Fact). then o (λ f. guard (isFalse f) [])) (branch-at w (s .args .count) (s .args .k) (omega arith)))
 
 pub a-conf-spec : {M : Type 1} → statement M
 a-conf-spec = tie.close (tie.spec returns row-at-requires is-false-requires returns-2)

@@ -10,7 +10,7 @@ use mathlib.Core.Path.{_∙_, _≡_, ap, ap₂, sym}
 use native.Mathlib.Omega.{arith}
 use Rattle.calculus.specs.Children.{one}
 use Rattle.calculus.specs.Facts.{Fact, Question, arithmetic, eq}
-use Rattle.calculus.specs.Rules.{children, joined, then}
+use Rattle.calculus.specs.Rules.{children, joinOf, then}
 use Rattle.calculus.specs.Steps.{Join}
 use Rattle.conclusions.specs.Made.{madeOf}
 use Rattle.format.specs.Checking.{factWithin, fits}
@@ -22,27 +22,27 @@ use Rattle.conclusions.proofs.join.Statement.{statement}
 use Rattle.conclusions.proofs.join.Tie as tie
 
 -- the two facts
-both : (c : tie.After-joins) → (u : Question) → children u (branchOf (now (c .before .before .before .before .before .args .work)) (c .before .before .before .before .before .args .count)) (Join (c .before .before .before .before .before .args .j) (c .before .before .before .before .before .args .k)) ≡ joined (factOf (rowAt (now (c .before .before .before .before .before .args .work)) (c .before .before .before .before .before .args .j))) (factOf (rowAt (now (c .before .before .before .before .before .args .work)) (c .before .before .before .before .before .args .k)))
+both : (c : tie.After-joins) → (u : Question) → children u (branchOf (now (c .before .before .before .before .before .args .work)) (c .before .before .before .before .before .args .count)) (Join (c .before .before .before .before .before .args .j) (c .before .before .before .before .before .args .k)) ≡ joinOf (factOf (rowAt (now (c .before .before .before .before .before .args .work)) (c .before .before .before .before .before .args .j))) (factOf (rowAt (now (c .before .before .before .before .before .args .work)) (c .before .before .before .before .before .args .k)))
 both c u =
     let s = c .before .before .before .before .before in
-    ap₂ (λ (o r : Option Fact). then o (λ f. then r (λ g. joined f g)))
+    ap₂ (λ (o r : Option Fact). then o (λ f. then r (λ g. joinOf f g)))
     (branch-at (now (s .args .work)) (s .args .count) (s .args .j) (omega (arith, c .before .before .before .before .if1 .left))) (branch-at (now (s .args .work)) (s .args .count) (s .args .k) (omega (arith, c .before .before .before .if2 .left)))
 
-test : (c : tie.After-joins) → c .joins .result ≡ fits (joined (factOf (rowAt (now (c .before .before .before .before .before .args .work)) (c .before .before .before .before .before .args .j))) (factOf (rowAt (now (c .before .before .before .before .before .args .work)) (c .before .before .before .before .before .args .k))))
-test c = c .joins .ensures ∙ ap₂ (λ (l r : List ℤ). fits (joined (factOf l) (factOf r))) (c .before .before .row-at .ensures) (c .before .row-at2 .ensures)
+test : (c : tie.After-joins) → c .joins .result ≡ fits (joinOf (factOf (rowAt (now (c .before .before .before .before .before .args .work)) (c .before .before .before .before .before .args .j))) (factOf (rowAt (now (c .before .before .before .before .before .args .work)) (c .before .before .before .before .before .args .k))))
+test c = c .joins .ensures ∙ ap₂ (λ (l r : List ℤ). fits (joinOf (factOf l) (factOf r))) (c .before .before .row-at .ensures) (c .before .row-at2 .ensures)
 
 returns : tie.Need-returns
 unfolding madeOf
 returns c =
     let s = c .before in
     let b = branchOf (now (s .args .work)) (s .args .count) in
-    λ (u : Question). sym (ap (λ (o : Option Fact). then o (λ f. then (getElem? b (s .args .k)) (λ g. joined f g))) (branch-beyond (now (s .args .work)) (s .args .count) (s .args .j) (c .if1 .taken)))
+    λ (u : Question). sym (ap (λ (o : Option Fact). then o (λ f. then (getElem? b (s .args .k)) (λ g. joinOf f g))) (branch-beyond (now (s .args .work)) (s .args .count) (s .args .j) (c .if1 .taken)))
 
 returns-2 : tie.Need-returns-2
 unfolding madeOf
 returns-2 c =
     let s = c .before .before in
-    λ (u : Question). sym (ap₂ (λ (o r : Option Fact). then o (λ f. then r (λ g. joined f g)))
+    λ (u : Question). sym (ap₂ (λ (o r : Option Fact). then o (λ f. then r (λ g. joinOf f g)))
     (branch-at (now (s .args .work)) (s .args .count) (s .args .j) (omega (arith, c .before .if1 .left))) (branch-beyond (now (s .args .work)) (s .args .count) (s .args .k) (c .if2 .taken)))
 
 row-at-requires : tie.Need-row-at-requires

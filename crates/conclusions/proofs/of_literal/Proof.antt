@@ -8,7 +8,7 @@ use mathlib.Core.Path.{_∙_, _≡_, ap, sym}
 use mir.Facts.{toZ-ofZ}
 use native.Mathlib.Omega.{arith}
 use Rattle.calculus.specs.Children.{one}
-use Rattle.calculus.specs.Classes.{lowest}
+use Rattle.calculus.specs.Classes.{lowestLiteral}
 use Rattle.calculus.specs.Facts.{Fact, arithmetic, eq}
 use Rattle.classes.proofs.Laws.{literal-below}
 use Rattle.classes.specs.Classes.{literalOf}
@@ -25,7 +25,7 @@ use Rattle.conclusions.proofs.of_literal.Statement.{statement}
 use Rattle.conclusions.proofs.of_literal.Tie as tie
 
 -- the literal that was found
-found-is : (c : tie.After-known-told) → lowest (c .before .before .before .before .before .labels .result) (c .before .before .before .before .before .before .before .args .x) 0 (c .before .before .before .before .before .before .before .args .s .literals + 1) ≡ some (c .before .found .given .0 .0)
+found-is : (c : tie.After-known-told) → lowestLiteral (c .before .before .before .before .before .labels .result) (c .before .before .before .before .before .before .before .args .x) 0 (c .before .before .before .before .before .before .before .args .s .literals + 1) ≡ some (c .before .found .given .0 .0)
 unfolding literalOf
 found-is c = sym (c .before .before .before .class-literal .ensures) ∙ ap literalOf (c .before .found .given .1)
 

@@ -10,7 +10,7 @@ use mir.Facts.{toZ-ofZ, toZ-pos}
 use mir.Syntax.{w64}
 use mir.Val.{SFits, ofZ, toZ}
 use native.Mathlib.Omega.{arith}
-use Rattle.calculus.specs.Rows.{zeros}
+use Rattle.calculus.specs.LinearForms.{zeros}
 use Rattle.constraints.proofs.Filling.{Filling, column-small, filling-done, filling-more, filling-start}
 use Rattle.format.specs.Fields.{i32, u16}
 use Rattle.format.specs.Question.{formOf}

@@ -6,7 +6,7 @@ use mathlib.Core.List.{_∷_}
 use mathlib.Core.Path.{_∙_, _≡_, ap, sym}
 use native.Mathlib.Omega.{arith}
 use Rattle.calculus.specs.Facts.{holds}
-use Rattle.calculus.specs.Rows.{dot}
+use Rattle.calculus.specs.LinearForms.{dot}
 use Rattle.format.specs.Fields.{u16}
 use Rattle.format.specs.Question.{formOf, relationOf}
 use Rattle.format.specs.Records.{kind}

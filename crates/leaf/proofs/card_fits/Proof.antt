@@ -8,8 +8,8 @@ use mathlib.Core.List.{[]}
 use mathlib.Core.Path.{_∙_, _≡_, ap, sym}
 use mir.Facts.{toZ-ofZ}
 use Rattle.calculus.specs.Facts.{len}
-use Rattle.calculus.specs.Model.{modelOf}
-use Rattle.calculus.specs.SaturationTest.{lowestOf}
+use Rattle.calculus.specs.Model.{modelValue}
+use Rattle.calculus.specs.SaturationTest.{lowestOfLength}
 use Rattle.leaf.proofs.Laws.{card-few, card-many, card-roomy}
 use Rattle.leaf.specs.Leaf.{asked}
 use Rattle.leaf.specs.Values.{roomy}
@@ -17,16 +17,16 @@ use Rattle.leaf.proofs.card_fits.Statement.{statement}
 use Rattle.leaf.proofs.card_fits.Tie as tie
 
 -- the length of x without its sign
-size-is : (c : tie.After-magnitude) → c .magnitude .result ≡ natAbs (modelOf (asked [] (c .before .before .args .leaf)) (now (c .before .before .args .model)) len (c .before .before .args .x))
+size-is : (c : tie.After-magnitude) → c .magnitude .result ≡ natAbs (modelValue (asked [] (c .before .before .args .leaf)) (now (c .before .before .args .model)) len (c .before .before .args .x))
 size-is c = c .magnitude .ensures ∙ ap natAbs (toZ-ofZ (record { sfits = c .before .len-of .ok }) ∙ c .before .len-of .ensures)
 
 -- the classes of the length of x
 count-is : (c : tie.After-classes-of) → c .classes-of .result
-    ≡ length (lowestOf (asked [] (c .before .before .before .before .before .args .leaf)) (c .before .before .before .before .before .args .leaf .labels) (now (c .before .before .before .before .before .args .model)) (modelOf (asked [] (c .before .before .before .before .before .args .leaf)) (now (c .before .before .before .before .before .args .model)) len (c .before .before .before .before .before .args .x)) (c .before .before .before .before .before .args .leaf .p))
+    ≡ length (lowestOfLength (asked [] (c .before .before .before .before .before .args .leaf)) (c .before .before .before .before .before .args .leaf .labels) (now (c .before .before .before .before .before .args .model)) (modelValue (asked [] (c .before .before .before .before .before .args .leaf)) (now (c .before .before .before .before .before .args .model)) len (c .before .before .before .before .before .args .x)) (c .before .before .before .before .before .args .leaf .p))
 count-is c =
     let s = c .before .before .before .before .before .args in
     c .classes-of .ensures .0
-    ∙ ap (λ (z : ℤ). length (lowestOf (asked [] (s .leaf)) (s .leaf .labels) (now (s .model)) z (s .leaf .p))) (toZ-ofZ (record { sfits = c .before .before .before .before .len-of .ok }) ∙ c .before .before .before .before .len-of .ensures)
+    ∙ ap (λ (z : ℤ). length (lowestOfLength (asked [] (s .leaf)) (s .leaf .labels) (now (s .model)) z (s .leaf .p))) (toZ-ofZ (record { sfits = c .before .before .before .before .len-of .ok }) ∙ c .before .before .before .before .len-of .ensures)
 
 len-of-requires : tie.Need-len-of-requires
 len-of-requires c κs = search needs

@@ -13,26 +13,26 @@ use mir.Syntax.{w64}
 use mir.Val.{ofZ, toZ}
 use native.Mathlib.Omega.{arith}
 use Rattle.calculus.specs.Facts.{len}
-use Rattle.calculus.specs.Model.{modelOf}
-use Rattle.calculus.specs.Rows.{eqℤ}
-use Rattle.calculus.specs.SaturationTest.{lowestOf, lowestVar}
+use Rattle.calculus.specs.Model.{modelValue}
+use Rattle.calculus.specs.LinearForms.{eqℤ}
+use Rattle.calculus.specs.SaturationTest.{lowestOfLength, lowestVariable}
 use Rattle.leaf.proofs.Laws.{count-more}
 use Rattle.leaf.specs.Leaf.{asked}
 use Rattle.leaf.proofs.classes_of.Statement.{statement}
 use Rattle.leaf.proofs.classes_of.Tie as tie
 
 abbrev Inv-loop : tie.InvT-loop
-Inv-loop model leaf wanted labels count₀ y₀ count y = (y ≤ leaf .p) × (count ≤ y) × (count ≡ length (lowestOf (asked [] leaf) (leaf .labels) model (toZ w64 wanted) y))
+Inv-loop model leaf wanted labels count₀ y₀ count y = (y ≤ leaf .p) × (count ≤ y) × (count ≡ length (lowestOfLength (asked [] leaf) (leaf .labels) model (toZ w64 wanted) y))
 
 abbrev μ-loop : tie.MeasureT-loop
 μ-loop model leaf wanted labels count₀ y₀ count y = leaf .p - y
 
 -- the test of one variable
 told : (c : tie.After-tally Inv-loop μ-loop)
-    → c .tally .result ≡ cond (eqℤ (modelOf (asked [] (c .before .before .before .before .before .before .args .leaf)) (now (c .before .before .before .before .before .before .args .model)) len (c .before .before .before .before .loop .y)) (toZ w64 (ofZ w64 (c .before .before .before .before .before .before .args .wanted))) && eqb (lowestVar (c .before .before .before .before .before .before .args .leaf .labels) (c .before .before .before .before .loop .y)) (c .before .before .before .before .loop .y)) 1 0
+    → c .tally .result ≡ cond (eqℤ (modelValue (asked [] (c .before .before .before .before .before .before .args .leaf)) (now (c .before .before .before .before .before .before .args .model)) len (c .before .before .before .before .loop .y)) (toZ w64 (ofZ w64 (c .before .before .before .before .before .before .args .wanted))) && eqb (lowestVariable (c .before .before .before .before .before .before .args .leaf .labels) (c .before .before .before .before .loop .y)) (c .before .before .before .before .loop .y)) 1 0
 told c =
     c .tally .ensures .0
-    ∙ ap (λ (z : ℤ). cond (eqℤ z (toZ w64 (ofZ w64 (c .before .before .before .before .before .before .args .wanted))) && eqb (lowestVar (c .before .before .before .before .before .before .args .leaf .labels) (c .before .before .before .before .loop .y)) (c .before .before .before .before .loop .y)) 1 0)
+    ∙ ap (λ (z : ℤ). cond (eqℤ z (toZ w64 (ofZ w64 (c .before .before .before .before .before .before .args .wanted))) && eqb (lowestVariable (c .before .before .before .before .before .before .args .leaf .labels) (c .before .before .before .before .loop .y)) (c .before .before .before .before .loop .y)) 1 0)
     (toZ-ofZ (record { sfits = c .before .len-of .ok }) ∙ c .before .len-of .ensures)
 
 loop-holds : tie.Need-loop-holds Inv-loop μ-loop
@@ -67,7 +67,7 @@ returns c =
     let l = c .before .before .loop in
     let s = c .before .before .before .before in
     let e : l .y ≡ s .args .leaf .p = omega arith in
-    (l .inv .2 ∙ ap₂ (λ (m : ℕ) (z : ℤ). length (lowestOf (asked [] (s .args .leaf)) (s .args .leaf .labels) (now (s .args .model)) z m)) e (toZ-ofZ (s .fits .wanted)), omega arith)
+    (l .inv .2 ∙ ap₂ (λ (m : ℕ) (z : ℤ). length (lowestOfLength (asked [] (s .args .leaf)) (s .args .leaf .labels) (now (s .args .model)) z m)) e (toZ-ofZ (s .fits .wanted)), omega arith)
 
 pub classes-of-spec : {M : Type 1} → statement M
 classes-of-spec =

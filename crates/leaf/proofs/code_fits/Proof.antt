@@ -5,7 +5,7 @@ use lib.IntN.{natAbs, negsuc, pos, ℤ}
 use mathlib.Core.Path.{_∙_, _≡_, ap, sym}
 use native.Mathlib.Omega.{arith}
 use Rattle.calculus.specs.Alphabet.{lastCharacter}
-use Rattle.calculus.specs.Rows.{eqℤ}
+use Rattle.calculus.specs.LinearForms.{eqℤ}
 use Rattle.leaf.proofs.Laws.{code-character, code-longer, code-negative}
 use Rattle.leaf.proofs.Signed.{equal-read, negative, not-negative}
 use Rattle.leaf.specs.Values.{codeFits}

@@ -9,7 +9,7 @@ use mir.Facts.{toZ-ofZ}
 use mir.Syntax.{w64}
 use mir.ValLaws.{toZ-pos}
 use native.Mathlib.Omega.{arith}
-use Rattle.calculus.specs.Rows.{eqℤ}
+use Rattle.calculus.specs.LinearForms.{eqℤ}
 use Rattle.format.proofs.Fields.{length-u32s}
 use Rattle.format.specs.Fields.{u32s}
 use Rattle.leaf.proofs.Laws.{text-no, text-yes}

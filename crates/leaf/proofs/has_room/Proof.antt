@@ -10,13 +10,13 @@ use Rattle.leaf.proofs.has_room.Tie as tie
 returns : tie.Need-returns
 returns c = sym (room-unary (c .before .args .n) (c .before .args .k) (c .before .args .size) (c .if1 .taken))
 
-log-up-requires : tie.Need-log-up-requires
-log-up-requires c κs = search needs
+least-power-requires : tie.Need-least-power-requires
+least-power-requires c κs = search needs
 
 returns-2 : tie.Need-returns-2
 returns-2 c =
     let s = c .before .before .args in
-    ap (λ (l : ℕ). leb l (s .size)) (c .log-up .ensures .0) ∙ sym (room-by (s .n) (s .k) (s .size) (c .before .if1 .left))
+    ap (λ (l : ℕ). leb l (s .size)) (c .least-power .ensures .0) ∙ sym (room-by (s .n) (s .k) (s .size) (c .before .if1 .left))
 
 pub has-room-spec : {M : Type 1} → statement M
-has-room-spec = tie.close (tie.spec returns log-up-requires returns-2)
+has-room-spec = tie.close (tie.spec returns least-power-requires returns-2)

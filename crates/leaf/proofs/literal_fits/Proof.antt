@@ -9,7 +9,7 @@ use mathlib.Core.Path.{_∙_, _≡_, ap, ap₂, sym}
 use mir.Facts.{toZ-ofZ}
 use native.Mathlib.Numerals.{add-one}
 use native.Mathlib.Omega.{arith}
-use Rattle.calculus.specs.Classes.{lowest}
+use Rattle.calculus.specs.Classes.{lowestLiteral}
 use Rattle.classes.specs.Classes.{literalOf}
 use Rattle.classes.proofs.Laws.{literal-below}
 use Rattle.format.proofs.Places.{skip-up}
@@ -22,11 +22,11 @@ use Rattle.leaf.proofs.literal_fits.Statement.{statement}
 use Rattle.leaf.proofs.literal_fits.Tie as tie
 
 -- the literal that was found
-found-is : (c : tie.After-known-told) → lowest (c .before .before .before .before .before .before .before .args .leaf .labels) (c .before .before .before .before .before .before .before .args .x) 0 (suc (c .before .before .before .before .before .before .before .args .leaf .literals)) ≡ some (c .before .found .given .0 .0)
+found-is : (c : tie.After-known-told) → lowestLiteral (c .before .before .before .before .before .before .before .args .leaf .labels) (c .before .before .before .before .before .before .before .args .x) 0 (suc (c .before .before .before .before .before .before .before .args .leaf .literals)) ≡ some (c .before .found .given .0 .0)
 unfolding literalOf
 found-is c =
     let s = c .before .before .before .before .before .before .before .args in
-    ap (λ (m : ℕ). lowest (s .leaf .labels) (s .x) 0 m) (sym (add-one (s .leaf .literals))) ∙ sym (c .before .before .before .class-literal .ensures) ∙ ap literalOf (c .before .found .given .1)
+    ap (λ (m : ℕ). lowestLiteral (s .leaf .labels) (s .x) 0 m) (sym (add-one (s .leaf .literals))) ∙ sym (c .before .before .before .class-literal .ensures) ∙ ap literalOf (c .before .found .given .1)
 
 add-class-literal : tie.Need-add-class-literal
 add-class-literal c = search needs
@@ -65,8 +65,8 @@ returns-2 : tie.Need-returns-2
 unfolding literalOf
 returns-2 c =
     let s = c .before .before .before .before .before .before .args in
-    let e : lowest (s .leaf .labels) (s .x) 0 (suc (s .leaf .literals)) ≡ none =
-    ap (λ (m : ℕ). lowest (s .leaf .labels) (s .x) 0 m) (sym (add-one (s .leaf .literals))) ∙ sym (c .before .before .class-literal .ensures) ∙ ap literalOf (c .enum-told .given .1) in
+    let e : lowestLiteral (s .leaf .labels) (s .x) 0 (suc (s .leaf .literals)) ≡ none =
+    ap (λ (m : ℕ). lowestLiteral (s .leaf .labels) (s .x) 0 m) (sym (add-one (s .leaf .literals))) ∙ sym (c .before .before .class-literal .ensures) ∙ ap literalOf (c .enum-told .given .1) in
     sym (literal-none (asked (now (s .ticket)) (s .leaf)) (s .len) (s .code) _ e)
 
 pub literal-fits-spec : {M : Type 1} → statement M

@@ -7,7 +7,7 @@ use mir.Facts.{toZ-ofZ}
 use mir.Syntax.{w64}
 use mir.Val.{ofZ, toZ}
 use Rattle.calculus.specs.Facts.{code, len}
-use Rattle.calculus.specs.Model.{modelOf}
+use Rattle.calculus.specs.Model.{modelValue}
 use Rattle.leaf.specs.Leaf.{asked}
 use Rattle.leaf.specs.Values.{pairFits}
 use Rattle.leaf.proofs.pair_fits.Statement.{statement}
@@ -43,10 +43,10 @@ returns c =
     let s = c .before .before .before .before .before .before .before .args in
     let u = asked [] (s .leaf) in
     let m = now (s .model) in
-    let z : toZ w64 (ofZ w64 (c .before .before .before .before .len-of .result)) ≡ modelOf u m len (s .x) = toZ-ofZ (record { sfits = c .before .before .before .before .len-of .ok }) ∙ c .before .before .before .before .len-of .ensures in
-    let w : toZ w64 (ofZ w64 (c .before .before .before .len-of2 .result)) ≡ modelOf u m len (s .y) = toZ-ofZ (record { sfits = c .before .before .before .len-of2 .ok }) ∙ c .before .before .before .len-of2 .ensures in
-    let p : toZ w64 (ofZ w64 (c .before .before .code-of .result)) ≡ modelOf u m code (s .x) = toZ-ofZ (record { sfits = c .before .before .code-of .ok }) ∙ c .before .before .code-of .ensures in
-    let q : toZ w64 (ofZ w64 (c .before .code-of2 .result)) ≡ modelOf u m code (s .y) = toZ-ofZ (record { sfits = c .before .code-of2 .ok }) ∙ c .before .code-of2 .ensures in
+    let z : toZ w64 (ofZ w64 (c .before .before .before .before .len-of .result)) ≡ modelValue u m len (s .x) = toZ-ofZ (record { sfits = c .before .before .before .before .len-of .ok }) ∙ c .before .before .before .before .len-of .ensures in
+    let w : toZ w64 (ofZ w64 (c .before .before .before .len-of2 .result)) ≡ modelValue u m len (s .y) = toZ-ofZ (record { sfits = c .before .before .before .len-of2 .ok }) ∙ c .before .before .before .len-of2 .ensures in
+    let p : toZ w64 (ofZ w64 (c .before .before .code-of .result)) ≡ modelValue u m code (s .x) = toZ-ofZ (record { sfits = c .before .before .code-of .ok }) ∙ c .before .before .code-of .ensures in
+    let q : toZ w64 (ofZ w64 (c .before .code-of2 .result)) ≡ modelValue u m code (s .y) = toZ-ofZ (record { sfits = c .before .code-of2 .ok }) ∙ c .before .code-of2 .ensures in
     c .pair-by .ensures ∙ rw (c .before .before .before .before .before .same-class .ensures, z, w, p, q)
 
 pub pair-fits-spec : {M : Type 1} → statement M

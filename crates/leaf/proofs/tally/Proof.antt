@@ -3,8 +3,8 @@ use borrow.Author.Needs.{needs}
 use borrow.Author.Tests.{not-false, not-true}
 use mathlib.Core.Path.{_∙_, _≡_, sym}
 use native.Mathlib.Omega.{arith}
-use Rattle.calculus.specs.Rows.{eqℤ}
-use Rattle.calculus.specs.SaturationTest.{lowestVar}
+use Rattle.calculus.specs.LinearForms.{eqℤ}
+use Rattle.calculus.specs.SaturationTest.{lowestVariable}
 use Rattle.leaf.proofs.Laws.{tally-higher, tally-one, tally-other}
 use Rattle.leaf.proofs.Signed.{equal-read}
 use Rattle.leaf.proofs.tally.Statement.{statement}
@@ -20,20 +20,20 @@ equal-requires c κs = search needs
 returns : tie.Need-returns
 returns c =
     let s = c .before .before .args in
-    (tally-other (lowestVar (s .labels) (s .y)) (s .y) (eqℤ (s .len) (s .wanted)) (sym (lengths (c .before)) ∙ not-true _ (c .if1 .taken)), omega arith)
+    (tally-other (lowestVariable (s .labels) (s .y)) (s .y) (eqℤ (s .len) (s .wanted)) (sym (lengths (c .before)) ∙ not-true _ (c .if1 .taken)), omega arith)
 
-lowest-var-requires : tie.Need-lowest-var-requires
-lowest-var-requires c κs = search needs
+lowest-variable-requires : tie.Need-lowest-variable-requires
+lowest-variable-requires c κs = search needs
 
 returns-2 : tie.Need-returns-2
 returns-2 c =
     let s = c .before .before .before .before .args in
-    (tally-higher (lowestVar (s .labels) (s .y)) (s .y) (eqℤ (s .len) (s .wanted)) (sym (lengths (c .before .before .before)) ∙ not-false _ (c .before .before .if1 .left)) (λ e. c .if2 .taken (c .before .lowest-var .ensures ∙ e)), omega arith)
+    (tally-higher (lowestVariable (s .labels) (s .y)) (s .y) (eqℤ (s .len) (s .wanted)) (sym (lengths (c .before .before .before)) ∙ not-false _ (c .before .before .if1 .left)) (λ e. c .if2 .taken (c .before .lowest-variable .ensures ∙ e)), omega arith)
 
 returns-3 : tie.Need-returns-3
 returns-3 c =
     let s = c .before .before .before .before .args in
-    (tally-one (lowestVar (s .labels) (s .y)) (s .y) (eqℤ (s .len) (s .wanted)) (sym (lengths (c .before .before .before)) ∙ not-false _ (c .before .before .if1 .left)) (sym (c .before .lowest-var .ensures) ∙ c .if2 .left), omega arith)
+    (tally-one (lowestVariable (s .labels) (s .y)) (s .y) (eqℤ (s .len) (s .wanted)) (sym (lengths (c .before .before .before)) ∙ not-false _ (c .before .before .if1 .left)) (sym (c .before .lowest-variable .ensures) ∙ c .if2 .left), omega arith)
 
 pub tally-spec : {M : Type 1} → statement M
-tally-spec = tie.close (tie.spec equal-requires returns lowest-var-requires returns-2 returns-3)
+tally-spec = tie.close (tie.spec equal-requires returns lowest-variable-requires returns-2 returns-3)

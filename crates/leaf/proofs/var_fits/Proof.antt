@@ -8,9 +8,9 @@ use mathlib.Core.Path.{_∙_, _≡_, ap, ap₂, sym}
 use mir.Facts.{toZ-ofZ}
 use mir.Syntax.{w64}
 use mir.Val.{ofZ, toZ}
-use Rattle.calculus.specs.Classes.{lowest}
+use Rattle.calculus.specs.Classes.{lowestLiteral}
 use Rattle.calculus.specs.Facts.{code, len}
-use Rattle.calculus.specs.Model.{modelOf}
+use Rattle.calculus.specs.Model.{modelValue}
 use Rattle.format.proofs.Places.{length-texts}
 use Rattle.format.specs.Places.{literalsFrom}
 use Rattle.leaf.proofs.Laws.{card-any, fromLiteral, var-card, var-code, var-length, var-literal}
@@ -20,10 +20,10 @@ use Rattle.leaf.proofs.var_fits.Statement.{statement}
 use Rattle.leaf.proofs.var_fits.Tie as tie
 
 -- the length and the code that were read
-z-is : (c : tie.After-len-of) → toZ w64 (ofZ w64 (c .len-of .result)) ≡ modelOf (asked (now (c .before .before .before .args .ticket)) (c .before .before .before .args .leaf)) (now (c .before .before .before .args .model)) len (c .before .before .before .args .x)
+z-is : (c : tie.After-len-of) → toZ w64 (ofZ w64 (c .len-of .result)) ≡ modelValue (asked (now (c .before .before .before .args .ticket)) (c .before .before .before .args .leaf)) (now (c .before .before .before .args .model)) len (c .before .before .before .args .x)
 z-is c = toZ-ofZ (record { sfits = c .len-of .ok }) ∙ c .len-of .ensures
 
-c-is : (c : tie.After-code-of) → toZ w64 (ofZ w64 (c .code-of .result)) ≡ modelOf (asked (now (c .before .before .before .before .args .ticket)) (c .before .before .before .before .args .leaf)) (now (c .before .before .before .before .args .model)) code (c .before .before .before .before .args .x)
+c-is : (c : tie.After-code-of) → toZ w64 (ofZ w64 (c .code-of .result)) ≡ modelValue (asked (now (c .before .before .before .before .args .ticket)) (c .before .before .before .before .args .leaf)) (now (c .before .before .before .before .args .model)) code (c .before .before .before .before .args .x)
 c-is c = toZ-ofZ (record { sfits = c .code-of .ok }) ∙ c .code-of .ensures
 
 -- the tests before Card
@@ -34,15 +34,15 @@ literal-test c =
     let u = asked (now (s .ticket)) (s .leaf) in
     let m = now (s .model) in
     c .literal-fits .ensures
-    ∙ ap₂ (λ (z w : ℤ). literalFits u (lowest (s .leaf .labels) (s .x) 0 (suc (s .leaf .literals))) z w) (z-is (c .before .before)) (c-is (c .before))
-    ∙ ap (λ (k : ℕ). literalFits u (lowest (s .leaf .labels) (s .x) 0 (suc k)) (modelOf u m len (s .x)) (modelOf u m code (s .x))) (sym (length-texts (now (s .ticket)) (s .leaf .literals) literalsFrom))
+    ∙ ap₂ (λ (z w : ℤ). literalFits u (lowestLiteral (s .leaf .labels) (s .x) 0 (suc (s .leaf .literals))) z w) (z-is (c .before .before)) (c-is (c .before))
+    ∙ ap (λ (k : ℕ). literalFits u (lowestLiteral (s .leaf .labels) (s .x) 0 (suc k)) (modelValue u m len (s .x)) (modelValue u m code (s .x))) (sym (length-texts (now (s .ticket)) (s .leaf .literals) literalsFrom))
 
 length-test : (c : tie.After-length-fits) → c .length-fits .result
-    ≡ lengthFits (c .before .before .before .before .before .before .before .args .leaf .labels) (c .before .before .before .before .before .before .before .args .x) (modelOf (asked (now (c .before .before .before .before .before .before .before .args .ticket)) (c .before .before .before .before .before .before .before .args .leaf)) (now (c .before .before .before .before .before .before .before .args .model)) len (c .before .before .before .before .before .before .before .args .x))
+    ≡ lengthFits (c .before .before .before .before .before .before .before .args .leaf .labels) (c .before .before .before .before .before .before .before .args .x) (modelValue (asked (now (c .before .before .before .before .before .before .before .args .ticket)) (c .before .before .before .before .before .before .before .args .leaf)) (now (c .before .before .before .before .before .before .before .args .model)) len (c .before .before .before .before .before .before .before .args .x))
 length-test c = c .length-fits .ensures ∙ ap (lengthFits (c .before .before .before .before .before .before .before .args .leaf .labels) (c .before .before .before .before .before .before .before .args .x)) (z-is (c .before .before .before .before))
 
 code-test : (c : tie.After-code-fits) → c .code-fits .result
-    ≡ codeFits (c .before .before .before .before .before .before .before .before .before .args .leaf .n) (modelOf (asked (now (c .before .before .before .before .before .before .before .before .before .args .ticket)) (c .before .before .before .before .before .before .before .before .before .args .leaf)) (now (c .before .before .before .before .before .before .before .before .before .args .model)) len (c .before .before .before .before .before .before .before .before .before .args .x)) (modelOf (asked (now (c .before .before .before .before .before .before .before .before .before .args .ticket)) (c .before .before .before .before .before .before .before .before .before .args .leaf)) (now (c .before .before .before .before .before .before .before .before .before .args .model)) code (c .before .before .before .before .before .before .before .before .before .args .x))
+    ≡ codeFits (c .before .before .before .before .before .before .before .before .before .args .leaf .n) (modelValue (asked (now (c .before .before .before .before .before .before .before .before .before .args .ticket)) (c .before .before .before .before .before .before .before .before .before .args .leaf)) (now (c .before .before .before .before .before .before .before .before .before .args .model)) len (c .before .before .before .before .before .before .before .before .before .args .x)) (modelValue (asked (now (c .before .before .before .before .before .before .before .before .before .args .ticket)) (c .before .before .before .before .before .before .before .before .before .args .leaf)) (now (c .before .before .before .before .before .before .before .before .before .args .model)) code (c .before .before .before .before .before .before .before .before .before .args .x))
 code-test c = c .code-fits .ensures ∙ ap₂ (λ (z w : ℤ). codeFits (c .before .before .before .before .before .before .before .before .before .args .leaf .n) z w) (z-is (c .before .before .before .before .before .before)) (c-is (c .before .before .before .before .before))
 
 len-of-requires : tie.Need-len-of-requires

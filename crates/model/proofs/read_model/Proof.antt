@@ -11,7 +11,7 @@ use mir.Syntax.{w64}
 use mir.Val.{ofZ, toZ}
 use native.Mathlib.Omega.{arith}
 use Rattle.calculus.specs.Limits.{columnLimit}
-use Rattle.calculus.specs.Rows.{zeros}
+use Rattle.calculus.specs.LinearForms.{zeros}
 use Rattle.format.specs.Fields.{i32, i32s}
 use Rattle.model.proofs.Numbers.{number-more}
 use Rattle.model.proofs.read_model.Statement.{statement}

@@ -11,7 +11,7 @@ use lib.ListN.{length}
 use Rattle.calculus.specs.Limits.{ticketBytes}
 use Rattle.format.specs.Records.{kind, size}
 use Rattle.format.specs.Question as format
-use Rattle.format.specs.Question.{fault, advanced, fresh, ending, readOn, question}
+use Rattle.format.specs.Question.{questionFault, questionAdvanced, unread, ending, readOn, question}
 use Rattle.format.proofs.Turns.{read-none, read-ended, read-stopped, read-more, read-long, read-begin}
 use Rattle.records.specs.Found.{foundAt}
 use Rattle.records.specs.declared.Found.the-variants.{Nothing}
@@ -26,44 +26,44 @@ use Rattle.question.proofs.read_question.Statement.{statement}
 use Rattle.question.proofs.read_question.Tie as tie
 
 -- the outcome where reading stands: what is left is the whole question
-module _ (b : List ℕ) (s : Progress) (r at : ℕ) (short : length b ≤ ticketBytes) (left : readOn fault b (progressOf b s) r at ≡ readOn fault b fresh 0 0) where
-  outcome : (x : format.Reading) → readOn fault b (progressOf b s) r at ≡ x → x ≡ question b
-  outcome x e = sym e ∙ left ∙ sym (read-begin fault b short)
+module _ (b : List ℕ) (s : Progress) (r at : ℕ) (short : length b ≤ ticketBytes) (left : readOn questionFault b (progressOf b s) r at ≡ readOn questionFault b unread 0 0) where
+  outcome : (x : format.Reading) → readOn questionFault b (progressOf b s) r at ≡ x → x ≡ question b
+  outcome x e = sym e ∙ left ∙ sym (read-begin questionFault b short)
 
   at-nothing : foundAt b at ≡ Nothing → readingOf b (Stopped 3 r) ≡ question b
   unfolding readingOf
-  at-nothing e = outcome (format.Stopped 3 r) (read-none fault b (progressOf b s) r at (found-nothing b at e))
+  at-nothing e = outcome (format.Stopped 3 r) (read-none questionFault b (progressOf b s) r at (found-nothing b at e))
 
   at-ending : (k : ℕ) → k ≡ kind b at → at + 6 ≤ length b → ending k ≡ true → readingOf b (Ended s at r) ≡ question b
   unfolding readingOf
-  at-ending k e h g = outcome (format.Ended (progressOf b s) at r) (read-ended fault b (progressOf b s) r at h (rw e at g))
+  at-ending k e h g = outcome (format.Ended (progressOf b s) at r) (read-ended questionFault b (progressOf b s) r at h (rw e at g))
 
-  at-fault : (k f : ℕ) → k ≡ kind b at → at + 6 ≤ length b → ending k ≡ false → f ≡ fault b (progressOf b s) at → (f ≡ 0 → ⊥) → readingOf b (Stopped f r) ≡ question b
+  at-fault : (k f : ℕ) → k ≡ kind b at → at + 6 ≤ length b → ending k ≡ false → f ≡ questionFault b (progressOf b s) at → (f ≡ 0 → ⊥) → readingOf b (Stopped f r) ≡ question b
   unfolding readingOf
   at-fault k zero e h g ef z = absurd (z refl)
-  at-fault k (suc c) e h g ef z = outcome (format.Stopped (suc c) r) (read-stopped fault b (progressOf b s) r at c h (rw e at g) (sym ef))
+  at-fault k (suc c) e h g ef z = outcome (format.Stopped (suc c) r) (read-stopped questionFault b (progressOf b s) r at c h (rw e at g) (sym ef))
 
-  goes-on : (k m : ℕ) (t : Progress) → (k ≡ kind b at) × (m ≡ size b at) × (at + 6 + m ≤ length b) → ending k ≡ false → fault b (progressOf b s) at ≡ 0
-      → progressOf b t ≡ advanced b (progressOf b s) at → Stands b s at
-      → Stands b t (at + 6 + m) × (readOn fault b (progressOf b t) (r + 1) (at + 6 + m) ≡ readOn fault b fresh 0 0)
+  goes-on : (k m : ℕ) (t : Progress) → (k ≡ kind b at) × (m ≡ size b at) × (at + 6 + m ≤ length b) → ending k ≡ false → questionFault b (progressOf b s) at ≡ 0
+      → progressOf b t ≡ questionAdvanced b (progressOf b s) at → Stands b s at
+      → Stands b t (at + 6 + m) × (readOn questionFault b (progressOf b t) (r + 1) (at + 6 + m) ≡ readOn questionFault b unread 0 0)
   goes-on k m t w g ef e h =
       rw (w .1) (
         advanced-stands b s at h ef t e,
-        rw (add-one r, e) (sym (read-more fault b (progressOf b s) r at (omega (arith, w .2)) (rw (w .0) at g) ef) ∙ left),
+        rw (add-one r, e) (sym (read-more questionFault b (progressOf b s) r at (omega (arith, w .2)) (rw (w .0) at g) ef) ∙ left),
       )
 
 abbrev Inv-loop : tie.InvT-loop
-Inv-loop b s₀ at₀ r₀ s at r = (r ≤ at) × Stands b s at × (readOn fault b (progressOf b s) r at ≡ readOn fault b fresh 0 0)
+Inv-loop b s₀ at₀ r₀ s at r = (r ≤ at) × Stands b s at × (readOn questionFault b (progressOf b s) r at ≡ readOn questionFault b unread 0 0)
 
 abbrev μ-loop : tie.MeasureT-loop
 μ-loop b s₀ at₀ r₀ s at r = length b - at
 
 returns : tie.Need-returns Inv-loop μ-loop
 unfolding readingOf
-returns c = sym (read-long fault _ (c .if1 .taken))
+returns c = sym (read-long questionFault _ (c .if1 .taken))
 
 loop-holds : tie.Need-loop-holds Inv-loop μ-loop
-loop-holds c = (omega arith, begun-stands _, ap (λ (u : format.Progress). readOn fault (now (c .before .before .args .b)) u 0 0) (begun-fresh (now (c .before .before .args .b))))
+loop-holds c = (omega arith, begun-stands _, ap (λ (u : format.Progress). readOn questionFault (now (c .before .before .args .b)) u 0 0) (begun-fresh (now (c .before .before .args .b))))
 
 read-at-requires : tie.Need-read-at-requires Inv-loop μ-loop
 read-at-requires c κs = search needs

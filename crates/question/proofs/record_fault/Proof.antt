@@ -11,7 +11,7 @@ use lib.Dec.{leb, ltb}
 use borrow.Author.Tests.{not-true, not-false, le-leb, lt-leb, lt-ltb, le-ltb}
 use Rattle.calculus.specs.Limits.{factLimit}
 use Rattle.format.specs.Records.{kind, size, need}
-use Rattle.format.specs.Question.{kindInPlace, inPlace, bodyFault, fault}
+use Rattle.format.specs.Question.{kindInPlace, inPlace, questionBodyFault, questionFault}
 use Rattle.format.specs.Places.{skip, literalsFrom}
 use Rattle.format.proofs.Places.{length-texts, length-constraints}
 use Rattle.question.specs.declared.Progress.{Progress}
@@ -27,14 +27,14 @@ module _ (b : List ℕ) (s : Progress) (at k m : ℕ) (w : (k ≡ kind b at) × 
   same-place : (x : Bool) → t ≡ x → inPlace (progressOf b s) k ≡ x
   same-place x e = ap (λ l. kindInPlace (s .last) l k) (length-texts b (s .literals) literalsFrom) ∙ sym et ∙ e
 
-  misplaced : t ≡ false → 4 ≡ fault b (progressOf b s) at
+  misplaced : t ≡ false → 4 ≡ questionFault b (progressOf b s) at
   misplaced e = out-of-place b (progressOf b s) at k m (w .0) (w .1) (w .2) (same-place false e)
 
-  module _ (e : t ≡ true) (f : ℕ) (ef : f ≡ bodyFault b (progressOf b s .question) k (at + 6) m) where
-    misformed : (f ≡ 0 → ⊥) → f ≡ fault b (progressOf b s) at
+  module _ (e : t ≡ true) (f : ℕ) (ef : f ≡ questionBodyFault b (progressOf b s .question) k (at + 6) m) where
+    misformed : (f ≡ 0 → ⊥) → f ≡ questionFault b (progressOf b s) at
     misformed z = ill-formed b (progressOf b s) at k m (w .0) (w .1) (w .2) f (same-place true e) ef z
 
-    roomy : (room : Bool) → f ≡ 0 → (leb k 2 || ltb (s .constraints) factLimit) ≡ room → need 10 room 0 ≡ fault b (progressOf b s) at
+    roomy : (room : Bool) → f ≡ 0 → (leb k 2 || ltb (s .constraints) factLimit) ≡ room → need 10 room 0 ≡ questionFault b (progressOf b s) at
     roomy room z r = by-room b (progressOf b s) at k m (w .0) (w .1) (w .2) f (same-place true e) ef room z
         (ap (λ j. leb k 2 || ltb j factLimit) (length-constraints b (s .constraints) (skip b (s .literals) literalsFrom)) ∙ r)
 

@@ -5,7 +5,7 @@ use lib.IntN.{pos}
 use lib.ListN.{length, length-set, take}
 use mathlib.Core.Path.{_∙_, _≡_, refl, sym}
 use native.Mathlib.Omega.{arith}
-use Rattle.calculus.specs.Rows.{zeros}
+use Rattle.calculus.specs.LinearForms.{zeros}
 use Rattle.lists.proofs.Filled.{filled-all, filled-more}
 use Rattle.rows.proofs.Forms.{entry-zeros}
 use Rattle.rows.proofs.clear_row.Statement.{statement}

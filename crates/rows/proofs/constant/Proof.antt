@@ -8,7 +8,7 @@ use mathlib.Core.Path.{_∙_, _≡_, refl, sym}
 use mir.Syntax.{w64}
 use mir.Val.{SFits}
 use native.Mathlib.Omega.{arith}
-use Rattle.calculus.specs.Rows.{allZero, isZero}
+use Rattle.calculus.specs.LinearForms.{allZero, isZero}
 use Rattle.lists.proofs.Every.{every-done, every-fails, every-on}
 use Rattle.rows.proofs.Tested.{zero-no, zero-yes}
 use Rattle.rows.proofs.constant.Statement.{statement}

@@ -9,11 +9,11 @@ use Rattle.rows.specs.Rows.{factOf}
 use Rattle.rows.proofs.fact_within.Statement.{statement}
 use Rattle.rows.proofs.fact_within.Tie as tie
 
-kind-of-requires : tie.Need-kind-of-requires
-kind-of-requires c κs = search needs
+tag-of-requires : tie.Need-tag-of-requires
+tag-of-requires c κs = search needs
 
 returns : tie.Need-returns
-returns c = sym (string-within (factOf (now (c .before .before .args .row))) (rw (c .before .kind-of .ensures) at (c .if1 .taken)))
+returns c = sym (string-within (factOf (now (c .before .before .args .row))) (rw (c .before .tag-of .ensures) at (c .if1 .taken)))
 
 form-within-requires : tie.Need-form-within-requires
 form-within-requires c κs = search needs
@@ -21,7 +21,7 @@ form-within-requires c κs = search needs
 returns-2 : tie.Need-returns-2
 returns-2 c =
     let s = c .before .before .before in
-    c .form-within .ensures ∙ sym (ap factWithin (row-relation (now (s .args .row)) (c .before .before .kind-of .result) (c .before .before .kind-of .ensures) (c .before .if1 .left)))
+    c .form-within .ensures ∙ sym (ap factWithin (row-relation (now (s .args .row)) (c .before .before .tag-of .result) (c .before .before .tag-of .ensures) (c .before .if1 .left)))
 
 pub fact-within-spec : {M : Type 1} → statement M
-fact-within-spec = tie.close (tie.spec kind-of-requires returns form-within-requires returns-2)
+fact-within-spec = tie.close (tie.spec tag-of-requires returns form-within-requires returns-2)

@@ -5,7 +5,7 @@ use lib.IntN.{ℤ}
 use mathlib.Core.List.{List}
 use mathlib.Core.Path.{_∙_, ap}
 use Rattle.calculus.specs.Facts.{arithmetic, ge}
-use Rattle.calculus.specs.Rows.{below}
+use Rattle.calculus.specs.LinearForms.{below}
 use Rattle.calculus.specs.Limits.{numberLimit}
 use Rattle.format.specs.Fields.{allWithin}
 use Rattle.rows.proofs.fill_below.Statement.{statement}

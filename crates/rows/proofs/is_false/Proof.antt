@@ -9,8 +9,8 @@ use mir.Facts.{toZ-ofZ}
 use mir.Syntax.{w64}
 use mir.Val.{SFits}
 use Rattle.calculus.specs.Facts.{holds}
-use Rattle.calculus.specs.Rows.{allZero}
-use Rattle.calculus.specs.Rules.{falsum}
+use Rattle.calculus.specs.LinearForms.{allZero}
+use Rattle.calculus.specs.Rules.{isFalse}
 use Rattle.format.specs.Question.{relationOf}
 use Rattle.rows.proofs.Tags.{row-relation}
 use Rattle.rows.proofs.Tested.{falsum-row, string-falsum}
@@ -20,22 +20,22 @@ use Rattle.rows.proofs.is_false.Statement.{statement}
 use Rattle.rows.proofs.is_false.Tie as tie
 
 -- the fact, where it is arithmetic
-falsum-is : (c : tie.Else1) → falsum (factOf (now (c .before .before .args .row))) ≡ (allZero (drop 2 (now (c .before .before .args .row))) && not (holds (relationOf (c .before .kind-of .result)) (getD (now (c .before .before .args .row)) 1 (pos 0))))
+falsum-is : (c : tie.Else1) → isFalse (factOf (now (c .before .before .args .row))) ≡ (allZero (drop 2 (now (c .before .before .args .row))) && not (holds (relationOf (c .before .tag-of .result)) (getD (now (c .before .before .args .row)) 1 (pos 0))))
 falsum-is c =
     let row = now (c .before .before .args .row) in
-    ap falsum (row-relation row (c .before .kind-of .result) (c .before .kind-of .ensures) (c .if1 .left)) ∙ falsum-row (relationOf (c .before .kind-of .result)) row (c .before .before .pre)
+    ap isFalse (row-relation row (c .before .tag-of .result) (c .before .tag-of .ensures) (c .if1 .left)) ∙ falsum-row (relationOf (c .before .tag-of .result)) row (c .before .before .pre)
 
 -- the constant's test
-held : (c : tie.After-relation-holds) → c .relation-holds .result ≡ holds (relationOf (c .before .before .before .kind-of .result)) (getD (now (c .before .before .before .before .args .row)) 1 (pos 0))
+held : (c : tie.After-relation-holds) → c .relation-holds .result ≡ holds (relationOf (c .before .before .before .tag-of .result)) (getD (now (c .before .before .before .before .args .row)) 1 (pos 0))
 held c =
     let f : SFits w64 (getD (now (c .before .before .before .before .args .row)) 1 (pos 0)) = record { sfits = c .before .c .given } in
     rw (toZ-ofZ f) at (c .relation-holds .ensures)
 
-kind-of-requires : tie.Need-kind-of-requires
-kind-of-requires c κs = search needs
+tag-of-requires : tie.Need-tag-of-requires
+tag-of-requires c κs = search needs
 
 returns : tie.Need-returns
-returns c = sym (string-falsum (factOf (now (c .before .before .args .row))) (rw (c .before .kind-of .ensures) at (c .if1 .taken)))
+returns c = sym (string-falsum (factOf (now (c .before .before .args .row))) (rw (c .before .tag-of .ensures) at (c .if1 .taken)))
 
 shared-slice-copy-out-c : tie.Need-shared-slice-copy-out-c
 shared-slice-copy-out-c c = search needs
@@ -59,7 +59,7 @@ pub is-false-spec : {M : Type 1} → statement M
 is-false-spec =
     tie.close
     (tie.spec
-    kind-of-requires
+    tag-of-requires
     returns
     shared-slice-copy-out-c
     relation-holds-requires

@@ -16,14 +16,14 @@ use Rattle.rows.proofs.keeps_row.Statement.{statement}
 use Rattle.rows.proofs.keeps_row.Tie as tie
 
 -- the fact, where it is arithmetic
-is : (c : tie.Else1) → factOf (now (c .before .before .args .row)) ≡ arithmetic (relationOf (c .before .kind-of .result)) (drop 1 (now (c .before .before .args .row)))
-is c = row-relation (now (c .before .before .args .row)) (c .before .kind-of .result) (c .before .kind-of .ensures) (c .if1 .left)
+is : (c : tie.Else1) → factOf (now (c .before .before .args .row)) ≡ arithmetic (relationOf (c .before .tag-of .result)) (drop 1 (now (c .before .before .args .row)))
+is c = row-relation (now (c .before .before .args .row)) (c .before .tag-of .result) (c .before .tag-of .ensures) (c .if1 .left)
 
-kind-of-requires : tie.Need-kind-of-requires
-kind-of-requires c κs = search needs
+tag-of-requires : tie.Need-tag-of-requires
+tag-of-requires c κs = search needs
 
 returns : tie.Need-returns
-returns c = sym (string-keeps (now (c .before .before .args .model)) (factOf (now (c .before .before .args .row))) (rw (c .before .kind-of .ensures) at (c .if1 .taken)))
+returns c = sym (string-keeps (now (c .before .before .args .model)) (factOf (now (c .before .before .args .row))) (rw (c .before .tag-of .ensures) at (c .if1 .taken)))
 
 row-value-requires : tie.Need-row-value-requires
 row-value-requires c κs = (c .before .before .pre .0, (sym (ap factWithin (is c)) ∙ c .before .before .pre .1 .0, c .before .before .pre .1 .1))
@@ -39,4 +39,4 @@ returns-2 c =
 
 pub keeps-row-spec : {M : Type 1} → statement M
 keeps-row-spec =
-    tie.close (tie.spec kind-of-requires returns row-value-requires relation-holds-requires returns-2)
+    tie.close (tie.spec tag-of-requires returns row-value-requires relation-holds-requires returns-2)

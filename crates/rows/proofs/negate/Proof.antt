@@ -8,7 +8,7 @@ use lib.Seq.{drop-set-lt}
 use mathlib.Core.List.{List, _∷_}
 use mathlib.Core.Path.{_∙_, _≡_, ap, refl, subst, sym}
 use native.Mathlib.Omega.{arith}
-use Rattle.calculus.specs.Rows.{scale}
+use Rattle.calculus.specs.LinearForms.{scale}
 use Rattle.calculus.specs.Limits.{numberLimit}
 use Rattle.lists.proofs.Filled.{filled-all, filled-more, kept-at, kept-more}
 use Rattle.format.specs.Fields.{allWithin}

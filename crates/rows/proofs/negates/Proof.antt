@@ -11,14 +11,14 @@ use mir.Syntax.{w64}
 use mir.Val.{SFits, ofZ, toZ}
 use native.Mathlib.Omega.{arith}
 use Rattle.calculus.proofs.Entries.{entry-scale, length-scale}
-use Rattle.calculus.specs.Rows.{eqRow, scale}
+use Rattle.calculus.specs.LinearForms.{eqIntegers, scale}
 use Rattle.rows.proofs.Small.{behind-tag, neg-fits, neg-is}
-use Rattle.rows.proofs.Tested.{eqRow-done, eqRow-fails, eqRow-on, eqℤ-no, eqℤ-yes, same-bits, scale-behind}
+use Rattle.rows.proofs.Tested.{eqIntegers-done, eqIntegers-fails, eqIntegers-on, eqℤ-no, eqℤ-yes, same-bits, scale-behind}
 use Rattle.rows.proofs.negates.Statement.{statement}
 use Rattle.rows.proofs.negates.Tie as tie
 
 abbrev Inv-loop : tie.InvT-loop
-Inv-loop row other j₀ j = (1 ≤ j) × (j ≤ 50) × (eqRow (drop j (scale (negsuc 0) row)) (drop j other) ≡ eqRow (drop 1 (scale (negsuc 0) row)) (drop 1 other))
+Inv-loop row other j₀ j = (1 ≤ j) × (j ≤ 50) × (eqIntegers (drop j (scale (negsuc 0) row)) (drop j other) ≡ eqIntegers (drop 1 (scale (negsuc 0) row)) (drop 1 other))
 
 abbrev μ-loop : tie.MeasureT-loop
 μ-loop row other j₀ j = 50 - j
@@ -70,9 +70,9 @@ returns c =
     let l = c .before .before .before .before .loop in
     let n = long (c .before) in
     let e = eqℤ-no _ (y (c .before)) (λ e. c .if1 .taken (ap (ofZ w64) (is (c .before) ∙ e))) in
-    sym (eqRow-fails (scale (negsuc 0) (now (c .before .before .before .before .before .args .row))) (now (c .before .before .before .before .before .args .other)) (l .j) (omega arith) (omega arith) e)
+    sym (eqIntegers-fails (scale (negsuc 0) (now (c .before .before .before .before .before .args .row))) (now (c .before .before .before .before .before .args .other)) (l .j) (omega arith) (omega arith) e)
     ∙ l .inv .2
-    ∙ ap (λ (a : List ℤ). eqRow a (drop 1 (now (c .before .before .before .before .before .args .other)))) (scale-behind (negsuc 0) (now (c .before .before .before .before .before .args .row)))
+    ∙ ap (λ (a : List ℤ). eqIntegers a (drop 1 (now (c .before .before .before .before .before .args .other)))) (scale-behind (negsuc 0) (now (c .before .before .before .before .before .args .row)))
 
 add-j : tie.Need-add-j Inv-loop μ-loop
 add-j c = search needs
@@ -85,15 +85,15 @@ loop-again c =
     let l = c .before .before .before .before .loop in
     let n = long (c .before) in
     let e = eqℤ-yes _ (y (c .before)) (sym (is (c .before)) ∙ same-bits _ (y (c .before)) (fx (c .before)) (fy (c .before)) (c .if1 .left)) in
-    (omega arith, omega arith, eqRow-on (scale (negsuc 0) (now (c .before .before .before .before .before .args .row))) (now (c .before .before .before .before .before .args .other)) (l .j) (omega arith) (omega arith) e ∙ l .inv .2)
+    (omega arith, omega arith, eqIntegers-on (scale (negsuc 0) (now (c .before .before .before .before .before .args .row))) (now (c .before .before .before .before .before .args .other)) (l .j) (omega arith) (omega arith) e ∙ l .inv .2)
 
 returns-2 : tie.Need-returns-2 Inv-loop μ-loop
 returns-2 c =
     let l = c .before .loop in
     let n : length (scale (negsuc 0) (now (c .before .before .args .row))) ≡ 50 = length-scale (negsuc 0) (now (c .before .before .args .row)) ∙ c .before .before .pre .0 .0 in
-    sym (eqRow-done (scale (negsuc 0) (now (c .before .before .args .row))) (now (c .before .before .args .other)) (l .j) (omega arith) (omega arith))
+    sym (eqIntegers-done (scale (negsuc 0) (now (c .before .before .args .row))) (now (c .before .before .args .other)) (l .j) (omega arith) (omega arith))
     ∙ l .inv .2
-    ∙ ap (λ (a : List ℤ). eqRow a (drop 1 (now (c .before .before .args .other)))) (scale-behind (negsuc 0) (now (c .before .before .args .row)))
+    ∙ ap (λ (a : List ℤ). eqIntegers a (drop 1 (now (c .before .before .args .other)))) (scale-behind (negsuc 0) (now (c .before .before .args .row)))
 
 pub negates-spec : {M : Type 1} → statement M
 negates-spec =

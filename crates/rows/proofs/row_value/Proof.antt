@@ -10,7 +10,7 @@ use mir.Facts.{toZ-ofZ}
 use mir.Syntax.{w64}
 use mir.Val.{SFits, toZ}
 use native.Mathlib.Omega.{arith}
-use Rattle.calculus.specs.Rows.{dot}
+use Rattle.calculus.specs.LinearForms.{dot}
 use Rattle.rows.proofs.Small.{behind-tag, small-fits}
 use Rattle.rows.proofs.Values.{dot-done, dot-more, product-fits, step-fits, step-is, step-small, value-row}
 use Rattle.rows.proofs.row_value.Statement.{statement}

@@ -8,13 +8,13 @@ use mathlib.Core.Path.{_∙_, _≡_, ap, refl, sym}
 use mir.Syntax.{w64}
 use mir.Val.{SFits, ofZ}
 use native.Mathlib.Omega.{arith}
-use Rattle.calculus.specs.Rows.{eqRow}
-use Rattle.rows.proofs.Tested.{eqRow-done, eqRow-fails, eqRow-on, eqℤ-no, eqℤ-yes, same-bits}
+use Rattle.calculus.specs.LinearForms.{eqIntegers}
+use Rattle.rows.proofs.Tested.{eqIntegers-done, eqIntegers-fails, eqIntegers-on, eqℤ-no, eqℤ-yes, same-bits}
 use Rattle.rows.proofs.same_row.Statement.{statement}
 use Rattle.rows.proofs.same_row.Tie as tie
 
 abbrev Inv-loop : tie.InvT-loop
-Inv-loop row other j₀ j = (j ≤ 50) × (eqRow (drop j row) (drop j other) ≡ eqRow row other)
+Inv-loop row other j₀ j = (j ≤ 50) × (eqIntegers (drop j row) (drop j other) ≡ eqIntegers row other)
 
 abbrev μ-loop : tie.MeasureT-loop
 μ-loop row other j₀ j = 50 - j
@@ -52,7 +52,7 @@ returns : tie.Need-returns Inv-loop μ-loop
 returns c =
     let l = c .before .before .before .before .loop in
     let e = eqℤ-no (x (c .before)) (y (c .before)) (λ e. c .if1 .taken (ap (ofZ w64) e)) in
-    sym (eqRow-fails (now (c .before .before .before .before .before .args .row)) (now (c .before .before .before .before .before .args .other)) (l .j) (omega arith) (omega arith) e) ∙ l .inv .1
+    sym (eqIntegers-fails (now (c .before .before .before .before .before .args .row)) (now (c .before .before .before .before .before .args .other)) (l .j) (omega arith) (omega arith) e) ∙ l .inv .1
 
 add-j : tie.Need-add-j Inv-loop μ-loop
 add-j c = search needs
@@ -64,10 +64,10 @@ loop-again : tie.Need-loop-again Inv-loop μ-loop
 loop-again c =
     let l = c .before .before .before .before .loop in
     let e = eqℤ-yes (x (c .before)) (y (c .before)) (same-bits (x (c .before)) (y (c .before)) (fx (c .before)) (fy (c .before)) (c .if1 .left)) in
-    (omega arith, eqRow-on (now (c .before .before .before .before .before .args .row)) (now (c .before .before .before .before .before .args .other)) (l .j) (omega arith) (omega arith) e ∙ l .inv .1)
+    (omega arith, eqIntegers-on (now (c .before .before .before .before .before .args .row)) (now (c .before .before .before .before .before .args .other)) (l .j) (omega arith) (omega arith) e ∙ l .inv .1)
 
 returns-2 : tie.Need-returns-2 Inv-loop μ-loop
-returns-2 c = let l = c .before .loop in sym (eqRow-done (now (c .before .before .args .row)) (now (c .before .before .args .other)) (l .j) (omega arith) (omega arith)) ∙ l .inv .1
+returns-2 c = let l = c .before .loop in sym (eqIntegers-done (now (c .before .before .args .row)) (now (c .before .before .args .other)) (l .j) (omega arith) (omega arith)) ∙ l .inv .1
 
 pub same-row-spec : {M : Type 1} → statement M
 same-row-spec =

@@ -10,7 +10,7 @@ use mathlib.Core.Path.{_∙_, _≡_, ap, ap₂, refl, sym}
 use native.Mathlib.Omega.{arith}
 use Rattle.lists.proofs.Every.{some-snoc, some-at}
 use Rattle.lists.specs.Lists.{any}
-use Rattle.calculus.specs.Rows.{column, eqRow, minus}
+use Rattle.calculus.specs.LinearForms.{column, eqIntegers, minus}
 use Rattle.calculus.specs.Rules.{statesZero}
 use Rattle.rows.proofs.Branches.{branch-at, branch-more, length-row}
 use Rattle.rows.proofs.Forms.{columns-difference}
@@ -41,7 +41,7 @@ test c =
     let e = minus (column (s .args .i)) (column (s .args .j)) in
     let row = rowAt (now (s .args .work)) (c .before .before .before .before .loop .k) in
     c .same-row .ensures
-    ∙ ap₂ eqRow (wanted-is (c .before .before .before .before .before .before)) (c .before .row-at .ensures)
+    ∙ ap₂ eqIntegers (wanted-is (c .before .before .before .before .before .before)) (c .before .row-at .ensures)
     ∙ sym (states-by-row e row (length-row (now (s .args .work)) (c .before .before .before .before .loop .k) (omega arith)))
 
 slice-aggregate-fill-difference : tie.Need-slice-aggregate-fill-difference Inv-loop μ-loop

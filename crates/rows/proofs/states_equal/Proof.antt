@@ -4,7 +4,7 @@ use denote.Ref.{now}
 use mathlib.Core.Bool.{Bool, _||_}
 use mathlib.Core.Path.{_∙_, ap, sym}
 use Rattle.lists.specs.Lists.{any}
-use Rattle.calculus.specs.Rows.{column, minus}
+use Rattle.calculus.specs.LinearForms.{column, minus}
 use Rattle.calculus.specs.Rules.{statesZero, statesEqual}
 use Rattle.rows.specs.Rows.{branchOf}
 use Rattle.rows.proofs.states_equal.Statement.{statement}

@@ -4,7 +4,7 @@ use borrow.Author.Needs.{needs}
 use denote.Ref.{now}
 use mathlib.Core.Path.{_≡_, sym, _∙_, ap}
 use native.Mathlib.Omega.{arith}
-use Rattle.format.specs.StepForms.{ruleOf, rule, child}
+use Rattle.format.specs.StepForms.{ruleOf, rule, childField}
 use Rattle.steps.specs.Conclusions.{conclusionsOf}
 use Rattle.steps.proofs.Bodies.{four-bytes}
 use Rattle.rules.proofs.Tried.{closing-eight}
@@ -43,7 +43,7 @@ take-split-child-requires c κs =
 returns : tie.Need-returns
 returns c =
     let s = c .before .before .before .before .before in
-    (closing-eight (s .pre .0) (child (now (s .args .ticket)) (s .args .at)) (said (c .before .before) ∙ c .enum-told .given .1), ((λ z. absurd (omega arith)), (λ z. absurd (omega arith))))
+    (closing-eight (s .pre .0) (childField (now (s .args .ticket)) (s .args .at)) (said (c .before .before) ∙ c .enum-told .given .1), ((λ z. absurd (omega arith)), (λ z. absurd (omega arith))))
 
 same-length : tie.Need-same-length
 same-length c = search needs

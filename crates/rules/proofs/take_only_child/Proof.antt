@@ -4,16 +4,16 @@ use borrow.Author.Needs.{needs}
 use denote.Ref.{now}
 use mathlib.Core.List.{_++_}
 use mathlib.Core.Path.{_≡_, sym, _∙_, ap}
-use Rattle.format.specs.Checking.{orNone, takenTried, nth}
-use Rattle.format.specs.StepForms.{child}
+use Rattle.format.specs.Checking.{orNone, takenTried, childIn}
+use Rattle.format.specs.StepForms.{childField}
 use Rattle.steps.proofs.Bodies.{before, given}
 use Rattle.steps.proofs.Concluding.{only-child}
 use Rattle.rules.proofs.take_only_child.Statement.{statement}
 use Rattle.rules.proofs.take_only_child.Tie as tie
 
 -- "it is 1 for a rule with one conclusion or none"
-first : (s : tie.Start) → 1 ≡ child (now (s .args .ticket)) (s .args .at)
-first s = sym (only-child (now (s .args .ticket)) (s .args .s .n) (s .args .at) (s .args .size) (child (now (s .args .ticket)) (s .args .at)) (s .pre .0 .formed .fits) (s .pre .1 .0) (s .pre .1 .1))
+first : (s : tie.Start) → 1 ≡ childField (now (s .args .ticket)) (s .args .at)
+first s = sym (only-child (now (s .args .ticket)) (s .args .s .n) (s .args .at) (s .args .size) (childField (now (s .args .ticket)) (s .args .at)) (s .pre .0 .formed .fits) (s .pre .1 .0) (s .pre .1 .1))
 
 conclude-requires : tie.Need-conclude-requires
 conclude-requires c κs = let s = c .before .before in (s .pre .0, s .pre .1 .0)
@@ -27,8 +27,8 @@ same-length c = search needs
 returns : tie.Need-returns
 returns c =
     let s = c .before .before .before .before in (
-      c .before .conclude .ensures .0 ∙ ap (λ (k : ℕ). takenTried (before (s .pre .0)) (nth (given (s .pre .0)) k)) (first s),
-      ((λ z. c .before .conclude .ensures .1 .0 z ∙ ap (λ (k : ℕ). before (s .pre .0) ++ orNone (nth (given (s .pre .0)) k)) (first s)), (λ z. c .before .conclude .ensures .1 .1 z)),
+      c .before .conclude .ensures .0 ∙ ap (λ (k : ℕ). takenTried (before (s .pre .0)) (childIn (given (s .pre .0)) k)) (first s),
+      ((λ z. c .before .conclude .ensures .1 .0 z ∙ ap (λ (k : ℕ). before (s .pre .0) ++ orNone (childIn (given (s .pre .0)) k)) (first s)), (λ z. c .before .conclude .ensures .1 .1 z)),
     )
 
 pub take-only-child-spec : {M : Type 1} → statement M

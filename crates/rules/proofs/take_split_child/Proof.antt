@@ -5,14 +5,14 @@ use denote.Ref.{now}
 use mathlib.Core.List.{_++_}
 use mathlib.Core.Path.{_≡_, sym, _∙_, ap}
 use native.Mathlib.Omega.{arith}
-use Rattle.format.specs.Checking.{orNone, takenTried, nth}
-use Rattle.format.specs.StepForms.{child, stepAt, childInRange}
+use Rattle.format.specs.Checking.{orNone, takenTried, childIn}
+use Rattle.format.specs.StepForms.{childField, stepAt, childInRange}
 use Rattle.steps.proofs.Bodies.{before, given, four-bytes}
 use Rattle.rules.proofs.take_split_child.Statement.{statement}
 use Rattle.rules.proofs.take_split_child.Tie as tie
 
 -- the child's number
-its-child : (c : tie.After-u16-at) → c .u16-at .result ≡ child (now (c .before .before .args .ticket)) (c .before .before .args .at)
+its-child : (c : tie.After-u16-at) → c .u16-at .result ≡ childField (now (c .before .before .args .ticket)) (c .before .before .args .at)
 its-child c = c .u16-at .ensures .0
 
 add-u16-at : tie.Need-add-u16-at
@@ -34,7 +34,7 @@ same-length c = search needs
 returns : tie.Need-returns
 returns c =
     let s = c .before .before .before .before .before in (
-      c .before .taken-fault .ensures ∙ ap (λ (k : ℕ). takenTried (before (s .pre .0)) (nth (given (s .pre .0)) k)) (its-child (c .before .before .before)),
+      c .before .taken-fault .ensures ∙ ap (λ (k : ℕ). takenTried (before (s .pre .0)) (childIn (given (s .pre .0)) k)) (its-child (c .before .before .before)),
       ((λ z. absurd (c .if1 .taken z)), (λ z. absurd (c .if1 .taken z))),
     )
 
@@ -50,8 +50,8 @@ returns-2 : tie.Need-returns-2
 returns-2 c =
     let s = c .before .before .before .before .before .before .before .before in
     let k = its-child (c .before .before .before .before .before .before) in (
-      sym (c .before .before .before .if1 .left) ∙ c .before .before .before .before .taken-fault .ensures ∙ ap (λ (k : ℕ). takenTried (before (s .pre .0)) (nth (given (s .pre .0)) k)) k,
-      ((λ z. c .before .put-child .ensures .0 ∙ ap (λ (k : ℕ). before (s .pre .0) ++ orNone (nth (given (s .pre .0)) k)) k), (λ z. c .before .put-child .ensures .1)),
+      sym (c .before .before .before .if1 .left) ∙ c .before .before .before .before .taken-fault .ensures ∙ ap (λ (k : ℕ). takenTried (before (s .pre .0)) (childIn (given (s .pre .0)) k)) k,
+      ((λ z. c .before .put-child .ensures .0 ∙ ap (λ (k : ℕ). before (s .pre .0) ++ orNone (childIn (given (s .pre .0)) k)) k), (λ z. c .before .put-child .ensures .1)),
     )
 
 pub take-split-child-spec : {M : Type 1} → statement M

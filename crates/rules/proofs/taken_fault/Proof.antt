@@ -10,7 +10,7 @@ use mathlib.Core.Path.{_≡_, sym, _∙_}
 use native.Mathlib.Omega.{arith}
 use Rattle.calculus.specs.Facts.{Fact}
 use Rattle.calculus.specs.Limits.{factLimit}
-use Rattle.format.specs.Checking.{fits, orNone, nth}
+use Rattle.format.specs.Checking.{fits, orNone, childIn}
 use Rattle.rows.proofs.Branches.{length-branch}
 use Rattle.steps.proofs.Bodies.{before, given, four-bytes}
 use Rattle.steps.proofs.Offered.{none-there, in-shape, child-size, its-shape}
@@ -20,7 +20,7 @@ use Rattle.rules.proofs.taken_fault.Tie as tie
 
 -- the child taken
 abbrev taken : (s : tie.Start) → Option (List Fact)
-taken s = nth (given (s .pre .0)) (s .args .k)
+taken s = childIn (given (s .pre .0)) (s .args .k)
 
 -- ---- what the tests show
 

@@ -5,7 +5,7 @@ use denote.Ref.{now}
 use lib.ListN.{length}
 use mathlib.Core.Path.{_∙_, _≡_, sym, ap}
 use native.Mathlib.Omega.{arith}
-use Rattle.calculus.specs.Rules.{elem, distinct}
+use Rattle.calculus.specs.Rules.{among, distinct}
 use Rattle.format.specs.Fields.{u16s}
 use Rattle.splits.proofs.Variables.{u16s-done, distinct-no, distinct-yes}
 use Rattle.splits.proofs.all_differ.Statement.{statement}
@@ -36,7 +36,7 @@ returns : tie.Need-returns Inv-loop μ-loop
 returns c =
     let s = c .before .before .before .before .before .before in
     let l = c .before .before .before .before .loop in
-    sym (distinct-no (now (s .args .b)) (l .i) (l .left) (omega arith) (ap (λ (y : ℕ). elem y (u16s (now (s .args .b)) (l .i + 2) (l .left - 1))) (sym (c .before .before .u16-at .ensures .0)) ∙ sym (c .before .occurs .ensures) ∙ c .if1 .taken)) ∙ l .inv .1
+    sym (distinct-no (now (s .args .b)) (l .i) (l .left) (omega arith) (ap (λ (y : ℕ). among y (u16s (now (s .args .b)) (l .i + 2) (l .left - 1))) (sym (c .before .before .u16-at .ensures .0)) ∙ sym (c .before .occurs .ensures) ∙ c .if1 .taken)) ∙ l .inv .1
 
 add-i : tie.Need-add-i Inv-loop μ-loop
 add-i c = omega arith
@@ -51,7 +51,7 @@ loop-again : tie.Need-loop-again Inv-loop μ-loop
 loop-again c =
     let s = c .before .before .before .before .before .before in
     let l = c .before .before .before .before .loop in
-    (omega arith, sym (distinct-yes (now (s .args .b)) (l .i) (l .left) (omega arith) (ap (λ (y : ℕ). elem y (u16s (now (s .args .b)) (l .i + 2) (l .left - 1))) (sym (c .before .before .u16-at .ensures .0)) ∙ sym (c .before .occurs .ensures) ∙ c .if1 .left)) ∙ l .inv .1)
+    (omega arith, sym (distinct-yes (now (s .args .b)) (l .i) (l .left) (omega arith) (ap (λ (y : ℕ). among y (u16s (now (s .args .b)) (l .i + 2) (l .left - 1))) (sym (c .before .before .u16-at .ensures .0)) ∙ sym (c .before .occurs .ensures) ∙ c .if1 .left)) ∙ l .inv .1)
 
 returns-2 : tie.Need-returns-2 Inv-loop μ-loop
 returns-2 c =

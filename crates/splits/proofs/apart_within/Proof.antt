@@ -9,16 +9,16 @@ use mathlib.Core.Bool.{true}
 use mathlib.Core.List.{List, [], _∷_}
 use mathlib.Core.Path.{_∙_, _≡_, sym, ap}
 use native.Mathlib.Omega.{arith}
-use Rattle.calculus.specs.Rows.{less, below}
+use Rattle.calculus.specs.LinearForms.{above, below}
 use Rattle.calculus.specs.Facts.{arithmetic, ge}
 use Rattle.calculus.specs.Limits.{numberLimit}
 use Rattle.format.specs.Checking.{factsWithin}
 use Rattle.format.specs.Fields.{allWithin}
 use Rattle.rows.specs.Rows.{rowAt}
 use Rattle.rows.proofs.Branches.{length-row}
-use Rattle.rows.proofs.Small.{behind-tag, less-fits, less-is, under-fits, under-is}
+use Rattle.rows.proofs.Small.{behind-tag, above-fits, above-is, under-fits, under-is}
 use Rattle.splits.proofs.Forms.{child-one, child-two, ne-within}
-use Rattle.splits.proofs.Limits.{less-within, below-within}
+use Rattle.splits.proofs.Limits.{above-within, below-within}
 use Rattle.splits.proofs.apart_within.Statement.{statement}
 use Rattle.splits.proofs.apart_within.Tie as tie
 
@@ -46,7 +46,7 @@ sub-in-limit : tie.Need-sub-in-limit
 sub-in-limit c =
     let s = c .before .before .before in
     let row = rowAt (now (s .args .work)) (s .args .fact) in
-    less-fits (getD (now (c .before .before .row-at .result)) 1 (pos 0)) numberLimit (constant-small _ row (c .before .before .row-at .ensures) (ne-within row (s .pre .1 .0) (s .pre .1 .1))) (omega arith)
+    above-fits (getD (now (c .before .before .row-at .result)) 1 (pos 0)) numberLimit (constant-small _ row (c .before .before .row-at .ensures) (ne-within row (s .pre .1 .0) (s .pre .1 .1))) (omega arith)
 
 in-limit-requires : tie.Need-in-limit-requires
 in-limit-requires c κs = search needs
@@ -60,9 +60,9 @@ returns c =
     let e = c .before .before .before .row-at .ensures in
     let small = ne-within row (s .pre .1 .0) (s .pre .1 .1) in
     c .in-limit .ensures
-    ∙ less-within (drop 1 row) _ (form-length row (length-row (now (s .args .work)) (s .args .fact) (omega arith))) small
-    (less-is (getD (now (c .before .before .before .row-at .result)) 1 (pos 0)) numberLimit (constant-small _ row e small) (omega arith) ∙ ap (λ (z : ℤ). z +ℤ negsuc 0) (first-of-form _ row e))
-    ∙ ap factsWithin (child-one (arithmetic ge (less (drop 1 row)) ∷ []) ((arithmetic ge (below (drop 1 row)) ∷ []) ∷ []) (s .args .k) (c .before .if1 .taken))
+    ∙ above-within (drop 1 row) _ (form-length row (length-row (now (s .args .work)) (s .args .fact) (omega arith))) small
+    (above-is (getD (now (c .before .before .before .row-at .result)) 1 (pos 0)) numberLimit (constant-small _ row e small) (omega arith) ∙ ap (λ (z : ℤ). z +ℤ negsuc 0) (first-of-form _ row e))
+    ∙ ap factsWithin (child-one (arithmetic ge (above (drop 1 row)) ∷ []) ((arithmetic ge (below (drop 1 row)) ∷ []) ∷ []) (s .args .k) (c .before .if1 .taken))
 
 sub-in-limit-2 : tie.Need-sub-in-limit-2
 sub-in-limit-2 c =
@@ -85,7 +85,7 @@ returns-2 c =
     c .in-limit2 .ensures
     ∙ below-within (drop 1 row) _ (form-length row (length-row (now (s .args .work)) (s .args .fact) (omega arith))) small
     (under-is (getD (now (c .before .before .before .row-at .result)) 1 (pos 0)) numberLimit (constant-small _ row e small) (omega arith) ∙ ap (λ (z : ℤ). (negsuc 0 *ℤ z) +ℤ negsuc 0) (first-of-form _ row e))
-    ∙ ap factsWithin (child-two (arithmetic ge (less (drop 1 row)) ∷ []) (arithmetic ge (below (drop 1 row)) ∷ []) [] (s .args .k) second)
+    ∙ ap factsWithin (child-two (arithmetic ge (above (drop 1 row)) ∷ []) (arithmetic ge (below (drop 1 row)) ∷ []) [] (s .args .k) second)
 
 pub apart-within-spec : {M : Type 1} → statement M
 apart-within-spec =

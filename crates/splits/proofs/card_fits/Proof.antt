@@ -9,7 +9,7 @@ use native.Mathlib.Omega.{arith}
 use Rattle.question.specs.Posed.{numbered}
 use Rattle.calculus.specs.Rules.{distinct, neighbours}
 use Rattle.format.specs.Fields.{u16, u16s}
-use Rattle.format.specs.StepForms.{variables}
+use Rattle.format.specs.StepForms.{areVariables}
 use Rattle.format.specs.Checking.{fits}
 use Rattle.rows.specs.Rows.{branchOf}
 use Rattle.rows.proofs.Tested.{guard-fits}
@@ -37,7 +37,7 @@ lengths-agree-requires c κs =
     let h = s .pre .0 .0 in
     let w = s .pre .0 .1 in
     let e : s .args .m - 1 + 1 ≡ s .args .m = omega arith in
-    ((omega arith, s .pre .0 .2, s .pre .0 .3), ((ap (λ (n : ℕ). distinct (u16s b (s .args .at) n)) e ∙ sym (c .before .all-differ .ensures) ∙ not-false _ (c .if1 .left), ap (λ (n : ℕ). variables (s .args .s .p) (u16s b (s .args .at) n)) e ∙ s .pre .1 .0), s .pre .1 .1))
+    ((omega arith, s .pre .0 .2, s .pre .0 .3), ((ap (λ (n : ℕ). distinct (u16s b (s .args .at) n)) e ∙ sym (c .before .all-differ .ensures) ∙ not-false _ (c .if1 .left), ap (λ (n : ℕ). areVariables (s .args .s .p) (u16s b (s .args .at) n)) e ∙ s .pre .1 .0), s .pre .1 .1))
 
 returns-2 : tie.Need-returns-2
 returns-2 c =

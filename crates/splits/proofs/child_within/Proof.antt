@@ -11,14 +11,14 @@ use mathlib.Core.Path.{_∙_, _≡_, sym, ap}
 use native.Mathlib.Omega.{arith}
 use Rattle.calculus.specs.Limits.{columnLimit}
 use Rattle.calculus.specs.Facts.{Fact, arithmetic, ge}
-use Rattle.calculus.specs.Rows.{below}
+use Rattle.calculus.specs.LinearForms.{below}
 use Rattle.calculus.specs.Children.{childAt, apartChildren}
 use Rattle.format.specs.Fields.{u16}
 use Rattle.format.specs.Question.{formOf}
-use Rattle.format.specs.Checking.{fits, orNone, nth, factsWithin}
+use Rattle.format.specs.Checking.{fits, orNone, childIn, factsWithin}
 use Rattle.format.proofs.Fields.{length-form}
 use Rattle.rows.specs.Rows.{factOf, rowAt}
-use Rattle.rows.specs.Work.{kindOf}
+use Rattle.rows.specs.Work.{tagOf}
 use Rattle.rows.proofs.Small.{fine-at, under-fits, under-is}
 use Rattle.constraints.proofs.Ranges.{form-within}
 use Rattle.steps.proofs.Bodies.{given, four-bytes, branch-left}
@@ -69,7 +69,7 @@ apart-within-requires c κs =
     let l : u16 b (s .args .at + 4) < s .args .count = a .0 in
     let few = s .pre .0 .fine .few in
     let n = number-of (given (s .pre .0)) (s .args .k) (s .pre .1 .1) _ (apart-child (s .pre .0) (fit s) e) in
-    ((omega arith, s .pre .0 .fine .room, n .0, n .1), (ap (λ (n : ℕ). kindOf (factOf (rowAt (now (s .args .work)) n))) x ∙ a .1, fine-at (now (s .args .work)) (s .args .count) (c .u16-at2 .result) (s .pre .0 .fine) (omega arith)))
+    ((omega arith, s .pre .0 .fine .room, n .0, n .1), (ap (λ (n : ℕ). tagOf (factOf (rowAt (now (s .args .work)) n))) x ∙ a .1, fine-at (now (s .args .work)) (s .args .count) (c .u16-at2 .result) (s .pre .0 .fine) (omega arith)))
 
 returns-2 : tie.Need-returns-2
 returns-2 c =
@@ -77,7 +77,7 @@ returns-2 c =
     let e = sym (c .before .before .if2 .taken) ∙ c .before .before .before .before .u16-at .ensures .0 in
     c .apart-within .ensures
     ∙ ap (λ (n : ℕ). factsWithin (orNone (childAt (apartChildren (drop 1 (rowAt (now (s .args .work)) n))) (s .args .k)))) (c .before .u16-at2 .ensures .0)
-    ∙ sym (ap (λ (o : Option (List (List Fact))). factsWithin (orNone (nth o (s .args .k)))) (apart-child (s .pre .0) (fit s) e))
+    ∙ sym (ap (λ (o : Option (List (List Fact))). factsWithin (orNone (childIn o (s .args .k)))) (apart-child (s .pre .0) (fit s) e))
 
 returns-3 : tie.Need-returns-3
 returns-3 c =
@@ -88,7 +88,7 @@ returns-3 c =
     sym (form-within b columnLimit (s .args .at + 4) ((s .args .size - 8) / 6) (branch-operands (s .pre .0) e .2))
     ∙ limits.one-within (arithmetic ge f)
     ∙ ap factsWithin (child-one (arithmetic ge f ∷ []) ((arithmetic ge (below f) ∷ []) ∷ []) (s .args .k) (c .if3 .taken))
-    ∙ sym (ap (λ (o : Option (List (List Fact))). factsWithin (orNone (nth o (s .args .k)))) (branch-child (s .pre .0) e))
+    ∙ sym (ap (λ (o : Option (List (List Fact))). factsWithin (orNone (childIn o (s .args .k)))) (branch-child (s .pre .0) e))
 
 add-i32-at : tie.Need-add-i32-at
 add-i32-at c = search needs
@@ -122,7 +122,7 @@ returns-4 c =
     (form-within b columnLimit (s .args .at + 4) ((s .args .size - 8) / 6) (branch-operands (s .pre .0) e .2))
     (under-is z 2147483648 (c .before .i32-at .ensures .1) (omega arith) ∙ ap (λ (y : ℤ). (negsuc 0 *ℤ y) +ℤ negsuc 0) (c .before .i32-at .ensures .0))
     ∙ ap factsWithin (child-two (arithmetic ge f ∷ []) (arithmetic ge (below f) ∷ []) [] (s .args .k) second)
-    ∙ sym (ap (λ (p : Option (List (List Fact))). factsWithin (orNone (nth p (s .args .k)))) o)
+    ∙ sym (ap (λ (p : Option (List (List Fact))). factsWithin (orNone (childIn p (s .args .k)))) o)
 
 pub child-within-spec : {M : Type 1} → statement M
 child-within-spec =

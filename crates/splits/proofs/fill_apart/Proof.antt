@@ -7,7 +7,7 @@ use lib.ListN.{length, drop}
 use mathlib.Core.List.{List, [], _∷_}
 use mathlib.Core.Path.{_∙_, _≡_, ap}
 use native.Mathlib.Omega.{arith}
-use Rattle.calculus.specs.Rows.{less, below}
+use Rattle.calculus.specs.LinearForms.{above, below}
 use Rattle.calculus.specs.Facts.{Fact, arithmetic, ge}
 use Rattle.calculus.specs.Limits.{numberLimit}
 use Rattle.format.specs.Fields.{allWithin}
@@ -20,8 +20,8 @@ use Rattle.splits.proofs.fill_apart.Tie as tie
 row-at-requires : tie.Need-row-at-requires
 row-at-requires c κs = search needs
 
-fill-less-requires : tie.Need-fill-less-requires
-fill-less-requires c κs =
+fill-above-requires : tie.Need-fill-above-requires
+fill-above-requires c κs =
     let s = c .before .before .before in
     let w = now (s .args .work) in
     let few : s .args .fact < 128 = s .pre .0 .1 in
@@ -35,8 +35,8 @@ returns : tie.Need-returns
 returns c =
     let s = c .before .before .before .before .before in
     let e = drop 1 (rowAt (now (s .args .work)) (s .args .fact)) in
-    ap (λ (f : Fact). f ∷ []) (c .before .fill-less .ensures ∙ ap (λ (l : List ℤ). arithmetic ge (less (drop 1 l))) (c .before .before .before .before .row-at .ensures))
-    ∙ child-one (arithmetic ge (less e) ∷ []) ((arithmetic ge (below e) ∷ []) ∷ []) (s .args .k) (c .before .before .before .if1 .taken)
+    ap (λ (f : Fact). f ∷ []) (c .before .fill-above .ensures ∙ ap (λ (l : List ℤ). arithmetic ge (above (drop 1 l))) (c .before .before .before .before .row-at .ensures))
+    ∙ child-one (arithmetic ge (above e) ∷ []) ((arithmetic ge (below e) ∷ []) ∷ []) (s .args .k) (c .before .before .before .if1 .taken)
 
 fill-below-requires : tie.Need-fill-below-requires
 fill-below-requires c κs =
@@ -55,14 +55,14 @@ returns-2 c =
     let e = drop 1 (rowAt (now (s .args .work)) (s .args .fact)) in
     let second : s .args .k ≡ 2 = omega (arith, s .pre .0, c .before .before .before .if1 .left) in
     ap (λ (f : Fact). f ∷ []) (c .before .fill-below .ensures ∙ ap (λ (l : List ℤ). arithmetic ge (below (drop 1 l))) (c .before .before .before .before .row-at .ensures))
-    ∙ child-two (arithmetic ge (less e) ∷ []) (arithmetic ge (below e) ∷ []) [] (s .args .k) second
+    ∙ child-two (arithmetic ge (above e) ∷ []) (arithmetic ge (below e) ∷ []) [] (s .args .k) second
 
 pub fill-apart-spec : {M : Type 1} → statement M
 fill-apart-spec =
     tie.close
     (tie.spec
     row-at-requires
-    fill-less-requires
+    fill-above-requires
     same-length
     returns
     fill-below-requires

@@ -6,7 +6,7 @@ use mathlib.Core.List.{List, [], _∷_}
 use mathlib.Core.Path.{_∙_, _≡_, ap}
 use native.Mathlib.Omega.{arith}
 use Rattle.calculus.specs.Limits.{columnLimit, numberLimit}
-use Rattle.calculus.specs.Rows.{below}
+use Rattle.calculus.specs.LinearForms.{below}
 use Rattle.calculus.specs.Facts.{Fact, arithmetic, ge}
 use Rattle.format.specs.Question.{formOf}
 use Rattle.format.specs.Fields.{allWithin}

@@ -15,7 +15,7 @@ use Rattle.rows.proofs.Tested.{guard-fits}
 use Rattle.steps.proofs.Bodies.{four-bytes, card-left}
 use Rattle.steps.proofs.Offered.{offered-by}
 use Rattle.splits.proofs.Operands.{card-same, apart-operands, c-inj-operands, card-operands}
-use Rattle.calculus.specs.Rules.{then, parted}
+use Rattle.calculus.specs.Rules.{then, apartOf}
 use Rattle.question.specs.Posed.{asked, numbered}
 use lib.ListN.{getElem?}
 use Rattle.splits.proofs.fits.Statement.{statement}
@@ -88,7 +88,7 @@ returns-2 c =
     let s = c .before .before .before .before .before in
     let b = now (s .args .ticket) in
     let br = branchOf (now (s .args .work)) (s .args .count) in
-    c .parts .ensures ∙ ap (λ (n : ℕ). fits (then (getElem? br n) parted)) (c .before .u16-at2 .ensures .0) ∙ sym (ap fits (offered-by b (asked b (s .args .s)) br (s .args .at) (s .args .size) 3 (sym (c .before .before .match .keys2) ∙ c .before .before .before .u16-at .ensures .0)))
+    c .parts .ensures ∙ ap (λ (n : ℕ). fits (then (getElem? br n) apartOf)) (c .before .u16-at2 .ensures .0) ∙ sym (ap fits (offered-by b (asked b (s .args .s)) br (s .args .at) (s .args .size) 3 (sym (c .before .before .match .keys2) ∙ c .before .before .before .u16-at .ensures .0)))
 
 returns-3 : tie.Need-returns-3
 unfolding stepOf

@@ -8,7 +8,7 @@ use mathlib.Core.Path.{_∙_, _≡_, refl, sym, ap₂}
 use native.Mathlib.Omega.{arith}
 use Rattle.calculus.specs.Rules.{distinct, neighbours, statesEqual}
 use Rattle.format.specs.Fields.{u16, u16s}
-use Rattle.format.specs.StepForms.{variables}
+use Rattle.format.specs.StepForms.{areVariables}
 use Rattle.question.specs.Columns.{columnAt}
 use Rattle.question.specs.Posed.{numbered}
 use Rattle.rows.specs.Rows.{branchOf}
@@ -17,7 +17,7 @@ use Rattle.splits.proofs.lengths_agree.Statement.{statement}
 use Rattle.splits.proofs.lengths_agree.Tie as tie
 
 abbrev Inv-loop : tie.InvT-loop
-Inv-loop b s at others work count i₀ left₀ i left = (i + 2 + 2 * left ≤ length b) × (distinct (u16s b i (left + 1)) ≡ true) × (variables (s .p) (u16s b i (left + 1)) ≡ true) × (neighbours (numbered s) (branchOf work count) (u16 b i) (u16s b (i + 2) left) ≡ neighbours (numbered s) (branchOf work count) (u16 b at) (u16s b (at + 2) others))
+Inv-loop b s at others work count i₀ left₀ i left = (i + 2 + 2 * left ≤ length b) × (distinct (u16s b i (left + 1)) ≡ true) × (areVariables (s .p) (u16s b i (left + 1)) ≡ true) × (neighbours (numbered s) (branchOf work count) (u16 b i) (u16s b (i + 2) left) ≡ neighbours (numbered s) (branchOf work count) (u16 b at) (u16s b (at + 2) others))
 
 abbrev μ-loop : tie.MeasureT-loop
 μ-loop b s at others work count i₀ left₀ i left = left

@@ -5,14 +5,14 @@ use denote.Ref.{now}
 use lib.ListN.{length}
 use mathlib.Core.Path.{_∙_, _≡_, sym, ap}
 use native.Mathlib.Omega.{arith}
-use Rattle.calculus.specs.Rules.{elem}
+use Rattle.calculus.specs.Rules.{among}
 use Rattle.format.specs.Fields.{u16s}
-use Rattle.splits.proofs.Variables.{u16s-done, elem-yes, elem-no}
+use Rattle.splits.proofs.Variables.{u16s-done, among-yes, among-no}
 use Rattle.splits.proofs.occurs.Statement.{statement}
 use Rattle.splits.proofs.occurs.Tie as tie
 
 abbrev Inv-loop : tie.InvT-loop
-Inv-loop b x at count i₀ left₀ i left = (i + 2 * left ≤ length b) × (elem x (u16s b i left) ≡ elem x (u16s b at count))
+Inv-loop b x at count i₀ left₀ i left = (i + 2 * left ≤ length b) × (among x (u16s b i left) ≡ among x (u16s b at count))
 
 abbrev μ-loop : tie.MeasureT-loop
 μ-loop b x at count i₀ left₀ i left = left
@@ -27,7 +27,7 @@ returns : tie.Need-returns Inv-loop μ-loop
 returns c =
     let s = c .before .before .before .before .before in
     let l = c .before .before .before .loop in
-    sym (elem-yes (now (s .args .b)) (l .i) (l .left) (s .args .x) (omega arith) (sym (c .before .u16-at .ensures .0) ∙ c .if1 .taken)) ∙ l .inv .1
+    sym (among-yes (now (s .args .b)) (l .i) (l .left) (s .args .x) (omega arith) (sym (c .before .u16-at .ensures .0) ∙ c .if1 .taken)) ∙ l .inv .1
 
 add-i : tie.Need-add-i Inv-loop μ-loop
 add-i c = omega arith
@@ -42,13 +42,13 @@ loop-again : tie.Need-loop-again Inv-loop μ-loop
 loop-again c =
     let s = c .before .before .before .before .before in
     let l = c .before .before .before .loop in
-    (omega arith, sym (elem-no (now (s .args .b)) (l .i) (l .left) (s .args .x) (omega arith) (λ q. c .if1 .left (c .before .u16-at .ensures .0 ∙ q))) ∙ l .inv .1)
+    (omega arith, sym (among-no (now (s .args .b)) (l .i) (l .left) (s .args .x) (omega arith) (λ q. c .if1 .left (c .before .u16-at .ensures .0 ∙ q))) ∙ l .inv .1)
 
 returns-2 : tie.Need-returns-2 Inv-loop μ-loop
 returns-2 c =
     let s = c .before .before .before in
     let l = c .before .loop in
-    sym (ap (elem (s .args .x)) (u16s-done (now (s .args .b)) (l .i) (l .left) (omega arith))) ∙ l .inv .1
+    sym (ap (among (s .args .x)) (u16s-done (now (s .args .b)) (l .i) (l .left) (omega arith))) ∙ l .inv .1
 
 pub occurs-spec : {M : Type 1} → statement M
 occurs-spec = tie.close (tie.spec Inv-loop μ-loop loop-holds u16-at-requires returns add-i sub-left loop-less loop-again returns-2)

@@ -6,7 +6,7 @@ use lib.IntN.{ℤ, negsuc}
 use mathlib.Core.List.{List, [], _∷_, _++_}
 use mathlib.Core.Path.{_∙_, _≡_, ap, ap₂, sym}
 use native.Mathlib.Omega.{arith}
-use Rattle.calculus.specs.Rows.{column, number, minus}
+use Rattle.calculus.specs.LinearForms.{column, number, minus}
 use Rattle.calculus.specs.Facts.{Fact, same, arithmetic, eq, ne}
 use Rattle.question.specs.Columns.{columnAt}
 use Rattle.rows.specs.Rows.{branchOf}

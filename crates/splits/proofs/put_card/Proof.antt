@@ -10,10 +10,10 @@ use native.Mathlib.Omega.{arith}
 use Rattle.question.specs.Posed.{numbered}
 use Rattle.calculus.specs.Limits.{workNumbers}
 use Rattle.calculus.specs.Facts.{Fact, same}
-use Rattle.calculus.specs.Children.{childAt, pairs}
+use Rattle.calculus.specs.Children.{childAt, pairChildren}
 use Rattle.calculus.specs.Rules.{lastChild}
 use Rattle.format.specs.Fields.{u16, u16s}
-use Rattle.format.specs.StepForms.{variables}
+use Rattle.format.specs.StepForms.{areVariables}
 use Rattle.format.specs.Checking.{orNone}
 use Rattle.rows.specs.Rows.{branchOf}
 use Rattle.steps.proofs.Offered.{child-at}
@@ -24,7 +24,7 @@ use Rattle.splits.proofs.put_card.Statement.{statement}
 use Rattle.splits.proofs.put_card.Tie as tie
 
 abbrev Inv-loop : tie.InvT-loop
-Inv-loop work₀ count b s at m k i₀ others₀ left₀ work i others left = (work ≡ work₀) × (i + 2 + 2 * others ≤ length b) × (variables (s .p) (u16s b i (others + 1)) ≡ true) × (left < length (pairs (u16s b i (others + 1)) (lastChild (numbered s) (u16 b at) m))) × (getD (pairs (u16s b i (others + 1)) (lastChild (numbered s) (u16 b at) m)) left [] ≡ getD (pairs (u16s b at m) (lastChild (numbered s) (u16 b at) m)) (k - 1) [])
+Inv-loop work₀ count b s at m k i₀ others₀ left₀ work i others left = (work ≡ work₀) × (i + 2 + 2 * others ≤ length b) × (areVariables (s .p) (u16s b i (others + 1)) ≡ true) × (left < length (pairChildren (u16s b i (others + 1)) (lastChild (numbered s) (u16 b at) m))) × (getD (pairChildren (u16s b i (others + 1)) (lastChild (numbered s) (u16 b at) m)) left [] ≡ getD (pairChildren (u16s b at m) (lastChild (numbered s) (u16 b at) m)) (k - 1) [])
 
 abbrev μ-loop : tie.MeasureT-loop
 μ-loop work₀ count b s at m k i₀ others₀ left₀ work i others left = others
@@ -43,13 +43,13 @@ loop-holds c =
     let g : s .args .at + 2 * s .args .m ≤ length b = s .pre .1 .0 .2 in
     let o : 1 ≤ s .args .k = s .pre .1 .1 .1 .0 in
     let more = lastChild (numbered (s .args .s)) (u16 b (s .args .at)) (s .args .m) in
-    let t : s .args .k ≤ length (pairs (u16s b (s .args .at) (s .args .m)) more) = s .pre .1 .1 .1 .1 in
+    let t : s .args .k ≤ length (pairChildren (u16s b (s .args .at) (s .args .m)) more) = s .pre .1 .1 .1 .1 in
     let e : s .args .m - 1 + 1 ≡ s .args .m = omega arith in (
       refl,
       omega arith,
-      ap (λ (n : ℕ). variables (s .args .s .p) (u16s b (s .args .at) n)) e ∙ s .pre .1 .0 .3,
-      subst (λ (n : ℕ). s .args .k - 1 < length (pairs (u16s b (s .args .at) n) more)) (sym e) (omega arith),
-      ap (λ (n : ℕ). getD (pairs (u16s b (s .args .at) n) more) (s .args .k - 1) []) e,
+      ap (λ (n : ℕ). areVariables (s .args .s .p) (u16s b (s .args .at) n)) e ∙ s .pre .1 .0 .3,
+      subst (λ (n : ℕ). s .args .k - 1 < length (pairChildren (u16s b (s .args .at) n) more)) (sym e) (omega arith),
+      ap (λ (n : ℕ). getD (pairChildren (u16s b (s .args .at) n) more) (s .args .k - 1) []) e,
     )
 
 u16-at-requires : tie.Need-u16-at-requires Inv-loop μ-loop
@@ -91,7 +91,7 @@ returns c =
     c .before .put-string .ensures
     ∙ ap₂ (λ (v : List ℤ) (h : List Fact). branchOf v (s .args .count) ++ h) (l .inv .0)
     (ap₂ (λ (x y : ℕ). same x y ∷ []) (c .before .before .before .before .u16-at .ensures .0) (c .before .before .before .u16-at2 .ensures .0)
-    ∙ sym (pair-here b (l .i) (l .others) more (l .left) (c .before .before .before .before .before .if1 .taken)) ∙ l .inv .4 ∙ sym (child-at (pairs (u16s b (s .args .at) (s .args .m)) more) (s .args .k) (s .pre .1 .1 .1 .0)))
+    ∙ sym (pair-here b (l .i) (l .others) more (l .left) (c .before .before .before .before .before .if1 .taken)) ∙ l .inv .4 ∙ sym (child-at (pairChildren (u16s b (s .args .at) (s .args .m)) more) (s .args .k) (s .pre .1 .1 .1 .0)))
 
 add-i : tie.Need-add-i Inv-loop μ-loop
 add-i c = omega arith
@@ -153,7 +153,7 @@ returns-2 c =
     (ap (λ (x : ℕ). orNone (childAt (lastChild (numbered (s .args .s)) x (s .args .m)) 1)) (c .before .before .u16-at3 .ensures .0)
     ∙ child-at more 1 (omega arith)
     ∙ ap (λ (j : ℕ). getD more j []) first
-    ∙ sym (ap (λ (cs : List (List Fact)). getD cs (l .left) []) (pairs-none b (l .i) (l .others) more (omega arith))) ∙ l .inv .4 ∙ sym (child-at (pairs (u16s b (s .args .at) (s .args .m)) more) (s .args .k) (s .pre .1 .1 .1 .0)))
+    ∙ sym (ap (λ (cs : List (List Fact)). getD cs (l .left) []) (pairs-none b (l .i) (l .others) more (omega arith))) ∙ l .inv .4 ∙ sym (child-at (pairChildren (u16s b (s .args .at) (s .args .m)) more) (s .args .k) (s .pre .1 .1 .1 .0)))
 
 pub put-card-spec : {M : Type 1} → statement M
 put-card-spec =

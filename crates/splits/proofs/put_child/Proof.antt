@@ -14,7 +14,7 @@ use Rattle.calculus.specs.Limits.{factLimit}
 use Rattle.calculus.specs.Facts.{Fact}
 use Rattle.calculus.specs.Children.{childAt, cValidChildren}
 use Rattle.format.specs.Fields.{u16}
-use Rattle.format.specs.Checking.{fits, orNone, nth}
+use Rattle.format.specs.Checking.{fits, orNone, childIn}
 use Rattle.question.proofs.Posed.{some-character}
 use Rattle.rows.specs.Rows.{branchOf}
 use Rattle.rows.specs.Work.{Fine}
@@ -30,7 +30,7 @@ use Rattle.splits.proofs.put_child.Tie as tie
 
 -- child k, which is there
 abbrev taken : (s : tie.Start) → Option (List Fact)
-taken s = nth (given (s .pre .0)) (s .args .k)
+taken s = childIn (given (s .pre .0)) (s .args .k)
 
 there : (s : tie.Start) → fits (taken s) ≡ true
 there s = taken-fits (before (s .pre .0)) (taken s) (s .pre .1 .1)
@@ -64,7 +64,7 @@ put-c-valid-requires c κs =
     let few = stands .few-strings in
     let o = c-valid-child h e in
     let n = number-of (given (s .pre .0)) (s .args .k) (there s) _ o in
-    let size = ap (λ (p : Option (List (List Fact))). length (orNone (nth p (s .args .k)))) o ∙ c-valid-size (s .args .s) (u16 b (s .args .at + 4)) (s .args .k) (n .0) (n .1) in
+    let size = ap (λ (p : Option (List (List Fact))). length (orNone (childIn p (s .args .k)))) o ∙ c-valid-size (s .args .s) (u16 b (s .args .at + 4)) (s .args .k) (n .0) (n .1) in
     ((omega (arith, size, roomy s), h .fine .room, n .0, n .1, omega arith), (few, stands .few-integers, some-character (h .posed), stands .few-characters))
 
 same-length : tie.Need-same-length
@@ -77,7 +77,7 @@ returns c =
     let added =
     c .before .put-c-valid .ensures
     ∙ ap (λ (n : ℕ). before (s .pre .0) ++ orNone (childAt (cValidChildren (numbered (s .args .s)) n) (s .args .k))) (c .before .before .u16-at2 .ensures .0)
-    ∙ ap (λ (o : Option (List (List Fact))). before (s .pre .0) ++ orNone (nth o (s .args .k))) (sym (c-valid-child (s .pre .0) e)) in
+    ∙ ap (λ (o : Option (List (List Fact))). before (s .pre .0) ++ orNone (childIn o (s .args .k))) (sym (c-valid-child (s .pre .0) e)) in
     (added, fine s _ _ (search needs) added)
 
 put-fact-requires : tie.Need-put-fact-requires

@@ -12,9 +12,9 @@ use Rattle.question.specs.Posed.{numbered}
 use Rattle.calculus.specs.Facts.{Fact}
 use Rattle.calculus.specs.Children.{childAt, apartChildren, lValidChildren, cInjChildren}
 use Rattle.format.specs.Fields.{u16}
-use Rattle.format.specs.Checking.{fits, orNone, nth}
+use Rattle.format.specs.Checking.{fits, orNone, childIn}
 use Rattle.rows.specs.Rows.{factOf, rowAt, branchOf}
-use Rattle.rows.specs.Work.{kindOf}
+use Rattle.rows.specs.Work.{tagOf}
 use Rattle.rows.proofs.Small.{fine-at}
 use Rattle.question.proofs.Posed.{some-character}
 use Rattle.steps.proofs.Bodies.{given, four-bytes, variable, card-left}
@@ -24,7 +24,7 @@ use Rattle.splits.proofs.put_fact.Statement.{statement}
 use Rattle.splits.proofs.put_fact.Tie as tie
 
 -- there is child k, so the step fits
-there : (s : tie.Start) → fits (nth (given (s .pre .0)) (s .args .k)) ≡ true
+there : (s : tie.Start) → fits (childIn (given (s .pre .0)) (s .args .k)) ≡ true
 there s = s .pre .1 .1 .1
 
 fit : (s : tie.Start) → fits (given (s .pre .0)) ≡ true
@@ -74,7 +74,7 @@ put-apart-requires c κs =
     let l : u16 b (s .args .at + 4) < s .args .count = a .0 in
     let few = s .pre .0 .fine .few in
     let n = number-of (given (s .pre .0)) (s .args .k) (there s) _ (apart-child (s .pre .0) (fit s) e) in
-    ((s .pre .1 .1 .0 .1, omega arith, s .pre .0 .fine .room, n .0, n .1), (ap (λ (n : ℕ). kindOf (factOf (rowAt (now (s .args .work)) n))) x ∙ a .1, fine-at (now (s .args .work)) (s .args .count) (c .u16-at2 .result) (s .pre .0 .fine) (omega arith)))
+    ((s .pre .1 .1 .0 .1, omega arith, s .pre .0 .fine .room, n .0, n .1), (ap (λ (n : ℕ). tagOf (factOf (rowAt (now (s .args .work)) n))) x ∙ a .1, fine-at (now (s .args .work)) (s .args .count) (c .u16-at2 .result) (s .pre .0 .fine) (omega arith)))
 
 add-u16-at-2 : tie.Need-add-u16-at-2
 add-u16-at-2 c = search needs
@@ -149,7 +149,7 @@ returns c =
     let s = c .before .before .before .before .before .before in
     let br = branchOf (now (s .args .work)) (s .args .count) in
     let e = sym (c .before .before .before .match .keys1) ∙ c .before .before .before .before .u16-at .ensures .0 in
-    c .before .put-branch .ensures ∙ ap (λ (o : Option (List (List Fact))). br ++ orNone (nth o (s .args .k))) (sym (branch-child (s .pre .0) e))
+    c .before .put-branch .ensures ∙ ap (λ (o : Option (List (List Fact))). br ++ orNone (childIn o (s .args .k))) (sym (branch-child (s .pre .0) e))
 
 same-length-2 : tie.Need-same-length-2
 same-length-2 c = search needs
@@ -159,7 +159,7 @@ returns-2 c =
     let s = c .before .before .before .before .before .before .before in
     let br = branchOf (now (s .args .work)) (s .args .count) in
     let e = sym (c .before .before .before .before .match .keys2) ∙ c .before .before .before .before .before .u16-at .ensures .0 in
-    c .before .put-apart .ensures ∙ ap (λ (n : ℕ). br ++ orNone (childAt (apartChildren (drop 1 (rowAt (now (s .args .work)) n))) (s .args .k))) (c .before .before .u16-at2 .ensures .0) ∙ ap (λ (o : Option (List (List Fact))). br ++ orNone (nth o (s .args .k))) (sym (apart-child (s .pre .0) (fit s) e))
+    c .before .put-apart .ensures ∙ ap (λ (n : ℕ). br ++ orNone (childAt (apartChildren (drop 1 (rowAt (now (s .args .work)) n))) (s .args .k))) (c .before .before .u16-at2 .ensures .0) ∙ ap (λ (o : Option (List (List Fact))). br ++ orNone (childIn o (s .args .k))) (sym (apart-child (s .pre .0) (fit s) e))
 
 same-length-3 : tie.Need-same-length-3
 same-length-3 c = search needs
@@ -169,7 +169,7 @@ returns-3 c =
     let s = c .before .before .before .before .before .before .before in
     let br = branchOf (now (s .args .work)) (s .args .count) in
     let e = sym (c .before .before .before .before .match .keys3) ∙ c .before .before .before .before .before .u16-at .ensures .0 in
-    c .before .put-l-valid .ensures ∙ ap (λ (n : ℕ). br ++ orNone (childAt (lValidChildren (numbered (s .args .s)) n) (s .args .k))) (c .before .before .u16-at3 .ensures .0) ∙ ap (λ (o : Option (List (List Fact))). br ++ orNone (nth o (s .args .k))) (sym (l-valid-child (s .pre .0) e))
+    c .before .put-l-valid .ensures ∙ ap (λ (n : ℕ). br ++ orNone (childAt (lValidChildren (numbered (s .args .s)) n) (s .args .k))) (c .before .before .u16-at3 .ensures .0) ∙ ap (λ (o : Option (List (List Fact))). br ++ orNone (childIn o (s .args .k))) (sym (l-valid-child (s .pre .0) e))
 
 same-length-4 : tie.Need-same-length-4
 same-length-4 c = search needs
@@ -179,7 +179,7 @@ returns-4 c =
     let s = c .before .before .before .before .before .before .before .before in
     let br = branchOf (now (s .args .work)) (s .args .count) in
     let e = sym (c .before .before .before .before .before .match .keys4) ∙ c .before .before .before .before .before .before .u16-at .ensures .0 in
-    c .before .put-c-inj .ensures ∙ ap₂ (λ (m n : ℕ). br ++ orNone (childAt (cInjChildren (numbered (s .args .s)) m n) (s .args .k))) (c .before .before .before .u16-at4 .ensures .0) (c .before .before .u16-at5 .ensures .0) ∙ ap (λ (o : Option (List (List Fact))). br ++ orNone (nth o (s .args .k))) (sym (c-inj-child (s .pre .0) (fit s) e))
+    c .before .put-c-inj .ensures ∙ ap₂ (λ (m n : ℕ). br ++ orNone (childAt (cInjChildren (numbered (s .args .s)) m n) (s .args .k))) (c .before .before .before .u16-at4 .ensures .0) (c .before .before .u16-at5 .ensures .0) ∙ ap (λ (o : Option (List (List Fact))). br ++ orNone (childIn o (s .args .k))) (sym (c-inj-child (s .pre .0) (fit s) e))
 
 same-length-5 : tie.Need-same-length-5
 same-length-5 c = search needs
@@ -189,7 +189,7 @@ returns-5 c =
     let s = c .before .before .before .before .before .before in
     let br = branchOf (now (s .args .work)) (s .args .count) in
     let e = card-rule (c .before .before .before) in
-    c .before .put-card .ensures ∙ ap (λ (o : Option (List (List Fact))). br ++ orNone (nth o (s .args .k))) (sym (card-child (s .pre .0) (fit s) e))
+    c .before .put-card .ensures ∙ ap (λ (o : Option (List (List Fact))). br ++ orNone (childIn o (s .args .k))) (sym (card-child (s .pre .0) (fit s) e))
 
 pub put-fact-spec : {M : Type 1} → statement M
 put-fact-spec =

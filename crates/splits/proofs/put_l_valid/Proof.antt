@@ -6,11 +6,11 @@ use lib.IntN.{ℤ}
 use mathlib.Core.List.{List, [], _∷_, _++_}
 use mathlib.Core.Path.{_∙_, _≡_, ap, sym}
 use native.Mathlib.Omega.{arith}
-use Rattle.calculus.specs.Rows.{column, less}
+use Rattle.calculus.specs.LinearForms.{column, above}
 use Rattle.calculus.specs.Facts.{Fact, isLiteral, arithmetic, ge}
 use Rattle.question.specs.Columns.{columnAt}
 use Rattle.rows.specs.Rows.{branchOf}
-use Rattle.rows.proofs.Forms.{less-column}
+use Rattle.rows.proofs.Forms.{above-column}
 use Rattle.splits.proofs.Forms.{child-one, child-two}
 use Rattle.splits.proofs.put_l_valid.Statement.{statement}
 use Rattle.splits.proofs.put_l_valid.Tie as tie
@@ -25,7 +25,7 @@ returns : tie.Need-returns
 returns c =
     let s = c .before .before .before .before in
     c .before .put-string .ensures
-    ∙ ap (λ (l : List Fact). branchOf (now (s .args .work)) (s .args .count) ++ l) (child-one (isLiteral (s .args .x) 0 ∷ []) ((arithmetic ge (less (column (s .args .s .q + s .args .x))) ∷ []) ∷ []) (s .args .k) (c .before .before .before .if1 .taken))
+    ∙ ap (λ (l : List Fact). branchOf (now (s .args .work)) (s .args .count) ++ l) (child-one (isLiteral (s .args .x) 0 ∷ []) ((arithmetic ge (above (column (s .args .s .q + s .args .x))) ∷ []) ∷ []) (s .args .k) (c .before .before .before .if1 .taken))
 
 column-of-requires : tie.Need-column-of-requires
 column-of-requires c κs = search needs
@@ -44,9 +44,9 @@ returns-2 c =
     let e : s .args .k ≡ 2 = omega (arith, s .pre .1, c .before .before .before .before .if1 .left) in
     let j = c .before .before .column-of in
     c .before .put-single .ensures
-    ∙ ap (λ (l : List ℤ). br ++ (arithmetic ge l ∷ [])) (sym (less-column (j .result) (j .ensures .1)))
-    ∙ ap (λ (i : ℕ). br ++ (arithmetic ge (less (column i)) ∷ [])) (j .ensures .0)
-    ∙ ap (λ (l : List Fact). br ++ l) (child-two (isLiteral (s .args .x) 0 ∷ []) (arithmetic ge (less (column (s .args .s .q + s .args .x))) ∷ []) [] (s .args .k) e)
+    ∙ ap (λ (l : List ℤ). br ++ (arithmetic ge l ∷ [])) (sym (above-column (j .result) (j .ensures .1)))
+    ∙ ap (λ (i : ℕ). br ++ (arithmetic ge (above (column i)) ∷ [])) (j .ensures .0)
+    ∙ ap (λ (l : List Fact). br ++ l) (child-two (isLiteral (s .args .x) 0 ∷ []) (arithmetic ge (above (column (s .args .s .q + s .args .x))) ∷ []) [] (s .args .k) e)
 
 pub put-l-valid-spec : {M : Type 1} → statement M
 put-l-valid-spec =

@@ -6,7 +6,7 @@ use mathlib.Core.Bool.{true}
 use Prim.Native.Nat.{ℕ, _+_, _≤_}
 use denote.Ref.{now}
 use Rattle.format.specs.Fields.{u16s}
-use Rattle.format.specs.StepForms.{Rule, ruleOf, formFor, variables, operandsInRange, rule}
+use Rattle.format.specs.StepForms.{Rule, ruleOf, formFor, areVariables, operandsInRange, rule}
 use Rattle.format.proofs.Decoded.{at-least}
 use Rattle.steps.proofs.Table.{least-four, fits-by, unnamed, between, beyond}
 use Rattle.steps.proofs.Loops.{two-variables}
@@ -95,7 +95,7 @@ returns-4 : tie.Need-returns-4
 unfolding operandsInRange
 returns-4 c =
     let s = c .before .before .before .before in
-    c .variables-below .ensures ∙ ap (variables (s .args .p)) (two-variables (now (s .args .b)) (s .args .at) 4) ∙ ap (λ (j : ℕ). operandsInRange (now (s .args .b)) (s .args .p) (s .args .c) (ruleOf j) (s .args .at) (s .args .size)) (sym (c .before .match .keys5) ∙ c .before .before .u16-at .ensures .0)
+    c .variables-below .ensures ∙ ap (areVariables (s .args .p)) (two-variables (now (s .args .b)) (s .args .at) 4) ∙ ap (λ (j : ℕ). operandsInRange (now (s .args .b)) (s .args .p) (s .args .c) (ruleOf j) (s .args .at) (s .args .size)) (sym (c .before .match .keys5) ∙ c .before .before .u16-at .ensures .0)
 
 returns-5 : tie.Need-returns-5
 unfolding operandsInRange
@@ -108,7 +108,7 @@ unfolding operandsInRange u16s
 returns-6 c =
     let s = c .before .before .before .before .before .before .before in
     c .variables-below3 .ensures
-    ∙ between (λ (j : ℕ). variables (s .args .p) (u16s (now (s .args .b)) (s .args .at + 4) 1) ≡ operandsInRange (now (s .args .b)) (s .args .p) (s .args .c) (ruleOf j) (s .args .at) (s .args .size)) 4 7 (c .before .before .before .before .before .u16-at .result) (refl, (refl, (refl, (refl, tt)))) (beyond 6 _ (c .before .before .if2 .left) (c .before .before .before .before .match .rest .0 .0 .1)) (c .before .if3 .taken)
+    ∙ between (λ (j : ℕ). areVariables (s .args .p) (u16s (now (s .args .b)) (s .args .at + 4) 1) ≡ operandsInRange (now (s .args .b)) (s .args .p) (s .args .c) (ruleOf j) (s .args .at) (s .args .size)) 4 7 (c .before .before .before .before .before .u16-at .result) (refl, (refl, (refl, (refl, tt)))) (beyond 6 _ (c .before .before .if2 .left) (c .before .before .before .before .match .rest .0 .0 .1)) (c .before .if3 .taken)
     ∙ ap (λ (j : ℕ). operandsInRange (now (s .args .b)) (s .args .p) (s .args .c) (ruleOf j) (s .args .at) (s .args .size)) (c .before .before .before .before .before .u16-at .ensures .0)
 
 returns-7 : tie.Need-returns-7

@@ -6,7 +6,7 @@ use Prim.Native.Nat.{_+_}
 use borrow.Author.Tests.{le-leb, lt-leb}
 use denote.Ref.{now}
 use Rattle.format.specs.Fields.{u16}
-use Rattle.format.specs.StepForms.{variables, operandsInRange}
+use Rattle.format.specs.StepForms.{areVariables, operandsInRange}
 use Rattle.steps.proofs.Loops.{two-variables}
 use Rattle.steps.proofs.s_prop_in_range.Statement.{statement}
 use Rattle.steps.proofs.s_prop_in_range.Tie as tie
@@ -32,7 +32,7 @@ returns-2 : tie.Need-returns-2
 unfolding operandsInRange
 returns-2 c =
     let s = c .before .before .before .before in
-    λ k m. c .variables-below .ensures ∙ ap (variables (s .args .p)) (two-variables (now (s .args .b)) (s .args .at) 6)
+    λ k m. c .variables-below .ensures ∙ ap (areVariables (s .args .p)) (two-variables (now (s .args .b)) (s .args .at) 6)
     ∙ sym (rw (le-leb (u16 (now (s .args .b)) (s .args .at + 4)) 1 (omega arith)))
 
 pub s-prop-in-range-spec : {M : Type 1} → statement M

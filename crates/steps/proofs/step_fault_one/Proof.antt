@@ -7,7 +7,7 @@ use borrow.Author.Tests.{eq-eqb, ne-eqb}
 use denote.Ref.{now}
 use lib.Dec.{eqb}
 use Rattle.question.specs.Posed.{asked}
-use Rattle.format.specs.StepForms.{formFor, rule, child}
+use Rattle.format.specs.StepForms.{formFor, rule, childField}
 use Rattle.format.proofs.Decoded.{at-least}
 use Rattle.steps.proofs.Table.{least-four}
 use Rattle.steps.proofs.Faults.{out-of-form, formed, by-child}
@@ -20,7 +20,7 @@ operands-fault-requires c κs = search needs
 returns : tie.Need-returns
 returns c =
     let s = c .before .before .before in
-    out-of-form (now (s .args .b)) (asked (now (s .args .b)) (s .args .s)) (eqb (child (now (s .args .b)) (s .args .at)) 0) (s .args .at) (s .args .size) _ (c .before .operands-fault .ensures) (c .if1 .taken)
+    out-of-form (now (s .args .b)) (asked (now (s .args .b)) (s .args .s)) (eqb (childField (now (s .args .b)) (s .args .at)) 0) (s .args .at) (s .args .size) _ (c .before .operands-fault .ensures) (c .if1 .taken)
 
 add-u16-at : tie.Need-add-u16-at
 add-u16-at c = search needs
@@ -35,12 +35,12 @@ u16-at-requires c κs =
 returns-2 : tie.Need-returns-2
 returns-2 c =
     let s = c .before .before .before .before .before in
-    by-child (now (s .args .b)) (asked (now (s .args .b)) (s .args .s)) (eqb (child (now (s .args .b)) (s .args .at)) 0) (s .args .at) (s .args .size) _ (sym (c .before .before .if1 .left) ∙ c .before .before .before .operands-fault .ensures) (eq-eqb _ 0 (sym (c .before .u16-at .ensures .0) ∙ c .if2 .taken))
+    by-child (now (s .args .b)) (asked (now (s .args .b)) (s .args .s)) (eqb (childField (now (s .args .b)) (s .args .at)) 0) (s .args .at) (s .args .size) _ (sym (c .before .before .if1 .left) ∙ c .before .before .before .operands-fault .ensures) (eq-eqb _ 0 (sym (c .before .u16-at .ensures .0) ∙ c .if2 .taken))
 
 returns-3 : tie.Need-returns-3
 returns-3 c =
     let s = c .before .before .before .before .before in
-    by-child (now (s .args .b)) (asked (now (s .args .b)) (s .args .s)) (eqb (child (now (s .args .b)) (s .args .at)) 0) (s .args .at) (s .args .size) _ (sym (c .before .before .if1 .left) ∙ c .before .before .before .operands-fault .ensures) (ne-eqb _ 0 (λ e. c .if2 .left (c .before .u16-at .ensures .0 ∙ e)))
+    by-child (now (s .args .b)) (asked (now (s .args .b)) (s .args .s)) (eqb (childField (now (s .args .b)) (s .args .at)) 0) (s .args .at) (s .args .size) _ (sym (c .before .before .if1 .left) ∙ c .before .before .before .operands-fault .ensures) (ne-eqb _ 0 (λ e. c .if2 .left (c .before .u16-at .ensures .0 ∙ e)))
 
 pub step-fault-one-spec : {M : Type 1} → statement M
 step-fault-one-spec =

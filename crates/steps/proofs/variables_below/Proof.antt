@@ -5,13 +5,13 @@ use mathlib.Core.Path.{_≡_, _∙_, sym}
 use Prim.Native.Nat.{_+_, _*_, _≤_}
 use lib.ListN.{length}
 use Rattle.format.specs.Fields.{u16s}
-use Rattle.format.specs.StepForms.{variables}
+use Rattle.format.specs.StepForms.{areVariables}
 use Rattle.steps.proofs.Loops.{variables-done, variables-yes, variables-no}
 use Rattle.steps.proofs.variables_below.Statement.{statement}
 use Rattle.steps.proofs.variables_below.Tie as tie
 
 abbrev Inv-loop : tie.InvT-loop
-Inv-loop b p at count i₀ left₀ i left = (i + 2 * left ≤ length b) × (variables p (u16s b i left) ≡ variables p (u16s b at count))
+Inv-loop b p at count i₀ left₀ i left = (i + 2 * left ≤ length b) × (areVariables p (u16s b i left) ≡ areVariables p (u16s b at count))
 
 abbrev μ-loop : tie.MeasureT-loop
 μ-loop b p at count i₀ left₀ i left = left

@@ -13,8 +13,8 @@ use Rattle.answer.proofs.Written.{length-row}
 use Rattle.answer.specs.Table.{row}
 use Rattle.calculus.specs.Facts.{len}
 use Rattle.calculus.specs.Limits.{lengthLimit}
-use Rattle.calculus.specs.Model.{modelOf}
-use Rattle.calculus.specs.SaturationTest.{lowestVar}
+use Rattle.calculus.specs.Model.{modelValue}
+use Rattle.calculus.specs.SaturationTest.{lowestVariable}
 use Rattle.calculus.specs.Strings.{freshFrom}
 use Rattle.leaf.specs.Leaf.{asked}
 use Rattle.strings.proofs.Table.{completed-copied, completed-fresh, completed-own, row-again, sized-none, sized-some}
@@ -23,30 +23,30 @@ use Rattle.strings.proofs.complete.Statement.{statement}
 use Rattle.strings.proofs.complete.Tie as tie
 
 -- the length of x without its sign
-size-is : (c : tie.After-magnitude) → c .magnitude .result ≡ natAbs (modelOf (asked [] (c .before .before .before .before .before .before .before .args .leaf)) (now (c .before .before .before .before .before .before .before .args .model)) len (c .before .before .before .before .before .before .before .args .x))
+size-is : (c : tie.After-magnitude) → c .magnitude .result ≡ natAbs (modelValue (asked [] (c .before .before .before .before .before .before .before .args .leaf)) (now (c .before .before .before .before .before .before .before .args .model)) len (c .before .before .before .before .before .before .before .args .x))
 size-is c = c .magnitude .ensures ∙ ap natAbs (toZ-ofZ (record { sfits = c .before .len-of .ok }) ∙ c .before .len-of .ensures)
 
 -- the string of the lowest variable of the class
-copied : (c : tie.After-row-of) → take (getD (c .before .before .before .before .before .before .before .args .t4) (c .before .before .before .lowest-var .result) 0) (c .row-of .result)
-    ≡ completed (c .before .before .before .before .before .before .before .args .leaf .n) (c .before .before .before .before .before .before .before .args .leaf .p) (c .before .before .before .before .before .before .before .args .leaf .labels) (natAbs (modelOf (asked [] (c .before .before .before .before .before .before .before .args .leaf)) (now (c .before .before .before .before .before .before .before .args .model)) len (c .before .before .before .before .before .before .before .args .x))) (now (c .before .before .before .before .before .before .before .args .characters)) (c .before .before .before .before .before .before .before .args .t4) (c .before .before .before .before .before .before .before .args .x)
+copied : (c : tie.After-row-of) → take (getD (c .before .before .before .before .before .before .before .args .t4) (c .before .before .before .lowest-variable .result) 0) (c .row-of .result)
+    ≡ completed (c .before .before .before .before .before .before .before .args .leaf .n) (c .before .before .before .before .before .before .before .args .leaf .p) (c .before .before .before .before .before .before .before .args .leaf .labels) (natAbs (modelValue (asked [] (c .before .before .before .before .before .before .before .args .leaf)) (now (c .before .before .before .before .before .before .before .args .model)) len (c .before .before .before .before .before .before .before .args .x))) (now (c .before .before .before .before .before .before .before .args .characters)) (c .before .before .before .before .before .before .before .args .t4) (c .before .before .before .before .before .before .before .args .x)
 copied c =
     let s = c .before .before .before .before .before .before .before .args in
     let cs = now (s .characters) in
-    let low = lowestVar (s .leaf .labels) (s .x) in
-    let first = c .before .before .before .lowest-var .result in
-    let e : first ≡ low = c .before .before .before .lowest-var .ensures in
+    let low = lowestVariable (s .leaf .labels) (s .x) in
+    let first = c .before .before .before .lowest-variable .result in
+    let e : first ≡ low = c .before .before .before .lowest-variable .ensures in
     let k : first < s .x = c .before .before .if2 .taken in
     c .row-of .ensures ∙ ap (λ (y : ℕ). row cs y (getD (s .t4) y 0)) e
     ∙ sym (completed-copied (s .leaf .n) (s .leaf .p) (s .leaf .labels) _ cs (s .t4) (s .x) (sized-none _ _ (c .before .before .before .before .before .if1 .left)) (omega arith))
 
 -- the first string that is not given
 new : (c : tie.After-fresh) → take (c .before .before .magnitude .result) (c .fresh .result)
-    ≡ completed (c .before .before .before .before .before .before .before .before .before .args .leaf .n) (c .before .before .before .before .before .before .before .before .before .args .leaf .p) (c .before .before .before .before .before .before .before .before .before .args .leaf .labels) (natAbs (modelOf (asked [] (c .before .before .before .before .before .before .before .before .before .args .leaf)) (now (c .before .before .before .before .before .before .before .before .before .args .model)) len (c .before .before .before .before .before .before .before .before .before .args .x))) (now (c .before .before .before .before .before .before .before .before .before .args .characters)) (c .before .before .before .before .before .before .before .before .before .args .t4) (c .before .before .before .before .before .before .before .before .before .args .x)
+    ≡ completed (c .before .before .before .before .before .before .before .before .before .args .leaf .n) (c .before .before .before .before .before .before .before .before .before .args .leaf .p) (c .before .before .before .before .before .before .before .before .before .args .leaf .labels) (natAbs (modelValue (asked [] (c .before .before .before .before .before .before .before .before .before .args .leaf)) (now (c .before .before .before .before .before .before .before .before .before .args .model)) len (c .before .before .before .before .before .before .before .before .before .args .x))) (now (c .before .before .before .before .before .before .before .before .before .args .characters)) (c .before .before .before .before .before .before .before .before .before .args .t4) (c .before .before .before .before .before .before .before .before .before .args .x)
 new c =
     let s = c .before .before .before .before .before .before .before .before .before .args in
     let cs = now (s .characters) in
-    let e : c .before .before .before .before .before .lowest-var .result ≡ lowestVar (s .leaf .labels) (s .x) = c .before .before .before .before .before .lowest-var .ensures in
-    let k : s .x ≤ c .before .before .before .before .before .lowest-var .result = c .before .before .before .before .if2 .left in
+    let e : c .before .before .before .before .before .lowest-variable .result ≡ lowestVariable (s .leaf .labels) (s .x) = c .before .before .before .before .before .lowest-variable .ensures in
+    let k : s .x ≤ c .before .before .before .before .before .lowest-variable .result = c .before .before .before .before .if2 .left in
     c .fresh .ensures
     ∙ ap (λ (m : ℕ). freshFrom (s .leaf .p) (s .leaf .n) m (givenStrings cs (s .t4) (s .leaf .p)) 0) (size-is (c .before .before))
     ∙ sym (completed-fresh (s .leaf .n) (s .leaf .p) (s .leaf .labels) _ cs (s .t4) (s .x) (sized-none _ _ (c .before .before .before .before .before .before .before .if1 .left)) (omega arith))
@@ -63,14 +63,14 @@ returns c =
     let cs = now (s .characters) in
     let own = getD (s .t4) (s .x) 0 in
     let h : own ≤ 64 = c .if1 .taken in
-    let r : row cs (s .x) own ≡ completed (s .leaf .n) (s .leaf .p) (s .leaf .labels) (natAbs (modelOf (asked [] (s .leaf)) (now (s .model)) len (s .x))) cs (s .t4) (s .x) =
+    let r : row cs (s .x) own ≡ completed (s .leaf .n) (s .leaf .p) (s .leaf .labels) (natAbs (modelValue (asked [] (s .leaf)) (now (s .model)) len (s .x))) cs (s .t4) (s .x) =
     sym (completed-own (s .leaf .n) (s .leaf .p) (s .leaf .labels) _ cs (s .t4) (s .x) (row cs (s .x) own) (sized-some own (drop (lengthLimit * s .x) cs) h)) in (
       sym (ap (λ (w : List ℕ). sets cs (lengthLimit * s .x) w) (sym r) ∙ row-again cs (s .x) own h (omega arith)),
       (sym (length-row cs (s .x) own h (omega arith)) ∙ ap length r, h),
     )
 
-lowest-var-requires : tie.Need-lowest-var-requires
-lowest-var-requires c κs = search needs
+lowest-variable-requires : tie.Need-lowest-variable-requires
+lowest-variable-requires c κs = search needs
 
 mul-size : tie.Need-mul-size
 mul-size c = search needs
@@ -81,13 +81,13 @@ array-read-size c = search needs
 row-of-requires : tie.Need-row-of-requires
 row-of-requires c κs =
     let s = c .before .before .before .before .before .before in
-    let e : c .before .before .lowest-var .result < s .args .x = c .before .if2 .taken in
-    (omega arith, s .pre .1 .1 (c .before .before .lowest-var .result) e, omega arith)
+    let e : c .before .before .lowest-variable .result < s .args .x = c .before .if2 .taken in
+    (omega arith, s .pre .1 .1 (c .before .before .lowest-variable .result) e, omega arith)
 
 store-requires : tie.Need-store-requires
 store-requires c κs =
     let s = c .before .before .before .before .before .before .before .before in
-    (omega arith, s .pre .1 .1 (c .before .before .before .before .lowest-var .result) (c .before .before .before .if2 .taken), omega arith)
+    (omega arith, s .pre .1 .1 (c .before .before .before .before .lowest-variable .result) (c .before .before .before .if2 .taken), omega arith)
 
 same-length : tie.Need-same-length
 same-length c = search needs
@@ -96,7 +96,7 @@ returns-2 : tie.Need-returns-2
 returns-2 c =
     let r = c .before .before .before .before in
     let s = r .before .before .before .before .before .before .before in
-    let h = s .pre .1 .1 (r .before .before .before .lowest-var .result) (r .before .before .if2 .taken) in
+    let h = s .pre .1 .1 (r .before .before .before .lowest-variable .result) (r .before .before .if2 .taken) in
     let n : length (r .row-of .result) ≡ 64 = r .row-of .ok .1 .0 .1 in (
       c .before .before .store .ensures ∙ ap (λ (w : List ℕ). sets (now (s .args .characters)) (lengthLimit * s .args .x) w) (copied r),
       (sym (length-take-le _ (r .row-of .result) (omega (arith, h, n))) ∙ ap length (copied r), h),
@@ -138,7 +138,7 @@ complete-spec =
     mul-own
     array-read-own
     returns
-    lowest-var-requires
+    lowest-variable-requires
     mul-size
     array-read-size
     row-of-requires

@@ -9,7 +9,7 @@ use mathlib.Core.Option.{some}
 use mathlib.Core.Path.{_∙_, _≡_, ap, sym}
 use mir.Facts.{toZ-ofZ}
 use native.Mathlib.Omega.{arith}
-use Rattle.calculus.specs.Rows.{eqℤ}
+use Rattle.calculus.specs.LinearForms.{eqℤ}
 use Rattle.calculus.specs.Strings.{oneChar}
 use Rattle.leaf.proofs.Signed.{equal-read}
 use Rattle.strings.proofs.Table.{first-put, sized-none, sized-some}

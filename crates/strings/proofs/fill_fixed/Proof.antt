@@ -11,8 +11,8 @@ use mir.Syntax.{w64}
 use mir.Val.{ofZ, toZ}
 use native.Mathlib.Numerals.{add-one}
 use native.Mathlib.Omega.{arith}
-use Rattle.calculus.specs.Classes.{lowest}
-use Rattle.calculus.specs.Rows.{eqℤ}
+use Rattle.calculus.specs.Classes.{lowestLiteral}
+use Rattle.calculus.specs.LinearForms.{eqℤ}
 use Rattle.calculus.specs.Strings.{oneChar}
 use Rattle.classes.specs.Classes.{literalOf}
 use Rattle.format.proofs.Fields.{length-u32s}
@@ -26,11 +26,11 @@ use Rattle.strings.proofs.fill_fixed.Statement.{statement}
 use Rattle.strings.proofs.fill_fixed.Tie as tie
 
 -- the literal that was found
-found-is : (c : tie.After-known-told) → lowest (c .before .before .before .before .before .before .before .before .args .leaf .labels) (c .before .before .before .before .before .before .before .before .args .x) 0 (suc (length (texts (now (c .before .before .before .before .before .before .before .before .args .ticket)) (c .before .before .before .before .before .before .before .before .args .leaf .literals) literalsFrom))) ≡ some (c .before .found .given .0 .0)
+found-is : (c : tie.After-known-told) → lowestLiteral (c .before .before .before .before .before .before .before .before .args .leaf .labels) (c .before .before .before .before .before .before .before .before .args .x) 0 (suc (length (texts (now (c .before .before .before .before .before .before .before .before .args .ticket)) (c .before .before .before .before .before .before .before .before .args .leaf .literals) literalsFrom))) ≡ some (c .before .found .given .0 .0)
 unfolding literalOf
 found-is c =
     let s = c .before .before .before .before .before .before .before .before .args in
-    ap (λ (m : ℕ). lowest (s .leaf .labels) (s .x) 0 m) (ap suc (length-texts (now (s .ticket)) (s .leaf .literals) literalsFrom) ∙ sym (add-one (s .leaf .literals)))
+    ap (λ (m : ℕ). lowestLiteral (s .leaf .labels) (s .x) 0 m) (ap suc (length-texts (now (s .ticket)) (s .leaf .literals) literalsFrom) ∙ sym (add-one (s .leaf .literals)))
     ∙ sym (c .before .before .before .class-literal .ensures) ∙ ap literalOf (c .before .found .given .1)
 
 -- it is one of the question's
@@ -108,8 +108,8 @@ unfolding literalOf
 returns-2 c =
     let s = c .before .before .before .before .before .before .before .before .before .before .before .before .before .args in
     let b = now (s .ticket) in
-    let e : lowest (s .leaf .labels) (s .x) 0 (suc (length (texts b (s .leaf .literals) literalsFrom))) ≡ none =
-    ap (λ (m : ℕ). lowest (s .leaf .labels) (s .x) 0 m) (ap suc (length-texts b (s .leaf .literals) literalsFrom) ∙ sym (add-one (s .leaf .literals)))
+    let e : lowestLiteral (s .leaf .labels) (s .x) 0 (suc (length (texts b (s .leaf .literals) literalsFrom))) ≡ none =
+    ap (λ (m : ℕ). lowestLiteral (s .leaf .labels) (s .x) 0 m) (ap suc (length-texts b (s .leaf .literals) literalsFrom) ∙ sym (add-one (s .leaf .literals)))
     ∙ sym (c .before .before .before .before .before .before .before .before .class-literal .ensures) ∙ ap literalOf (c .before .before .before .before .before .before .enum-told .given .1) in
     c .before .before .fill-character .ensures
     ∙ ap₂ (λ (z w : ℤ). oneChar (eqℤ z (pos 1)) w) (toZ-ofZ (record { sfits = c .before .before .before .before .before .len-of .ok }) ∙ c .before .before .before .before .before .len-of .ensures) (toZ-ofZ (record { sfits = c .before .before .before .before .code-of .ok }) ∙ c .before .before .before .before .code-of .ensures)

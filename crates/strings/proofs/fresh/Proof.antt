@@ -9,7 +9,6 @@ use mathlib.Core.Bool.{false, true}
 use mathlib.Core.List.{List}
 use mathlib.Core.Path.{_∙_, _≡_, ap, refl, sym}
 use native.Mathlib.Omega.{arith}
-use Rattle.calculus.specs.Rows.{less}
 use Rattle.calculus.specs.Strings.{freshFrom, given, word}
 use Rattle.strings.proofs.Words.{fresh-done, fresh-no, fresh-yes}
 use Rattle.strings.specs.Filling.{givenStrings}

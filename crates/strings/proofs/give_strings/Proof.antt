@@ -5,13 +5,12 @@ use denote.Ref.{now}
 use lib.IntN.{natAbs}
 use lib.ListN.{getD, length, length-set, set}
 use mathlib.Core.List.{List, []}
-use mathlib.Core.Option.{some}
 use mathlib.Core.Path.{_∙_, _≡_, ap, refl, subst, sym}
 use native.Mathlib.Omega.{arith}
 use Rattle.calculus.specs.Classes.{labels}
 use Rattle.calculus.specs.Facts.{Branch, len}
 use Rattle.calculus.specs.Limits.{lengthLimit, variableLimit}
-use Rattle.calculus.specs.Model.{modelOf}
+use Rattle.calculus.specs.Model.{modelValue}
 use Rattle.format.specs.Checking.{room}
 use Rattle.leaf.specs.Leaf.{asked}
 use Rattle.strings.proofs.Rounds.{Filled, completed-is, round-done, round-more, round-start, short-length, sizes-more}
@@ -85,7 +84,7 @@ loop-again c =
       sizes-more (l .sizes) (l .x) (r .result) (omega arith) (l .inv .5) (r .ensures .1 .1),
       λ b e. subst (λ (cs : List ℕ). Filled u b m cs (set (l .sizes) (l .x) (r .result)) (l .x + 1)) (sym (r .ensures .0))
           (round-more u b m (l .characters) (l .sizes) (l .x) h (l .inv .6 b e) (r .result) _ (r .ensures .1 .0) (r .ensures .1 .1) (omega arith) room
-          (ap (λ (ls : List ℕ). completed (s .leaf .n) (s .leaf .p) ls (natAbs (modelOf u m len (l .x))) (l .characters) (l .sizes) (l .x)) e
+          (ap (λ (ls : List ℕ). completed (s .leaf .n) (s .leaf .p) ls (natAbs (modelValue u m len (l .x))) (l .characters) (l .sizes) (l .x)) e
           ∙ completed-is u b m (l .characters) (l .sizes) (l .x) h (l .inv .6 b e))),
     )
 

@@ -13,11 +13,11 @@ use mir.Facts.{toZ-ofZ}
 use mir.Syntax.{w64}
 use mir.Val.{SFits, ofZ, toZ}
 use native.Mathlib.Omega.{arith}
-use Rattle.calculus.specs.Rows.{eqRow, floorDiv}
+use Rattle.calculus.specs.LinearForms.{eqIntegers, floorDiv}
 use Rattle.calculus.specs.Rules.{divided}
 use Rattle.integers.proofs.Machine.{back-fits, div-need}
 use Rattle.lists.proofs.Filled.{filled-all, filled-more, kept-at, kept-more}
-use Rattle.rows.proofs.Tested.{eqRow-done, eqRow-fails, eqRow-on, eqℤ-no, eqℤ-yes}
+use Rattle.rows.proofs.Tested.{eqIntegers-done, eqIntegers-fails, eqIntegers-on, eqℤ-no, eqℤ-yes}
 use Rattle.sums.proofs.Division.{divided-no, divided-yes, exact-no, exact-yes, length-multiples, length-partly, multiple-number, multiples, partly, partly-constant, partly-first, partly-number, partly-whole, positive-is}
 use Rattle.sums.specs.Sums.{geRow, rowIn}
 use Rattle.sums.proofs.divide.Statement.{statement}
@@ -30,7 +30,7 @@ Inv-loop row₀ d j₀ row j =
     × (length row ≡ 50)
     × (take j row ≡ take j (partly row₀ (natAbs (toZ w64 d))))
     × (drop j row ≡ drop j row₀)
-    × (eqRow (drop j (multiples row₀ (natAbs (toZ w64 d)))) (drop j row₀) ≡ eqRow (drop 2 (multiples row₀ (natAbs (toZ w64 d)))) (drop 2 row₀))
+    × (eqIntegers (drop j (multiples row₀ (natAbs (toZ w64 d)))) (drop j row₀) ≡ eqIntegers (drop 2 (multiples row₀ (natAbs (toZ w64 d)))) (drop 2 row₀))
 
 abbrev μ-loop : tie.MeasureT-loop
 μ-loop row₀ d j₀ row j = 50 - j
@@ -128,7 +128,7 @@ returns c =
     let g = length-multiples (row p) (k p) in
     let e = eqℤ-no (getD (multiples (row p) (k p)) (l .j) (pos 0)) (getD (row p) (l .j) (pos 0))
     (λ e. exact-no (x p) (k p) (bound (s p)) (inexact c) (ap (λ (z : ℤ). pos (k p) *ℤ floorDiv z (k p)) (was p) ∙ sym (multiple-number (row p) (k p) (l .j) (omega arith)) ∙ e ∙ sym (was p))) in
-    let f : eqRow (drop 2 (multiples (row p) (k p))) (drop 2 (row p)) ≡ false = sym (l .inv .5) ∙ eqRow-fails (multiples (row p) (k p)) (row p) (l .j) (omega arith) (omega arith) e in
+    let f : eqIntegers (drop 2 (multiples (row p) (k p))) (drop 2 (row p)) ≡ false = sym (l .inv .5) ∙ eqIntegers-fails (multiples (row p) (k p)) (row p) (l .j) (omega arith) (omega arith) e in
     sym (ap (λ (d : ℤ). geRow (divided (natAbs d) (drop 1 (row p)))) (sym (plain (s p))) ∙ ap geRow (divided-no (row p) (k p) h f))
 
 mul-q : tie.Need-mul-q Inv-loop μ-loop
@@ -159,7 +159,7 @@ loop-again c =
       filled-more (l .row) (partly (row p) (k p)) (l .j) _ (pos 0) (omega arith) (omega arith) (l .inv .3)
           (quotient-is p ∙ r ∙ ap (λ (z : ℤ). floorDiv z (k p)) (was p) ∙ sym (partly-number (row p) (k p) (l .j) (omega arith) (omega arith))),
       kept-more (l .row) (row p) (l .j) _ (l .inv .4),
-      eqRow-on (multiples (row p) (k p)) (row p) (l .j) (omega arith) (omega arith) e ∙ l .inv .5,
+      eqIntegers-on (multiples (row p) (k p)) (row p) (l .j) (omega arith) (omega arith) e ∙ l .inv .5,
     )
 
 slice-copy-out-c : tie.Need-slice-copy-out-c Inv-loop μ-loop
@@ -183,7 +183,7 @@ returns-2 c =
     let h = s .pre .1 in
     let m = n s in
     let g = length-multiples row m in
-    let f : eqRow (drop 2 (multiples row m)) (drop 2 row) ≡ true = sym (l .inv .5) ∙ eqRow-done (multiples row m) row (l .j) (omega arith) (omega arith) in
+    let f : eqIntegers (drop 2 (multiples row m)) (drop 2 row) ≡ true = sym (l .inv .5) ∙ eqIntegers-done (multiples row m) row (l .j) (omega arith) (omega arith) in
     let fc : SFits w64 (getD (l .row) 1 (pos 0)) = record { sfits = c .before .c .given } in
     let fq : SFits w64 (c .floor-div .result) = record { sfits = c .floor-div .ok } in
     let q : toZ w64 (ofZ w64 (c .floor-div .result)) ≡ floorDiv (getD row 1 (pos 0)) m =

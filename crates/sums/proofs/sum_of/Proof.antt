@@ -14,7 +14,7 @@ use mir.Syntax.{w64}
 use mir.Val.{SFits, ofZ, toZ}
 use native.Mathlib.Nat.{le-trans}
 use native.Mathlib.Omega.{arith}
-use Rattle.calculus.specs.Rows.{zeros}
+use Rattle.calculus.specs.LinearForms.{zeros}
 use Rattle.calculus.specs.Rules.{sumOf, summand}
 use Rattle.calculus.specs.Limits.{numberLimit}
 use Rattle.format.specs.Checking.{fits}

@@ -1,15 +1,15 @@
--- `classes::lowest_var` meets its contract.
+-- `classes::lowest_variable` meets its contract.
 use Prim.Native.Nat.{_+_}
 use borrow.Author.Needs.{needs}
 use mathlib.Core.Path.{_∙_, _≡_, refl, sym}
 use native.Mathlib.Omega.{arith}
-use Rattle.calculus.specs.SaturationTest.{lowestFrom, lowestVar}
+use Rattle.calculus.specs.SaturationTest.{lowestFrom, lowestVariable}
 use Rattle.classes.proofs.Laws.{first-done, first-no, first-yes}
-use Rattle.classes.proofs.lowest_var.Statement.{statement}
-use Rattle.classes.proofs.lowest_var.Tie as tie
+use Rattle.classes.proofs.lowest_variable.Statement.{statement}
+use Rattle.classes.proofs.lowest_variable.Tie as tie
 
 abbrev Inv-loop : tie.InvT-loop
-Inv-loop labels x y₀ left₀ y left = (y + left ≡ x) × (lowestFrom left labels x y ≡ lowestVar labels x)
+Inv-loop labels x y₀ left₀ y left = (y + left ≡ x) × (lowestFrom left labels x y ≡ lowestVariable labels x)
 
 abbrev μ-loop : tie.MeasureT-loop
 μ-loop labels x y₀ left₀ y left = left
@@ -53,8 +53,8 @@ returns-2 c =
     let s = c .before .before .args in
     sym (first-done (s .labels) (s .x) (l .y) (l .left) (omega arith)) ∙ l .inv .1
 
-pub lowest-var-spec : {M : Type 1} → statement M
-lowest-var-spec =
+pub lowest-variable-spec : {M : Type 1} → statement M
+lowest-variable-spec =
     tie.close
     (tie.spec
     Inv-loop

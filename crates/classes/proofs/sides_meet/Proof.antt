@@ -1,4 +1,4 @@
--- `classes::apart_meet` meets its contract.
+-- `classes::sides_meet` meets its contract.
 use Prim.Native.Nat.{_-_, _≤_, ℕ}
 use borrow.Author.Needs.{needs}
 use denote.Ref.{now}
@@ -8,15 +8,15 @@ use mathlib.Core.Bool.{_||_}
 use mathlib.Core.List.{List, [], _∷_}
 use mathlib.Core.Path.{_∙_, _≡_, ap, ap₂, refl, sym}
 use native.Mathlib.Omega.{arith}
-use Rattle.calculus.specs.Classes.{apartMeet}
+use Rattle.calculus.specs.Classes.{sidesMeet}
 use Rattle.classes.proofs.Laws.{apart-snoc}
 use Rattle.rows.proofs.Branches.{branch-more, length-row}
 use Rattle.rows.specs.Rows.{branchOf, factOf, rowAt}
-use Rattle.classes.proofs.apart_meet.Statement.{statement}
-use Rattle.classes.proofs.apart_meet.Tie as tie
+use Rattle.classes.proofs.sides_meet.Statement.{statement}
+use Rattle.classes.proofs.sides_meet.Tie as tie
 
 abbrev Inv-loop : tie.InvT-loop
-Inv-loop work count labels found₀ k₀ found k = (k ≤ count) × (found ≡ apartMeet labels (branchOf work k))
+Inv-loop work count labels found₀ k₀ found k = (k ≤ count) × (found ≡ sidesMeet labels (branchOf work k))
 
 abbrev μ-loop : tie.MeasureT-loop
 μ-loop work count labels found₀ k₀ found k = count - k
@@ -28,8 +28,8 @@ loop-holds c = (omega arith, refl)
 row-at-requires : tie.Need-row-at-requires Inv-loop μ-loop
 row-at-requires c κs = search needs
 
-apart-meets-requires : tie.Need-apart-meets-requires Inv-loop μ-loop
-apart-meets-requires c κs =
+row-sides-meet-requires : tie.Need-row-sides-meet-requires Inv-loop μ-loop
+row-sides-meet-requires c κs =
     let s = c .before .before .before in
     ap length (c .row-at .ensures) ∙ length-row (now (s .args .work)) (c .before .before .loop .k) (omega arith)
 
@@ -45,8 +45,8 @@ loop-again c =
     let s = c .before .before .before .before .args in
     let w = now (s .work) in (
       omega arith,
-      ap₂ _||_ (l .inv .1) (c .apart-meets .ensures ∙ ap (λ (row : List ℤ). apartMeet (s .labels) (factOf row ∷ [])) (c .before .row-at .ensures))
-          ∙ sym (ap (apartMeet (s .labels)) (branch-more w (l .k)) ∙ apart-snoc (s .labels) (branchOf w (l .k)) (factOf (rowAt w (l .k)))),
+      ap₂ _||_ (l .inv .1) (c .row-sides-meet .ensures ∙ ap (λ (row : List ℤ). sidesMeet (s .labels) (factOf row ∷ [])) (c .before .row-at .ensures))
+          ∙ sym (ap (sidesMeet (s .labels)) (branch-more w (l .k)) ∙ apart-snoc (s .labels) (branchOf w (l .k)) (factOf (rowAt w (l .k)))),
     )
 
 returns : tie.Need-returns Inv-loop μ-loop
@@ -54,9 +54,9 @@ returns c =
     let l = c .before .loop in
     let s = c .before .before .args in
     let e : l .k ≡ s .count = omega arith in
-    l .inv .1 ∙ ap (λ (k : ℕ). apartMeet (s .labels) (branchOf (now (s .work)) k)) e
+    l .inv .1 ∙ ap (λ (k : ℕ). sidesMeet (s .labels) (branchOf (now (s .work)) k)) e
 
-pub apart-meet-spec : {M : Type 1} → statement M
-apart-meet-spec =
+pub sides-meet-spec : {M : Type 1} → statement M
+sides-meet-spec =
     tie.close
-    (tie.spec Inv-loop μ-loop loop-holds row-at-requires apart-meets-requires add-k loop-less loop-again returns)
+    (tie.spec Inv-loop μ-loop loop-holds row-at-requires row-sides-meet-requires add-k loop-less loop-again returns)

@@ -1,4 +1,4 @@
--- `rows::kind_of` meets its contract.
+-- `rows::tag_of` meets its contract.
 use Prim.Native.Nat.{_<_, ℕ}
 use borrow.Author.Needs.{needs}
 use denote.Ref.{now}
@@ -8,9 +8,9 @@ use mathlib.Core.Path.{_≡_, refl, sym}
 use mir.Syntax.{w64}
 use mir.Val.{ofZ}
 use native.Mathlib.Omega.{arith}
-use Rattle.rows.proofs.Tags.{from-bits, kind-apart, kind-eq, kind-ge, kind-literal, kind-ne, kind-same}
-use Rattle.rows.proofs.kind_of.Statement.{statement}
-use Rattle.rows.proofs.kind_of.Tie as tie
+use Rattle.rows.proofs.Tags.{from-bits, kind-not-same, kind-eq, kind-ge, kind-literal, kind-ne, kind-same}
+use Rattle.rows.proofs.tag_of.Statement.{statement}
+use Rattle.rows.proofs.tag_of.Tie as tie
 
 -- the tag that was read
 tag-is : (c : tie.After-tag) (n : ℕ) → ofZ w64 (getD (now (c .before .args .row)) 0 (pos 0)) ≡ n → n < 9223372036854775808 → getD (now (c .before .args .row)) 0 (pos 0) ≡ pos n
@@ -29,7 +29,7 @@ returns-3 : tie.Need-returns-3
 returns-3 c = sym (kind-same _ (tag-is (c .before .before .before) 3 (c .if3 .taken) (omega arith)))
 
 returns-4 : tie.Need-returns-4
-returns-4 c = sym (kind-apart _ (tag-is (c .before .before .before .before) 4 (c .if4 .taken) (omega arith)))
+returns-4 c = sym (kind-not-same _ (tag-is (c .before .before .before .before) 4 (c .if4 .taken) (omega arith)))
 
 returns-5 : tie.Need-returns-5
 returns-5 c = sym (kind-literal _ (tag-is (c .before .before .before .before .before) 5 (c .if5 .taken) (omega arith)))
@@ -37,7 +37,7 @@ returns-5 c = sym (kind-literal _ (tag-is (c .before .before .before .before .be
 returns-6 : tie.Need-returns-6
 returns-6 c = sym (kind-ne _ _ refl (c .before .before .before .before .if1 .left) (c .before .before .before .if2 .left) (c .before .before .if3 .left) (c .before .if4 .left) (c .if5 .left))
 
-pub kind-of-spec : {M : Type 1} → statement M
-kind-of-spec =
+pub tag-of-spec : {M : Type 1} → statement M
+tag-of-spec =
     tie.close
     (tie.spec shared-slice-copy-out-tag returns returns-2 returns-3 returns-4 returns-5 returns-6)

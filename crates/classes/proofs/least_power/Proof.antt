@@ -1,18 +1,17 @@
--- `classes::log_up` meets its contract.
+-- `classes::least_power` meets its contract.
 use Prim.Native.Nat.{_*_, _+_, _-_, _<_, _^_, _≤_, ℕ}
 use borrow.Author.Needs.{needs}
 use mathlib.Core.Path.{_∙_, _≡_, ap, sym}
 use native.Mathlib.Nat.{mul-le-mul, pow-suc, pow-zero}
 use native.Mathlib.Numerals.{add-one}
 use native.Mathlib.Omega.{arith}
-use Rattle.calculus.specs.Rows.{less}
-use Rattle.calculus.specs.Rules.{logUp}
+use Rattle.calculus.specs.Rules.{leastPower}
 use Rattle.classes.proofs.Laws.{log-done, log-no, log-yes}
-use Rattle.classes.proofs.log_up.Statement.{statement}
-use Rattle.classes.proofs.log_up.Tie as tie
+use Rattle.classes.proofs.least_power.Statement.{statement}
+use Rattle.classes.proofs.least_power.Tie as tie
 
 abbrev Inv-loop : tie.InvT-loop
-Inv-loop n m power₀ k₀ power k = (k ≤ m) × (power ≡ n ^ k) × (logUp (m - k) n m k ≡ logUp m n m 0)
+Inv-loop n m power₀ k₀ power k = (k ≤ m) × (power ≡ n ^ k) × (leastPower (m - k) n m k ≡ leastPower m n m 0)
 
 abbrev μ-loop : tie.MeasureT-loop
 μ-loop n m power₀ k₀ power k = m - k
@@ -21,7 +20,7 @@ loop-holds : tie.Need-loop-holds Inv-loop μ-loop
 loop-holds c =
     let m = c .args .m in
     let z : m - 0 ≡ m = omega arith in
-    (omega arith, sym (pow-zero (c .args .n)), ap (λ (i : ℕ). logUp i (c .args .n) m 0) z)
+    (omega arith, sym (pow-zero (c .args .n)), ap (λ (i : ℕ). leastPower i (c .args .n) m 0) z)
 
 returns : tie.Need-returns Inv-loop μ-loop
 returns c =
@@ -50,7 +49,7 @@ loop-again c =
     let less : s .m - l .k - 1 ≡ s .m - (l .k + 1) = omega arith in (
       omega arith,
       ap (λ (i : ℕ). i * s .n) (l .inv .1) ∙ sym (ap (λ (i : ℕ). s .n ^ i) (add-one (l .k)) ∙ pow-suc (s .n) (l .k)),
-      ap (λ (i : ℕ). logUp i (s .n) (s .m) (l .k + 1)) (sym less) ∙ sym (log-no (s .n) (s .m) (l .k) (s .m - l .k) (omega arith) (omega (arith, l .inv .1))) ∙ l .inv .2,
+      ap (λ (i : ℕ). leastPower i (s .n) (s .m) (l .k + 1)) (sym less) ∙ sym (log-no (s .n) (s .m) (l .k) (s .m - l .k) (omega arith) (omega (arith, l .inv .1))) ∙ l .inv .2,
     )
 
 returns-2 : tie.Need-returns-2 Inv-loop μ-loop
@@ -59,7 +58,7 @@ returns-2 c =
     let s = c .before .before .args in
     (sym (log-done (s .n) (s .m) (l .k) (s .m - l .k) (omega arith)) ∙ l .inv .2, omega arith)
 
-pub log-up-spec : {M : Type 1} → statement M
-log-up-spec =
+pub least-power-spec : {M : Type 1} → statement M
+least-power-spec =
     tie.close
     (tie.spec Inv-loop μ-loop loop-holds returns mul-power add-k loop-less loop-again returns-2)

@@ -1,4 +1,4 @@
--- `classes::apart_meets` meets its contract.
+-- `classes::row_sides_meet` meets its contract.
 use Prim.Native.Nat.{ℕ}
 use borrow.Author.Needs.{needs}
 use denote.Ref.{now}
@@ -6,11 +6,11 @@ use mathlib.Core.Path.{_∙_, ap₂, sym}
 use Rattle.calculus.specs.Chains.{varNode}
 use Rattle.calculus.specs.Classes.{sameClass}
 use Rattle.classes.proofs.Laws.{row-apart, row-not-apart}
-use Rattle.classes.proofs.apart_meets.Statement.{statement}
-use Rattle.classes.proofs.apart_meets.Tie as tie
+use Rattle.classes.proofs.row_sides_meet.Statement.{statement}
+use Rattle.classes.proofs.row_sides_meet.Tie as tie
 
-kind-of-requires : tie.Need-kind-of-requires
-kind-of-requires c κs = search needs
+tag-of-requires : tie.Need-tag-of-requires
+tag-of-requires c κs = search needs
 
 operand-requires : tie.Need-operand-requires
 operand-requires c κs = search needs
@@ -30,21 +30,21 @@ same-class-requires c κs = search needs
 returns : tie.Need-returns
 returns c =
     let s = c .before .before .before .before .before in
-    let k = c .before .before .before .before .kind-of in
+    let k = c .before .before .before .before .tag-of in
     c .same-class .ensures ∙ ap₂ (λ (a b : ℕ). sameClass (s .args .labels) (varNode a) (varNode b)) (c .before .before .operand .ensures .0) (c .before .operand2 .ensures .0)
     ∙ sym (row-apart (now (s .args .row)) (s .args .labels) (k .result) (k .ensures) (c .before .before .before .if1 .taken))
 
 returns-2 : tie.Need-returns-2
 returns-2 c =
     let s = c .before .before in
-    let k = c .before .kind-of in
+    let k = c .before .tag-of in
     sym (row-not-apart (now (s .args .row)) (s .args .labels) (k .result) (k .ensures) (c .if1 .left))
 
-pub apart-meets-spec : {M : Type 1} → statement M
-apart-meets-spec =
+pub row-sides-meet-spec : {M : Type 1} → statement M
+row-sides-meet-spec =
     tie.close
     (tie.spec
-    kind-of-requires
+    tag-of-requires
     operand-requires
     operand-requires-2
     mul-same-class

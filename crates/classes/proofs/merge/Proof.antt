@@ -1,4 +1,4 @@
--- `classes::join` meets its contract.
+-- `classes::merge` meets its contract.
 use Prim.Native.Nat.{ℕ}
 use borrow.Author.Needs.{needs}
 use lib.ListN.{length}
@@ -6,8 +6,8 @@ use mathlib.Core.Path.{_∙_, _≡_, ap₂}
 use native.Mathlib.Omega.{arith}
 use Rattle.calculus.specs.Classes.{relabel}
 use Rattle.classes.proofs.Laws.{getD-any}
-use Rattle.classes.proofs.join.Statement.{statement}
-use Rattle.classes.proofs.join.Tie as tie
+use Rattle.classes.proofs.merge.Statement.{statement}
+use Rattle.classes.proofs.merge.Tie as tie
 
 array-read-new : tie.Need-array-read-new
 array-read-new c = search needs
@@ -26,5 +26,5 @@ returns c =
     c .relabel .ensures
     ∙ ap₂ (λ (old new : ℕ). relabel old new ls) (getD-any ls (s .args .j) 0 (s .args .j) (omega arith)) (getD-any ls (s .args .i) 0 (s .args .i) (omega arith))
 
-pub join-spec : {M : Type 1} → statement M
-join-spec = tie.close (tie.spec array-read-new array-read-old relabel-requires returns)
+pub merge-spec : {M : Type 1} → statement M
+merge-spec = tie.close (tie.spec array-read-new array-read-old relabel-requires returns)

@@ -31,11 +31,11 @@ column j = pos 0 ∷ (zeros j ++ (pos 1 ∷ zeros (columnLimit - 1 - j)))
 abbrev pub minus : List ℤ → List ℤ → List ℤ
 minus a b = plus a (scale (negsuc 0) b)
 
--- e−1
-abbrev pub less : List ℤ → List ℤ
-less e = plus e (number (negsuc 0))
+-- e−1: at least 0 where e is above 0
+abbrev pub above : List ℤ → List ℤ
+above e = plus e (number (negsuc 0))
 
--- −e−1
+-- −e−1: at least 0 where e is below 0
 abbrev pub below : List ℤ → List ℤ
 below e = plus (scale (negsuc 0) e) (number (negsuc 0))
 
@@ -50,8 +50,8 @@ eqℤ (pos m) (negsuc n) = false
 eqℤ (negsuc m) (pos n) = false
 eqℤ (negsuc m) (negsuc n) = eqb m n
 
-abbrev pub eqRow : List ℤ → List ℤ → Bool
-eqRow a b = eqList eqℤ a b
+abbrev pub eqIntegers : List ℤ → List ℤ → Bool
+eqIntegers a b = eqList eqℤ a b
 
 abbrev pub allZero : List ℤ → Bool
 allZero a = all isZero a
@@ -61,9 +61,9 @@ abbrev pub floorDiv : ℤ → ℕ → ℤ
 floorDiv (pos a) d = pos (a / d)
 floorDiv (negsuc a) d = negsuc (a / d)
 
-abbrev pub divRow : List ℤ → ℕ → List ℤ
-divRow [] d = []
-divRow (x ∷ a) d = floorDiv x d ∷ divRow a d
+abbrev pub floorDivAll : List ℤ → ℕ → List ℤ
+floorDivAll [] d = []
+floorDivAll (x ∷ a) d = floorDiv x d ∷ floorDivAll a d
 
 -- the sum of products
 abbrev pub dot : List ℤ → List ℤ → ℤ
