@@ -2,17 +2,18 @@
 # The whole gate: `rt ci` over every listed crate, then the executed tests. The last line counts both.
 set -u
 cd "$(dirname "$0")/.."
+export CARGO_TARGET_DIR=${CARGO_TARGET_DIR:-$PWD/target/tests} NULDWICH_LIB_DIR=${NULDWICH_LIB_DIR:-$PWD/target/staticlib}
 log=$(mktemp)
 trap 'rm -f "$log"' EXIT
 passed=0 failed=0
 
-# Runs a command whose last line is 'N passed, M failed' and adds it up; anything else is one failure.
+# Runs a command whose last line is 'N passed, M failed' and adds it up; anything else, and nothing passed, is one failure.
 counted() {
     "$@" 2>&1 | tee "$log"
     local status=${PIPESTATUS[0]} good=0 bad=1
     if [[ $(tail -n 1 "$log") =~ ^([0-9]+)\ passed,\ ([0-9]+)\ failed$ ]]; then
         good=${BASH_REMATCH[1]} bad=${BASH_REMATCH[2]}
-        [ "$status" -eq 0 ] || [ "$bad" -gt 0 ] || bad=1
+        [ "$status" -eq 0 ] && [ "$good" -gt 0 ] || [ "$bad" -gt 0 ] || bad=1
     fi
     passed=$((passed + good)) failed=$((failed + bad))
 }

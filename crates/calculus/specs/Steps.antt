@@ -6,7 +6,7 @@ use lib.IntN.{ℤ}
 use Rattle.calculus.specs.Alphabet.{characterCount}
 use Rattle.calculus.specs.Facts.{Function}
 
--- the 13 rules with their operands; Split is document 01's rule Branch
+-- the 13 rules with their operands; BranchOn is document 01's rule Branch
 pub data Step : Type 0 where
   Sum : ℕ → List (ℕ × ℤ) → Step
   BranchOn : List ℤ → Step

@@ -1,4 +1,4 @@
--- What the code answers about classes, tied to the calculus: an optional literal, and S-Conf by the number of literals.
+-- What the code answers about classes, tied to the calculus: an optional literal.
 use Prim.Native.Nat.{ℕ}
 use mathlib.Core.Option.{Option, none, some}
 use Rattle.classes.specs.declared.Lowest.{Lowest}

@@ -86,13 +86,13 @@ fillCoefficients row (t ∷ ts) = fillCoefficients (set row (t .0) (t .1)) ts
 abbrev pub formOf : List ℕ → ℕ → ℕ → List ℤ
 formOf b at count = i32 b at ∷ fillCoefficients (zeros columnLimit) (pairsAt b (at + 4) count)
 
--- "4 arithmetic constraint: u16 relation (0 is ≥ 0, 1 is = 0, 2 is ≠ 0), i32 constant, then 0 to 48 pairs"; over c columns
--- any number past 2 is out of range
+-- "u16 relation (0 is ≥ 0, 1 is = 0, 2 is ≠ 0)"; any number past 2 is out of range
 abbrev pub relationOf : ℕ → Relation
 relationOf zero = ge
 relationOf (suc zero) = eq
 relationOf (suc (suc r)) = ne
 
+-- "4 arithmetic constraint: u16 relation .., i32 constant, then 0 to 48 pairs"; over c columns
 abbrev pub arithmeticFault : List ℕ → ℕ → ℕ → ℕ → ℕ
 arithmeticFault b c at m =
     need 5 (leb 6 m && (eqb (m % 6) 0 && leb (m / 6) (suc columnLimit)))

@@ -8,6 +8,7 @@ use compare::library::{reference_check, Check};
 use compare::random::Random;
 use compare::report::hex;
 use compare::{check_run, vectors};
+use nuldwich_reference::checking::ANSWER_BUFFER;
 use nuldwich_reference::records::record_at;
 use std::hint::black_box;
 use std::time::{Duration, Instant};
@@ -55,7 +56,7 @@ fn check_plain() {
 
 /// Reply and answer buffer.
 fn run(check: Check, ticket: &[u8]) -> (u64, u64, Vec<u8>) {
-    let mut answer = vec![7; 4_268];
+    let mut answer = vec![7; ANSWER_BUFFER];
     let reply = check(ticket, &mut answer);
     (reply.number, reply.record, answer)
 }
@@ -93,7 +94,7 @@ fn steps_of(ticket: &[u8]) -> usize {
 
 /// The least time of a call over many short rounds, in microseconds.
 fn microseconds(check: Check, ticket: &[u8]) -> f64 {
-    let mut answer = vec![0; 4_268];
+    let mut answer = vec![0; ANSWER_BUFFER];
     let begin = Instant::now();
     let mut best = f64::INFINITY;
     while begin.elapsed() < BUDGET {

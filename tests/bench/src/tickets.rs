@@ -1,6 +1,7 @@
 //! The tickets that are measured.
 
 use compare::writer;
+use nuldwich_reference::checking::LONGEST_TICKET;
 use nuldwich_reference::derivation::Derivation;
 use nuldwich_reference::facts::Relation::{AtLeast, Equal};
 use nuldwich_reference::facts::{Fact, Row};
@@ -103,7 +104,7 @@ pub fn wide_sums(steps: usize) -> Vec<u8> {
 
 /// As many wide Sums as a ticket's bytes allow.
 pub fn most_wide_sums() -> Vec<u8> {
-    let fitting = |steps: &usize| wide_sums(*steps).len() <= 32_768;
+    let fitting = |steps: &usize| wide_sums(*steps).len() <= LONGEST_TICKET;
     wide_sums((400..600).take_while(fitting).last().expect("400 wide Sums fit"))
 }
 

@@ -61,9 +61,13 @@ fn run_vectors(entries: &Entries, directory: &Path, report: &mut Report) {
         compare(entries, &mut random, &vector.ticket, &Sizes { work: WORK_AREA, answer: ANSWER_BUFFER }, report);
     }
     for vector in vectors::buffers(directory) {
-        let refused = reply_of(&reference(&vector.ticket, vector.work_len, vector.answer_len)).number == 1;
-        if refused != (vector.lines == "refused 1 at 0") {
-            report.fail(&format!("{}: the reference does not say {}", vector.name, vector.lines));
+        let reply = reply_of(&reference(&vector.ticket, vector.work_len, vector.answer_len));
+        let lines = match reply.number {
+            1 => "refused 1 at 0".to_string(),
+            _ => program(&vector.ticket).trim_end().replace('\n', "|"),
+        };
+        if lines != vector.lines {
+            report.fail(&format!("{}: the reference says {lines}, expected is {}", vector.name, vector.lines));
         }
         compare(
             entries,

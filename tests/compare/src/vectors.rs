@@ -44,7 +44,14 @@ pub fn tickets(directory: &Path) -> Vec<TicketVector> {
         lines: fields[1].clone(),
         answer: fields[2].clone(),
     };
-    table(&directory.join("expected.tsv")).into_iter().map(vector).collect()
+    let vectors: Vec<TicketVector> = table(&directory.join("expected.tsv")).into_iter().map(vector).collect();
+    assert_eq!(
+        vectors.len(),
+        files(directory, "ticket").len(),
+        "a ticket on file has a line in {}",
+        directory.display()
+    );
+    vectors
 }
 
 /// The vectors of `buffers.tsv`.
@@ -68,16 +75,28 @@ pub fn judgements(directory: &Path) -> Vec<JudgeVector> {
         name: fields[0].clone(),
         judgement: fields[1].clone(),
     };
-    table(&directory.join("expected.tsv")).into_iter().map(vector).collect()
+    let vectors: Vec<JudgeVector> = table(&directory.join("expected.tsv")).into_iter().map(vector).collect();
+    assert_eq!(
+        vectors.len(),
+        files(&directory, "question").len(),
+        "a question on file has a line in {}",
+        directory.display()
+    );
+    vectors
 }
 
 /// The ticket files of a directory, by name.
 pub fn examples(directory: &Path) -> Vec<(String, Vec<u8>)> {
+    files(directory, "ticket").iter().map(|path| (path.display().to_string(), read(path))).collect()
+}
+
+/// The files of a directory with an ending, by name.
+fn files(directory: &Path, ending: &str) -> Vec<PathBuf> {
     let entries = fs::read_dir(directory).unwrap_or_else(|error| panic!("{}: {error}", directory.display()));
-    let mut paths: Vec<PathBuf> = entries.map(|entry| entry.expect("an entry of the directory").path()).collect();
+    let paths = entries.map(|entry| entry.expect("an entry of the directory").path());
+    let mut paths: Vec<PathBuf> = paths.filter(|path| path.extension().is_some_and(|found| found == ending)).collect();
     paths.sort();
-    let tickets = paths.iter().filter(|path| path.extension().is_some_and(|ending| ending == "ticket"));
-    tickets.map(|path| (path.display().to_string(), read(path))).collect()
+    paths
 }
 
 /// The lines of a file, each cut at its tabs.

@@ -5,7 +5,7 @@ use compare::{vectors, writer};
 use nuldwich_reference::program;
 use std::io::Write;
 use std::path::Path;
-use std::process::{Command, ExitCode, Stdio};
+use std::process::{Command, ExitCode, Output, Stdio};
 
 fn main() -> ExitCode {
     let path = std::env::args().nth(1).expect("the program's path");
@@ -47,19 +47,20 @@ fn long_tickets() -> Vec<(&'static str, Vec<u8>)> {
 
 /// Runs the program on one ticket.
 fn compare(path: &str, name: &str, ticket: &[u8], expected: &str, report: &mut Report) {
-    let printed = run(path, ticket);
-    let difference = (printed != expected.as_bytes())
-        .then(|| format!("{name}: printed {:?}, expected {expected:?}", String::from_utf8_lossy(&printed)));
+    let output = run(path, ticket);
+    let difference = (!output.status.success() || output.stdout != expected.as_bytes()).then(|| {
+        format!("{name}: {}, printed {:?}, expected {expected:?}", output.status, String::from_utf8_lossy(&output.stdout))
+    });
     report.count(label(expected), difference);
 }
 
-/// What the program prints; it may stop reading before the end of a ticket that is too long.
-fn run(path: &str, ticket: &[u8]) -> Vec<u8> {
+/// What the program prints, and its status; it may stop reading before the end of a ticket that is too long.
+fn run(path: &str, ticket: &[u8]) -> Output {
     let mut child = Command::new(path).stdin(Stdio::piped()).stdout(Stdio::piped()).spawn().expect("the program runs");
     let mut input = child.stdin.take().expect("its standard input");
     let _ = input.write_all(ticket);
     drop(input);
-    child.wait_with_output().expect("its standard output").stdout
+    child.wait_with_output().expect("its standard output")
 }
 
 /// The outcome that a first line names.
