@@ -225,7 +225,7 @@ pub fn answer_formed(v: &[u8], p: usize, q: usize) -> bool
     tail_formed(v, q, at)
 }
 
-// Whether the count integers from a position lie within ±100,000,000.
+// Whether the count integers from a position lie within ±100,000,000: those of an answer, and the values of a model.
 pub fn integers_within(v: &[u8], at: usize, count: usize) -> bool
     requires { ⌜ at + 4 * count ≤ length (now v) ⌝ }
     ensures { λ r. ⌜ r ≡ allWithin valueLimit (i32s (now (v .entry)) at count) ⌝ }

@@ -85,7 +85,7 @@ fn at_model(
     if c != 0 {
         return Outcome::Refused(c, r + 1);
     }
-    write(ticket, settled, answer);
+    write(ticket, s, settled, answer);
     Outcome::Strings
 }
 

@@ -15,11 +15,10 @@ use Rattle.format.specs.Fields.{u16}
 use Rattle.format.specs.Records.{need, next}
 use Rattle.format.specs.Question.{stringRange, stringFact, stringFault, arithmeticFault, formRange}
 use Rattle.format.specs.Judging.{meets}
-use Rattle.format.specs.Places.{skip, literalsFrom, textAt}
+use Rattle.format.specs.Places.{textAt}
 use Rattle.format.proofs.Faults.{none-applies, and-true}
 use Rattle.question.specs.declared.Progress.{Progress}
 use Rattle.question.specs.Posed.{asked}
-use Rattle.question.proofs.Standing.{literals-within}
 use Rattle.answer.proofs.Read.{text-there}
 use Rattle.format.proofs.Places.{text-at}
 use Rattle.judging.specs.Ready.{valuesOf, Texts}
@@ -88,6 +87,3 @@ module _ (b v : List ℕ) (s : Progress) (places : List ℕ) (t : Texts b v s pl
   pub text-is : (x : ℕ) → x < s .p → textAt v (getD places x 0) ≡ str (valuesOf b v s) x
   unfolding asked
   text-is x h = ap (textAt v) (t .placed x (omega arith)) ∙ sym (text-at v x (s .p) 0 h)
-
-  pub literal-room : (l : ℕ) → l ≤ s .literals → skip b l literalsFrom ≤ length b
-  literal-room l h = literals-within b s (t .posed .to) l (t .posed .stands) (t .posed .head) h

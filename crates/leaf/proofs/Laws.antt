@@ -2,13 +2,13 @@
 use mathlib.Core.Path.{_≡_, refl, sym, _∙_, ap, ap₂}
 use mathlib.Core.Bool.{Bool, true, false, not, cond, _&&_, _||_, and-false, or-true}
 use mathlib.Core.Option.{Option, none, some}
-use mathlib.Core.List.{List, [], _∷_}
+use mathlib.Core.List.{List, _∷_}
 use Prim.Native.Nat.{ℕ, zero, suc, _+_, _-_, _^_, _≤_, _<_}
 use native.Mathlib.Omega.{arith}
 use native.Mathlib.Numerals.{add-one}
 use native.Mathlib.Decide.{decLt}
 use borrow.Author.Tests.{eq-eqb, ne-eqb, le-leb, lt-leb, leb-true, leb-false}
-use lib.ListN.{length}
+use lib.ListN.{length, getD}
 use lib.Dec.{eqb, leb}
 use lib.IntN.{ℤ, pos, negsuc, natAbs}
 use lib.Signed.{ltZ}
@@ -16,18 +16,22 @@ use Rattle.lists.specs.Lists.{allBelow}
 use Rattle.lists.proofs.Tests.{true→}
 use Rattle.calculus.specs.Alphabet.{lastCharacter}
 use Rattle.calculus.specs.LinearForms.{eqℤ}
-use Rattle.calculus.specs.Facts.{Question, Branch, codeOf, literal, len, code}
+use Rattle.calculus.specs.Facts.{Question, Branch, codeOf, columnCount, literal, len, code}
 use Rattle.calculus.specs.Chains.{varNode, litNode}
-use Rattle.calculus.specs.Classes.{labels, sameClass, lowestLiteral, conflict, clash}
+use Rattle.calculus.specs.Classes.{labels, sameClass, lowestLiteral, literalIn, conflict, clash}
 use Rattle.calculus.specs.Rules.{leastPower}
 use Rattle.calculus.specs.Model.{modelValue}
 use Rattle.calculus.specs.SaturationTest.{lowestVariable, lowestOfLength, saturatedCard}
 use Rattle.calculus.proofs.Powers.{least-power}
 use Rattle.calculus.proofs.Lowest.{lowests-few}
-use Rattle.format.specs.Places.{literalsFrom}
+use Rattle.format.specs.Places.{skip, literalsFrom}
+use Rattle.format.specs.StepForms.{functionOf}
 use Rattle.format.proofs.Places.{length-texts}
-use Rattle.leaf.specs.declared.Leaf.{Leaf}
-use Rattle.leaf.specs.Leaf.{asked}
+use Rattle.classes.proofs.Laws.{literal-below}
+use Rattle.question.specs.declared.Progress.{Progress}
+use Rattle.question.specs.Columns.{columnAt}
+use Rattle.question.specs.Posed.{asked, numbered, Posed}
+use Rattle.question.proofs.Posed.{literals-to}
 use Rattle.leaf.specs.Values.{textFits, literalFits, lengthFits, codeBy, codeFits, roomy, varFits, pairBy, pairFits}
 
 -- ---- tests of a variable
@@ -169,21 +173,53 @@ module _ (t : ℕ → Bool) where
       go ih (yes l) = rw (ih l) (and-false (t m))
       go ih (no n) = let k : m ≡ i = omega arith in ap (λ (z : ℕ). t z && allBelow m t) k ∙ rw e
 
--- ---- the tests without literals do not read the ticket
+-- ---- what is said of a question by its numbers
 
-lowest-any : (b : List ℕ) (f : Leaf) (ls : List ℕ) (m : List ℤ) (z : ℤ) (k : ℕ) → lowestOfLength (asked [] f) ls m z k ≡ lowestOfLength (asked b f) ls m z k
-lowest-any b f ls m z zero = refl
-lowest-any b f ls m z (suc k) =
-    ap (λ (l : List ℕ). elim (eqℤ (modelValue (asked b f) m len k) z && eqb (lowestVariable ls k) k) as (λ _. List ℕ) [ true ↦ k ∷ l | false ↦ l ]) (lowest-any b f ls m z k)
+-- the column of a function of a variable is there, and has its value
+pub column-there : (s : Progress) (f x : ℕ) → x < s .p → columnAt (s .p) (s .q) f x < columnCount (numbered s)
+unfolding columnAt
+column-there s zero x h = omega arith
+column-there s (suc f) x h = omega arith
 
-pub card-any : (b : List ℕ) (f : Leaf) (ls : List ℕ) (m : List ℤ) (x : ℕ) → saturatedCard (asked [] f) ls m x ≡ saturatedCard (asked b f) ls m x
-card-any b f ls m x =
-    ap (λ (l : List ℕ). leb (length l) 1 || (not (leb (f .n) 1) && leb (leastPower (length l) (f .n) (length l) 0) (natAbs (modelValue (asked b f) m len x))))
-    (lowest-any b f ls m (modelValue (asked b f) m len x) (f .p))
+pub column-value : (s : Progress) (f x : ℕ) (m : List ℤ) → getD m (columnAt (s .p) (s .q) f x) (pos 0) ≡ modelValue (numbered s) m (functionOf f) x
+unfolding columnAt
+column-value s zero x m = refl
+column-value s (suc f) x m = refl
 
-pub pairs-any : (b : List ℕ) (f : Leaf) (ls : List ℕ) (m : List ℤ) (x : ℕ) → allBelow (f .p) (pairFits (asked [] f) ls m x) ≡ allBelow (f .p) (pairFits (asked b f) ls m x)
-unfolding pairFits
-pairs-any b f ls m x = refl
+-- how many literals there are besides the empty one
+pub literal-count : (b : List ℕ) (s : Progress) → length (asked b s .literals) ≡ s .literals
+unfolding asked
+literal-count b s = length-texts b (s .literals) literalsFrom
+
+-- the literal of the class of a variable is one of them, and stands in the bytes
+module _ (b : List ℕ) (s : Progress) (ls : List ℕ) (x : ℕ) where
+  pub literal-in : literalIn (asked b s) ls x ≡ lowestLiteral ls x 0 (s .literals + 1)
+  literal-in = ap (λ (m : ℕ). lowestLiteral ls x 0 m) (ap suc (literal-count b s) ∙ sym (add-one (s .literals)))
+
+  module _ (l : ℕ) (e : literalIn (asked b s) ls x ≡ some l) where
+    pub literal-known : l ≤ s .literals
+    literal-known = omega (arith, literal-below ls x (s .literals + 1) l (sym literal-in ∙ e))
+
+    pub literal-whole : Posed b s → skip b l literalsFrom ≤ length b
+    literal-whole h = literals-to h l literal-known
+
+-- the tests without literals do not read the bytes
+module _ (b : List ℕ) (s : Progress) (ls : List ℕ) (m : List ℤ) where
+  lowest-any : (z : ℤ) (k : ℕ) → lowestOfLength (numbered s) ls m z k ≡ lowestOfLength (asked b s) ls m z k
+  unfolding asked
+  lowest-any z zero = refl
+  lowest-any z (suc k) =
+      ap (λ (l : List ℕ). elim (eqℤ (modelValue (numbered s) m len k) z && eqb (lowestVariable ls k) k) as (λ _. List ℕ) [ true ↦ k ∷ l | false ↦ l ]) (lowest-any z k)
+
+  pub card-any : (x : ℕ) → saturatedCard (numbered s) ls m x ≡ saturatedCard (asked b s) ls m x
+  unfolding asked
+  card-any x =
+      ap (λ (l : List ℕ). leb (length l) 1 || (not (leb (s .n) 1) && leb (leastPower (length l) (s .n) (length l) 0) (natAbs (modelValue (numbered s) m len x))))
+      (lowest-any (modelValue (numbered s) m len x) (s .p))
+
+  pub pairs-any : (x : ℕ) → allBelow (s .p) (pairFits (numbered s) ls m x) ≡ allBelow (s .p) (pairFits (asked b s) ls m x)
+  unfolding asked pairFits
+  pairs-any x = refl
 
 -- ---- the rules of one variable
 
@@ -196,7 +232,7 @@ module _ (u : Question) (ls : List ℕ) (m : List ℤ) (x : ℕ) where
   c = modelValue u m code x
 
   abbrev pub fromLiteral : Bool
-  fromLiteral = literalFits u (lowestLiteral ls x 0 (suc (length (u .literals)))) z c
+  fromLiteral = literalFits u (literalIn u ls x) z c
 
   pub var-literal : fromLiteral ≡ false → varFits u ls m x ≡ false
   unfolding varFits
@@ -220,6 +256,5 @@ module _ (u : Question) (ls : List ℕ) (m : List ℤ) (x : ℕ) where
 
 -- ---- S-Conf
 
-pub conflict-is : (t : List ℕ) (f : Leaf) (b : Branch) → f .labels ≡ labels b → clash (f .literals + 1) (f .labels) b ≡ conflict (asked t f) b
-conflict-is t f b e =
-    ap₂ (λ (m : ℕ) (ls : List ℕ). clash m ls b) (add-one (f .literals) ∙ ap suc (sym (length-texts t (f .literals) literalsFrom))) e
+pub conflict-is : (t : List ℕ) (s : Progress) (ls : List ℕ) (b : Branch) → ls ≡ labels b → clash (s .literals + 1) ls b ≡ conflict (asked t s) b
+conflict-is t s ls b e = ap₂ (λ (m : ℕ) (l : List ℕ). clash m l b) (add-one (s .literals) ∙ ap suc (sym (literal-count t s))) e

@@ -1,37 +1,30 @@
-// The leaf: whether its model saturates it (document 01: "settled"), and whether a length passes 64.
+// The leaf: whether its model saturates it (document 01: "settled"), and whether a length passes 64. A leaf is held as its question's numbers and the labels of its
+// nodes; what does not read the literals is said of the question by its numbers alone.
 ghost use mathlib.Core.Path.{_≡_};
 ghost use mathlib.Core.Bool.{true, false, cond, _&&_};
-ghost use mathlib.Core.List.{[]};
-ghost use Prim.Native.Nat.{suc, _+_, _*_, _≤_, _<_};
-ghost use lib.ListN.{length, getD};
+ghost use Prim.Native.Nat.{_+_, _*_, _≤_, _<_};
+ghost use lib.ListN.{length};
 ghost use lib.Dec.{eqb};
-ghost use lib.IntN.{pos, natAbs};
+ghost use lib.IntN.{natAbs};
 ghost use Rattle.lists.specs.Lists.{allBelow};
-ghost use Rattle.calculus.specs.Limits.{alphabetLimit, variableLimit, literalLimit, factLimit};
+ghost use Rattle.calculus.specs.Limits.{alphabetLimit, variableLimit, factLimit};
 ghost use Rattle.calculus.specs.LinearForms.{eqℤ};
-ghost use Rattle.calculus.specs.Facts.{len, code};
 ghost use Rattle.calculus.specs.Classes as classes;
-ghost use Rattle.calculus.specs.Classes.{lowestLiteral};
+ghost use Rattle.calculus.specs.Classes.{literalIn};
+ghost use Rattle.calculus.specs.Model.{modelValue};
 ghost use Rattle.calculus.specs.SaturationTest as test;
 ghost use Rattle.calculus.specs.SaturationTest.{lowestVariable, lowestOfLength, saturatedCard};
 ghost use Rattle.format.specs.Fields.{u32s};
-ghost use Rattle.format.specs.Places.{skip, literalsFrom};
+ghost use Rattle.format.specs.StepForms.{functionOf};
 ghost use Rattle.format.specs.Checking.{shortLengths};
 ghost use Rattle.rows.specs.Rows.{rowLength, branchOf};
-ghost use Rattle.leaf.specs.Leaf.{asked, Modelled, Ready};
+ghost use Rattle.question.specs.Posed.{asked, numbered, Posed};
+ghost use Rattle.leaf.specs.Leaf.{Modelled, Ready};
 ghost use Rattle.leaf.specs.Values.{textFits, literalFits, lengthFits, codeFits, roomy, varFits, pairBy, pairFits, byValues};
 use classes::Lowest;
 use limits::LENGTH_LIMIT;
 use limits::NODE_COUNT;
-
-// The question's numbers, its literals besides the empty one counted, and the labels of the leaf's nodes.
-pub struct Leaf {
-    pub n: usize,
-    pub p: usize,
-    pub q: usize,
-    pub literals: usize,
-    pub labels: [u8; NODE_COUNT],
-}
+use question::Progress;
 
 // ---- numbers
 
@@ -54,19 +47,12 @@ pub fn magnitude(z: i64) -> usize
 
 // ---- the model's values
 
-pub fn len_of(model: &[i64], q: usize, x: usize) -> i64
-    requires { ⌜ q + x < length (now model) ⌝ }
-    ensures { λ r. ⌜ r ≡ getD (now (model .entry)) (q + x) (pos 0) ⌝ }
+// The model's value of a function (0 len, 1 code) of variable x.
+pub fn value_of(model: &[i64], s: Progress, function: usize, x: usize) -> i64
+    requires { ⌜ Modelled (now model) s × (x < s .p) ⌝ }
+    ensures { λ r. ⌜ r ≡ modelValue (numbered s) (now (model .entry)) (functionOf function) x ⌝ }
 {
-    let at = q + x;
-    model[at]
-}
-
-pub fn code_of(model: &[i64], p: usize, q: usize, x: usize) -> i64
-    requires { ⌜ q + (p + x) < length (now model) ⌝ }
-    ensures { λ r. ⌜ r ≡ getD (now (model .entry)) (q + (p + x)) (pos 0) ⌝ }
-{
-    let at = q + (p + x);
+    let at = question::column_of(s.p, s.q, function, x);
     model[at]
 }
 
@@ -86,12 +72,18 @@ fn fits_text(ticket: &[u8], at: usize, count: usize, len: i64, code: i64) -> boo
 }
 
 // L-Intro and C-Collapse for variable x, whose length and code are given.
-fn literal_fits(ticket: &[u8], leaf: Leaf, x: usize, len: i64, code: i64) -> bool
-    requires { ⌜ (x < variableLimit) × (leaf .literals ≤ literalLimit) × (skip (now ticket) (leaf .literals) literalsFrom ≤ length (now ticket)) ⌝ }
-    ensures { λ r. ⌜ r ≡ literalFits (asked (now (ticket .entry)) leaf) (lowestLiteral (leaf .labels) x 0 (suc (leaf .literals))) len code ⌝ }
+fn literal_fits(
+    ticket: &[u8],
+    s: Progress,
+    labels: [u8; NODE_COUNT],
+    x: usize,
+    len: i64,
+    code: i64,
+) -> bool
+    requires { ⌜ Posed (now ticket) s × (x < variableLimit) ⌝ }
+    ensures { λ r. ⌜ r ≡ literalFits (asked (now (ticket .entry)) s) (literalIn (asked (now (ticket .entry)) s) labels x) len code ⌝ }
 {
-    let labels = leaf.labels;
-    let found = classes::class_literal(labels, leaf.literals + 1, x);
+    let found = classes::class_literal(labels, s.literals + 1, x);
     match found {
         Lowest::Literal(l) => {
             let text = question::literal_text(ticket, l);
@@ -144,16 +136,15 @@ fn tally(labels: [u8; NODE_COUNT], y: usize, len: i64, wanted: i64) -> usize
 }
 
 // The number of classes whose length is the given one.
-fn classes_of(model: &[i64], leaf: Leaf, wanted: i64) -> usize
-    requires { ⌜ Modelled (now model) leaf ⌝ }
-    ensures { λ r. ⌜ r ≡ length (lowestOfLength (asked [] leaf) (leaf .labels) (now (model .entry)) wanted (leaf .p)) ⌝ }
-    ensures { λ r. ⌜ r ≤ leaf .p ⌝ }
+fn classes_of(model: &[i64], s: Progress, labels: [u8; NODE_COUNT], wanted: i64) -> usize
+    requires { ⌜ Modelled (now model) s ⌝ }
+    ensures { λ r. ⌜ r ≡ length (lowestOfLength (numbered s) labels (now (model .entry)) wanted (s .p)) ⌝ }
+    ensures { λ r. ⌜ r ≤ s .p ⌝ }
 {
-    let labels = leaf.labels;
     let mut count = 0;
     let mut y = 0;
-    while y < leaf.p {
-        let len = len_of(model, leaf.q, y);
+    while y < s.p {
+        let len = value_of(model, s, 0, y);
         let one = tally(labels, y, len, wanted);
         count += one;
         y += 1;
@@ -174,40 +165,39 @@ fn has_room(n: usize, k: usize, size: usize) -> bool
 }
 
 // Card for the length of variable x. It has at most p classes, which are counted only where there is no room for p strings.
-fn card_fits(model: &[i64], leaf: Leaf, x: usize) -> bool
-    requires { ⌜ Modelled (now model) leaf × (leaf .n ≤ alphabetLimit) × (x < leaf .p) ⌝ }
-    ensures { λ r. ⌜ r ≡ saturatedCard (asked [] leaf) (leaf .labels) (now (model .entry)) x ⌝ }
+fn card_fits(model: &[i64], s: Progress, labels: [u8; NODE_COUNT], x: usize) -> bool
+    requires { ⌜ Modelled (now model) s × (s .n ≤ alphabetLimit) × (x < s .p) ⌝ }
+    ensures { λ r. ⌜ r ≡ saturatedCard (numbered s) labels (now (model .entry)) x ⌝ }
 {
-    let len = len_of(model, leaf.q, x);
+    let len = value_of(model, s, 0, x);
     let size = magnitude(len);
-    if has_room(leaf.n, leaf.p, size) {
+    if has_room(s.n, s.p, size) {
         return true;
     }
-    let count = classes_of(model, leaf, len);
+    let count = classes_of(model, s, labels, len);
     if count <= 1 {
         return true;
     }
-    has_room(leaf.n, count, size)
+    has_room(s.n, count, size)
 }
 
 // L-Intro, C-Collapse, L-Valid, C-Valid and Card for variable x.
-fn var_fits(ticket: &[u8], model: &[i64], leaf: Leaf, x: usize) -> bool
-    requires { ⌜ Ready (now ticket) (now model) leaf × (x < leaf .p) ⌝ }
-    ensures { λ r. ⌜ r ≡ varFits (asked (now (ticket .entry)) leaf) (leaf .labels) (now (model .entry)) x ⌝ }
+fn var_fits(ticket: &[u8], model: &[i64], s: Progress, labels: [u8; NODE_COUNT], x: usize) -> bool
+    requires { ⌜ Ready (now ticket) (now model) s × (x < s .p) ⌝ }
+    ensures { λ r. ⌜ r ≡ varFits (asked (now (ticket .entry)) s) labels (now (model .entry)) x ⌝ }
 {
-    let labels = leaf.labels;
-    let len = len_of(model, leaf.q, x);
-    let code = code_of(model, leaf.p, leaf.q, x);
-    if !literal_fits(ticket, leaf, x, len, code) {
+    let len = value_of(model, s, 0, x);
+    let code = value_of(model, s, 1, x);
+    if !literal_fits(ticket, s, labels, x, len, code) {
         return false;
     }
     if !length_fits(labels, x, len) {
         return false;
     }
-    if !code_fits(leaf.n, len, code) {
+    if !code_fits(s.n, len, code) {
         return false;
     }
-    card_fits(model, leaf, x)
+    card_fits(model, s, labels, x)
 }
 
 // ---- the rules with two variables
@@ -228,27 +218,26 @@ fn pair_by(same: bool, z: i64, w: i64, c: i64, d: i64) -> bool
     !equal(c, d)
 }
 
-fn pair_fits(model: &[i64], leaf: Leaf, x: usize, y: usize) -> bool
-    requires { ⌜ Modelled (now model) leaf × (x < leaf .p) × (y < leaf .p) ⌝ }
-    ensures { λ r. ⌜ r ≡ pairFits (asked [] leaf) (leaf .labels) (now (model .entry)) x y ⌝ }
+fn pair_fits(model: &[i64], s: Progress, labels: [u8; NODE_COUNT], x: usize, y: usize) -> bool
+    requires { ⌜ Modelled (now model) s × (x < s .p) × (y < s .p) ⌝ }
+    ensures { λ r. ⌜ r ≡ pairFits (numbered s) labels (now (model .entry)) x y ⌝ }
 {
-    let labels = leaf.labels;
     let same = classes::same_class(labels, 2 * x, 2 * y);
-    let z = len_of(model, leaf.q, x);
-    let w = len_of(model, leaf.q, y);
-    let c = code_of(model, leaf.p, leaf.q, x);
-    let d = code_of(model, leaf.p, leaf.q, y);
+    let z = value_of(model, s, 0, x);
+    let w = value_of(model, s, 0, y);
+    let c = value_of(model, s, 1, x);
+    let d = value_of(model, s, 1, y);
     pair_by(same, z, w, c, d)
 }
 
 // S-Prop and C-Inj for variable x with every variable.
-fn pairs_fit(model: &[i64], leaf: Leaf, x: usize) -> bool
-    requires { ⌜ Modelled (now model) leaf × (x < leaf .p) ⌝ }
-    ensures { λ r. ⌜ r ≡ allBelow (leaf .p) (pairFits (asked [] leaf) (leaf .labels) (now (model .entry)) x) ⌝ }
+fn pairs_fit(model: &[i64], s: Progress, labels: [u8; NODE_COUNT], x: usize) -> bool
+    requires { ⌜ Modelled (now model) s × (x < s .p) ⌝ }
+    ensures { λ r. ⌜ r ≡ allBelow (s .p) (pairFits (numbered s) labels (now (model .entry)) x) ⌝ }
 {
     let mut y = 0;
-    while y < leaf.p {
-        if !pair_fits(model, leaf, x, y) {
+    while y < s.p {
+        if !pair_fits(model, s, labels, x, y) {
             return false;
         }
         y += 1;
@@ -259,23 +248,23 @@ fn pairs_fit(model: &[i64], leaf: Leaf, x: usize) -> bool
 // ---- every variable
 
 // The rules for variable x, itself and with every variable.
-fn values_fit(ticket: &[u8], model: &[i64], leaf: Leaf, x: usize) -> bool
-    requires { ⌜ Ready (now ticket) (now model) leaf × (x < leaf .p) ⌝ }
-    ensures { λ r. ⌜ r ≡ byValues (asked (now (ticket .entry)) leaf) (leaf .labels) (now (model .entry)) x ⌝ }
+fn values_fit(ticket: &[u8], model: &[i64], s: Progress, labels: [u8; NODE_COUNT], x: usize) -> bool
+    requires { ⌜ Ready (now ticket) (now model) s × (x < s .p) ⌝ }
+    ensures { λ r. ⌜ r ≡ byValues (asked (now (ticket .entry)) s) labels (now (model .entry)) x ⌝ }
 {
-    if !var_fits(ticket, model, leaf, x) {
+    if !var_fits(ticket, model, s, labels, x) {
         return false;
     }
-    pairs_fit(model, leaf, x)
+    pairs_fit(model, s, labels, x)
 }
 
-fn every_fits(ticket: &[u8], model: &[i64], leaf: Leaf) -> bool
-    requires { ⌜ Ready (now ticket) (now model) leaf ⌝ }
-    ensures { λ r. ⌜ r ≡ allBelow (leaf .p) (byValues (asked (now (ticket .entry)) leaf) (leaf .labels) (now (model .entry))) ⌝ }
+fn every_fits(ticket: &[u8], model: &[i64], s: Progress, labels: [u8; NODE_COUNT]) -> bool
+    requires { ⌜ Ready (now ticket) (now model) s ⌝ }
+    ensures { λ r. ⌜ r ≡ allBelow (s .p) (byValues (asked (now (ticket .entry)) s) labels (now (model .entry))) ⌝ }
 {
     let mut x = 0;
-    while x < leaf.p {
-        if !values_fit(ticket, model, leaf, x) {
+    while x < s.p {
+        if !values_fit(ticket, model, s, labels, x) {
             return false;
         }
         x += 1;
@@ -284,26 +273,32 @@ fn every_fits(ticket: &[u8], model: &[i64], leaf: Leaf) -> bool
 }
 
 // "A leaf is settled by its model if S-Conf does not fit and, for every choice of operands whose premise holds in rules 6 to 12, some child holds already".
-pub fn saturated(ticket: &[u8], work: &[i64], count: usize, model: &[i64], leaf: Leaf) -> bool
-    requires { ⌜ Ready (now ticket) (now model) leaf × (count ≤ factLimit) × (rowLength * count ≤ length (now work)) ⌝ }
-    requires { ⌜ leaf .labels ≡ classes.labels (branchOf (now work) count) ⌝ }
-    ensures { λ r. ⌜ r ≡ test.saturated (asked (now (ticket .entry)) leaf) (branchOf (now (work .entry)) count) (now (model .entry)) ⌝ }
+pub fn saturated(
+    ticket: &[u8],
+    work: &[i64],
+    count: usize,
+    model: &[i64],
+    s: Progress,
+    labels: [u8; NODE_COUNT],
+) -> bool
+    requires { ⌜ Ready (now ticket) (now model) s × (count ≤ factLimit) × (rowLength * count ≤ length (now work)) ⌝ }
+    requires { ⌜ labels ≡ classes.labels (branchOf (now work) count) ⌝ }
+    ensures { λ r. ⌜ r ≡ test.saturated (asked (now (ticket .entry)) s) (branchOf (now (work .entry)) count) (now (model .entry)) ⌝ }
 {
-    let labels = leaf.labels;
-    if classes::conflict(work, count, labels, leaf.literals + 1) {
+    if classes::conflict(work, count, labels, s.literals + 1) {
         return false;
     }
-    every_fits(ticket, model, leaf)
+    every_fits(ticket, model, s, labels)
 }
 
 // No "length passes 64".
-pub fn short_lengths(model: &[i64], leaf: Leaf) -> bool
-    requires { ⌜ Modelled (now model) leaf ⌝ }
-    ensures { λ r. ⌜ r ≡ shortLengths (asked [] leaf) (now (model .entry)) ⌝ }
+pub fn short_lengths(model: &[i64], s: Progress) -> bool
+    requires { ⌜ Modelled (now model) s ⌝ }
+    ensures { λ r. ⌜ r ≡ shortLengths (numbered s) (now (model .entry)) ⌝ }
 {
     let mut x = 0;
-    while x < leaf.p {
-        let len = len_of(model, leaf.q, x);
+    while x < s.p {
+        let len = value_of(model, s, 0, x);
         if magnitude(len) > LENGTH_LIMIT {
             return false;
         }

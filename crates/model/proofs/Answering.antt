@@ -1,38 +1,38 @@
 -- The table that the strings are given in is the answer of the leaf.
 use Prim.Native.Nat.{ℕ, _≤_}
 use native.Mathlib.Omega.{arith}
-use mathlib.Core.Path.{_≡_, _∙_, ap, ap₂}
+use mathlib.Core.Path.{_≡_, _∙_, ap}
 use mathlib.Core.List.{List}
 use lib.ListN.{length, take, length-take}
 use lib.Seq.{length-take-le}
 use lib.IntN.{ℤ}
-use Rattle.calculus.specs.Facts.{Question, Branch}
+use Rattle.calculus.specs.Facts.{Branch, columnCount}
 use Rattle.calculus.specs.Strings.{strings}
 use Rattle.format.specs.Checking.{answerOf}
 use Rattle.answer.specs.Table.{tableStrings, tableAnswer, Integers}
-use Rattle.leaf.specs.Leaf.{asked, columnsOf}
+use Rattle.question.specs.declared.Progress.{Progress}
+use Rattle.question.specs.Posed.{asked, numbered}
 use Rattle.model.specs.declared.Settled.{Settled}
 use Rattle.model.specs.Settled.{values, Writable, Answers}
-use Rattle.model.proofs.Bare.{strings-bare}
 
-module _ (b : List ℕ) (s : Settled) (w : Writable b s) where
+module _ (b : List ℕ) (s : Progress) (r : Settled) (w : Writable b s r) where
   -- the model has a number for each column
-  pub columns-there : columnsOf (s .leaf) ≤ length (s .model)
-  columns-there = omega (arith, length-take (columnsOf (s .leaf)) (s .model), w .ready .modelled .columns)
+  pub columns-there : columnCount (numbered s) ≤ length (r .model)
+  columns-there = omega (arith, length-take (columnCount (numbered s)) (r .model), w .ready .columns)
 
-  pub columns-long : length (values s) ≡ columnsOf (s .leaf)
-  columns-long = length-take-le (columnsOf (s .leaf)) (s .model) columns-there
+  pub columns-long : length (values s (r .model)) ≡ columnCount (numbered s)
+  columns-long = length-take-le (columnCount (numbered s)) (r .model) columns-there
 
-  pub integers-there : Integers (values s) (s .leaf .q)
+  pub integers-there : Integers (values s (r .model)) (s .q)
   integers-there = record {
-    few = w .ready .modelled .few-integers;
+    few = w .ready .posed .stands .few-integers;
     there = omega (arith, columns-long);
     small = λ i h. omega (arith, w .small i);
   }
 
-pub answer-is : (b : List ℕ) (u : Question) (br : Branch) (m : List ℤ) (s : Settled) → Answers b u br m s → (characters sizes : List ℕ)
-    → tableStrings characters sizes (s .leaf .p) ≡ strings (asked b (s .leaf)) br (values s)
-    → tableAnswer characters sizes (s .leaf .p) (values s) (s .leaf .q) ≡ answerOf u br m
-answer-is b u br m s a characters sizes e = ap₂ (λ (ss : List (List ℕ)) (zs : List ℤ). record { strs = ss; ints = zs })
-    (e ∙ ap (λ (v : Question). strings v br (values s)) (a .question) ∙ strings-bare u br (values s) ∙ ap (strings u br) (a .model))
-    (ap₂ (λ (q : ℕ) (zs : List ℤ). take q zs) (ap (λ (v : Question). v .q) (a .question)) (a .model))
+pub answer-is : (b : List ℕ) (s : Progress) (br : Branch) (m : List ℤ) (r : Settled) → Answers b s br m r → (characters sizes : List ℕ)
+    → tableStrings characters sizes (s .p) ≡ strings (asked b s) br (values s (r .model))
+    → tableAnswer characters sizes (s .p) (values s (r .model)) (s .q) ≡ answerOf (asked b s) br m
+unfolding asked
+answer-is b s br m r a characters sizes e =
+    ap (λ (ss : List (List ℕ)). record { strs = ss; ints = take (s .q) (values s (r .model)) }) e ∙ ap (answerOf (asked b s) br) (a .model)

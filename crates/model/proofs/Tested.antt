@@ -3,7 +3,6 @@ use Prim.Native.Nat.{ℕ, _*_, _-_}
 use mathlib.Core.Path.{_≡_, sym, _∙_, ap}
 use mathlib.Core.Bool.{Bool, true}
 use mathlib.Core.List.{List}
-use lib.ListN.{take}
 use lib.Dec.{eqb}
 use lib.IntN.{ℤ}
 use Rattle.calculus.specs.Limits.{columnLimit, valueLimit}
@@ -15,9 +14,9 @@ use Rattle.format.specs.Checking.{keeps, shortLengths, leafFault}
 use Rattle.format.specs.Fields.{allWithin}
 use Rattle.format.proofs.Faults.{none-applies}
 use Rattle.rows.proofs.Values.{keeps-filled}
-use Rattle.leaf.specs.declared.Leaf.{Leaf}
-use Rattle.leaf.specs.Leaf.{columnsOf}
-use Rattle.model.specs.Settled.{Filled}
+use Rattle.question.specs.declared.Progress.{Progress}
+use Rattle.question.specs.Posed.{numbered}
+use Rattle.model.specs.Settled.{values, Filled}
 
 pub leaf-tests : (u : Question) (br : Branch) (m : List ℤ) (k s l : Bool) → keeps m br ≡ k → saturated u br m ≡ s → shortLengths u m ≡ l
     → need 12 k (need 13 s (need 14 l 0)) ≡ leafFault u br m
@@ -27,8 +26,8 @@ leaf-tests u br m k s l ek es el =
     ∙ ap (λ (t : Bool). need 12 k (need 13 s (need 14 t 0))) el)
 
 -- zeros past the columns change no fact's value
-pub keeps-columns : (m : List ℤ) (f : Leaf) (br : Branch) → Filled m f → keeps m br ≡ keeps (take (columnsOf f) m) br
-keeps-columns m f br h = ap (λ (zs : List ℤ). keeps zs br) (h .rest) ∙ keeps-filled (take (columnsOf f) m) (columnLimit - columnsOf f) br
+pub keeps-columns : (m : List ℤ) (s : Progress) (br : Branch) → Filled m s → keeps m br ≡ keeps (values s m) br
+keeps-columns m s br h = ap (λ (zs : List ℤ). keeps zs br) (h .rest) ∙ keeps-filled (values s m) (columnLimit - columnCount (numbered s)) br
 
 -- no number applies: no length passes 64
 pub lengths-pass : (u : Question) (br : Branch) (m : List ℤ) → leafFault u br m ≡ 0 → shortLengths u m ≡ true

@@ -2,11 +2,11 @@
 ghost use mathlib.Core.Path.{_≡_};
 ghost use mathlib.Core.List.{List, _++_};
 ghost use Prim.Native.Nat.{_+_, _*_, _-_, _≤_};
-ghost use lib.ListN.{length, take, drop};
+ghost use lib.ListN.{length, drop};
 ghost use lib.IntN.{ℤ};
 ghost use Rattle.calculus.specs.Limits.{columnLimit, answerBytes};
 ghost use Rattle.calculus.specs.LinearForms.{zeros};
-ghost use Rattle.calculus.specs.Facts.{Question, Branch};
+ghost use Rattle.calculus.specs.Facts.{Branch};
 ghost use Rattle.calculus.specs.Classes as calculus;
 ghost use Rattle.format.specs.Fields.{i32s};
 ghost use Rattle.format.specs.Answer.{encode};
@@ -15,13 +15,12 @@ ghost use Rattle.format.specs.Checking.{leafFault, answerOf};
 ghost use Rattle.rows.specs.Rows.{branchOf};
 ghost use Rattle.rows.specs.Work.{Fine};
 ghost use Rattle.question.specs.Posed.{asked, Posed};
-ghost use Rattle.leaf.specs.Leaf.{asked as askedBy, Ready, columnsOf};
-ghost use Rattle.model.specs.Settled.{Filled, Writable, Answers};
+ghost use Rattle.model.specs.Settled.{values, Filled, Writable, Answers};
 use answer::integers_within;
 use answer::write_answer;
-use leaf::Leaf;
 use limits::COLUMN_LIMIT;
 use limits::LENGTH_LIMIT;
+use limits::NODE_COUNT;
 use limits::VARIABLE_LIMIT;
 use question::Progress;
 use records::i32_at;
@@ -46,29 +45,36 @@ fn read_model(ticket: &[u8], at: usize, columns: usize) -> [i64; COLUMN_LIMIT]
 }
 
 // "at the model, 12 when it breaks an arithmetic fact, 13 when the leaf is not settled, 14 when a length passes 64"
-fn leaf_fault(ticket: &[u8], work: &[i64], count: usize, model: &[i64], leaf: Leaf) -> usize
-    requires { ⌜ Fine (now work) count × (leaf .labels ≡ calculus.labels (branchOf (now work) count)) ⌝ }
-    requires { ⌜ Filled (now model) leaf × Ready (now ticket) (take (columnsOf leaf) (now model)) leaf ⌝ }
-    ensures { λ r. ⌜ r ≡ leafFault (askedBy (now (ticket .entry)) leaf) (branchOf (now (work .entry)) count) (take (columnsOf leaf) (now (model .entry))) ⌝ }
+fn leaf_fault(
+    ticket: &[u8],
+    work: &[i64],
+    count: usize,
+    model: &[i64],
+    s: Progress,
+    labels: [u8; NODE_COUNT],
+) -> usize
+    requires { ⌜ Posed (now ticket) s × Filled (now model) s ⌝ }
+    requires { ⌜ Fine (now work) count × (labels ≡ calculus.labels (branchOf (now work) count)) ⌝ }
+    ensures { λ r. ⌜ r ≡ leafFault (asked (now (ticket .entry)) s) (branchOf (now (work .entry)) count) (values s (now (model .entry))) ⌝ }
 {
     if !rows::keeps_facts(work, count, model) {
         return 12;
     }
-    let columns = leaf.q + (leaf.p + leaf.p);
+    let columns = s.q + (s.p + s.p);
     let values = &model[..columns];
-    if !leaf::saturated(ticket, work, count, values, leaf) {
+    if !leaf::saturated(ticket, work, count, values, s, labels) {
         return 13;
     }
-    if !leaf::short_lengths(values, leaf) {
+    if !leaf::short_lengths(values, s) {
         return 14;
     }
     0
 }
 
-// The first number that applies to a model's record, 0 for none, and the leaf and the model, which the answer is written from.
+// The first number that applies to a model's record, 0 for none, and the leaf's labels and the model, which the answer is written from.
 pub struct Settled {
     pub fault: usize,
-    pub leaf: Leaf,
+    pub labels: [u8; NODE_COUNT],
     pub model: [i64; COLUMN_LIMIT],
 }
 
@@ -84,54 +90,44 @@ pub fn settle(
     requires { ⌜ Posed (now ticket) s × (at + size ≤ length (now ticket)) × Fine (now work) count ⌝ }
     ensures fault { λ r. ⌜ r .fault ≡ modelFault (now (ticket .entry)) (asked (now (ticket .entry)) s)
         (leafFault (asked (now (ticket .entry)) s) (branchOf (now (work .entry)) count) (modelAt (now (ticket .entry)) (asked (now (ticket .entry)) s) at)) at size ⌝ }
-    ensures settled { λ r. ⌜ (r .fault ≡ 0 → Answers (now (ticket .entry)) (asked (now (ticket .entry)) s) (branchOf (now (work .entry)) count) (modelAt (now (ticket .entry)) (asked (now (ticket .entry)) s) at) r) ⌝ }
+    ensures settled { λ r. ⌜ (r .fault ≡ 0 → Answers (now (ticket .entry)) s (branchOf (now (work .entry)) count) (modelAt (now (ticket .entry)) (asked (now (ticket .entry)) s) at) r) ⌝ }
 {
     let labels = classes::labels(work, count);
-    let leaf = Leaf {
-        n: s.n,
-        p: s.p,
-        q: s.q,
-        literals: s.literals,
-        labels,
-    };
     let columns = s.q + (s.p + s.p);
     let unread = [0i64; COLUMN_LIMIT];
     if size != 4 * columns {
         return Settled {
             fault: 5,
-            leaf,
+            labels,
             model: unread,
         };
     }
     if !integers_within(ticket, at, columns) {
         return Settled {
             fault: 6,
-            leaf,
+            labels,
             model: unread,
         };
     }
     let model = read_model(ticket, at, columns);
-    let fault = leaf_fault(ticket, work, count, &model, leaf);
-    Settled { fault, leaf, model }
+    let fault = leaf_fault(ticket, work, count, &model, s, labels);
+    Settled {
+        fault,
+        labels,
+        model,
+    }
 }
 
 // "The strings .. The integers are the model's": the answer of a leaf that is settled by its model.
-pub fn write(ticket: &[u8], s: Settled, answer: &mut [u8])
-    requires { ⌜ Writable (now ticket) s × (answerBytes ≤ length (now answer)) ⌝ }
-    ensures { λ _. ⌜ ((u : Question) (br : Branch) (m : List ℤ) → Answers (now (ticket .entry)) u br m s
-        → now (answer .exit) ≡ encode (answerOf u br m) ++ drop (length (encode (answerOf u br m))) (now (answer .entry))) ⌝ }
+pub fn write(ticket: &[u8], s: Progress, settled: Settled, answer: &mut [u8])
+    requires { ⌜ Writable (now ticket) s settled × (answerBytes ≤ length (now answer)) ⌝ }
+    ensures { λ _. ⌜ ((br : Branch) (m : List ℤ) → Answers (now (ticket .entry)) s br m settled
+        → now (answer .exit) ≡ encode (answerOf (asked (now (ticket .entry)) s) br m) ++ drop (length (encode (answerOf (asked (now (ticket .entry)) s) br m))) (now (answer .entry))) ⌝ }
 {
-    let leaf = s.leaf;
-    let model = s.model;
-    let columns = leaf.q + (leaf.p + leaf.p);
+    let labels = settled.labels;
+    let model = settled.model;
+    let columns = s.q + (s.p + s.p);
     let mut characters = [0u32; TABLE_CHARACTERS];
-    let sizes = give_strings(ticket, &model[..columns], leaf, &mut characters);
-    write_answer(
-        answer,
-        &characters,
-        &sizes,
-        leaf.p,
-        &model[..columns],
-        leaf.q,
-    );
+    let sizes = give_strings(ticket, &model[..columns], s, labels, &mut characters);
+    write_answer(answer, &characters, &sizes, s.p, &model[..columns], s.q);
 }

@@ -12,5 +12,9 @@ module _ {b : List ℕ} {s : Progress} (h : Posed b s) where
   pub some-character : 1 ≤ s .n
   some-character = h .stands .some-character (h .head)
 
+  -- the first l literals are within the bytes, and so are all
+  pub literals-to : (l : ℕ) → l ≤ s .literals → skip b l literalsFrom ≤ length b
+  literals-to l few = literals-within b s (h .to) l (h .stands) (h .head) few
+
   pub literals-whole : skip b (s .literals) literalsFrom ≤ length b
-  literals-whole = literals-within b s (h .to) (s .literals) (h .stands) (h .head) (omega arith)
+  literals-whole = literals-to (s .literals) (omega arith)

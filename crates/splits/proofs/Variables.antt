@@ -14,7 +14,7 @@ use Rattle.calculus.specs.Rules.{guard, among, distinct, neighbours, sameLength
 use Rattle.format.specs.Fields.{u16, u16s}
 use Rattle.format.specs.StepForms.{areVariables}
 use Rattle.format.proofs.Faults.{and-true, not-both}
-use Rattle.format.proofs.Fields.{length-u16s}
+use Rattle.format.proofs.Fields.{field-at, length-u16s}
 
 -- the first of them and the others
 pub u16s-more : (b : List ℕ) (i left : ℕ) → 0 < left → u16s b i left ≡ u16 b i ∷ u16s b (i + 2) (left - 1)
@@ -33,10 +33,7 @@ u16s-one-more b i others = rw add-one
 
 pub u16s-at : (b : List ℕ) (i n j : ℕ) → j < n → getD (u16s b i n) j 0 ≡ u16 b (i + 2 * j)
 unfolding u16s
-u16s-at b i zero j h = absurd (omega arith)
-u16s-at b i (suc n) zero h = let e : i + 2 * 0 ≡ i = omega arith in ap (u16 b) (sym e)
-u16s-at b i (suc n) (suc j) h =
-    let e : i + 2 + 2 * j ≡ i + 2 * suc j = omega arith in u16s-at b (i + 2) n j (omega arith) ∙ ap (u16 b) e
+u16s-at b i n j h = field-at 2 (u16 b) i n j 0 h
 
 -- ---- a variable among others
 

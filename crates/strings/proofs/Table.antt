@@ -20,7 +20,7 @@ use Rattle.lists.proofs.Stores.{sets-sets}
 use Rattle.calculus.specs.Limits.{lengthLimit}
 use Rattle.calculus.specs.LinearForms.{eqℤ}
 use Rattle.calculus.specs.Facts.{Question, literal, len, code}
-use Rattle.calculus.specs.Classes.{lowestLiteral}
+use Rattle.calculus.specs.Classes.{literalIn}
 use Rattle.calculus.specs.Model.{modelValue}
 use Rattle.calculus.specs.SaturationTest.{lowestVariable}
 use Rattle.calculus.specs.Strings.{given, freshFrom, oneChar, fixedBy}
@@ -29,7 +29,9 @@ use Rattle.format.specs.Places.{skip, texts, literalsFrom}
 use Rattle.format.proofs.Fields.{length-u32s}
 use Rattle.format.proofs.Places.{text-at}
 use Rattle.answer.specs.Table.{row}
-use Rattle.strings.specs.Filling.{sized, entry, before, givenStrings, isIt, fixedAt, completed, ShortLiterals}
+use Rattle.question.specs.declared.Progress.{Progress}
+use Rattle.question.specs.Posed.{asked, Posed}
+use Rattle.strings.specs.Filling.{sized, entry, before, givenStrings, isIt, fixedAt, completed}
 
 -- ---- a string by its size
 
@@ -222,16 +224,19 @@ module _ (n p : ℕ) (ls : List ℕ) (l : ℕ) (characters sizes : List ℕ) (x 
 -- ---- the first two rounds, by the literal of the class
 
 module _ (u : Question) (ls : List ℕ) (m : List ℤ) (x : ℕ) where
-  pub fixed-literal : (l : ℕ) → lowestLiteral ls x 0 (suc (length (u .literals))) ≡ some l → fixedAt u ls m x ≡ some (literal u l)
+  pub fixed-literal : (l : ℕ) → literalIn u ls x ≡ some l → fixedAt u ls m x ≡ some (literal u l)
   fixed-literal l e = ap (λ (o : Option ℕ). fixedBy u o (modelValue u m len x) (modelValue u m code x)) e
 
-  pub fixed-other : lowestLiteral ls x 0 (suc (length (u .literals))) ≡ none → fixedAt u ls m x ≡ oneChar (eqℤ (modelValue u m len x) (pos 1)) (modelValue u m code x)
+  pub fixed-other : literalIn u ls x ≡ none → fixedAt u ls m x ≡ oneChar (eqℤ (modelValue u m len x) (pos 1)) (modelValue u m code x)
   fixed-other e = ap (λ (o : Option ℕ). fixedBy u o (modelValue u m len x) (modelValue u m code x)) e
 
-pub literal-short : (b : List ℕ) (k l : ℕ) → ShortLiterals b k → l ≤ k → length (getD ([] ∷ texts b k literalsFrom) l []) ≤ lengthLimit
-literal-short b k zero h g = omega arith
-literal-short b k (suc j) h g =
-    let e : length (getD (texts b k literalsFrom) j []) ≡ size b (skip b j literalsFrom) / 4 =
-    ap length (text-at b j k literalsFrom (omega arith)) ∙ length-u32s b (skip b j literalsFrom + 6) (size b (skip b j literalsFrom) / 4) in
-    let f : size b (skip b j literalsFrom) / 4 ≤ lengthLimit = div-le-of-le-mul 4 (h j (omega arith)) in
+-- no literal has more than 64 characters
+pub literal-short : (b : List ℕ) (s : Progress) (l : ℕ) → Posed b s → l ≤ s .literals → length (literal (asked b s) l) ≤ lengthLimit
+unfolding asked
+literal-short b s zero h g = omega arith
+literal-short b s (suc j) h g =
+    let k : ℕ = size b (skip b j literalsFrom) in
+    let e : length (getD (texts b (s .literals) literalsFrom) j []) ≡ k / 4 =
+    ap length (text-at b j (s .literals) literalsFrom (omega arith)) ∙ length-u32s b (skip b j literalsFrom + 6) (k / 4) in
+    let f : k / 4 ≤ lengthLimit = div-le-of-le-mul 4 (h .stands .literals-stand j (omega arith) .short) in
     omega arith

@@ -1,5 +1,5 @@
 -- The table of strings while it is filled: a size past 64 says that a variable has no string yet.
-use Prim.Native.Nat.{ℕ, zero, suc, _*_, _≤_, _<_}
+use Prim.Native.Nat.{ℕ, zero, suc, _*_}
 use mathlib.Core.Bool.{Bool, true, false, cond}
 use mathlib.Core.Option.{Option, none, some}
 use mathlib.Core.List.{List, [], _∷_}
@@ -12,8 +12,6 @@ use Rattle.calculus.specs.Classes.{literalIn}
 use Rattle.calculus.specs.Model.{modelValue}
 use Rattle.calculus.specs.SaturationTest.{lowestVariable}
 use Rattle.calculus.specs.Strings.{eqString, freshFrom, fixedBy}
-use Rattle.format.specs.Records.{size}
-use Rattle.format.specs.Places.{skip, literalsFrom}
 use Rattle.answer.specs.Table.{row}
 
 -- the first size characters, where there are at most 64
@@ -52,7 +50,3 @@ completed n p ls l characters sizes x = elim (entry characters sizes x) [
         | false ↦ freshFrom p n l (givenStrings characters sizes p) 0
       ]
 ]
-
--- no literal is longer than 64 characters, 4 bytes each
-abbrev pub ShortLiterals : List ℕ → ℕ → Type 0
-ShortLiterals b literals = (j : ℕ) → j < literals → size b (skip b j literalsFrom) ≤ 4 * lengthLimit

@@ -1,7 +1,6 @@
 // The strings of a saturated leaf: words in the order of code points, the first that is not given, and the rounds that give each variable its string.
 ghost use mathlib.Core.Path.{_≡_};
 ghost use mathlib.Core.Bool.{true};
-ghost use mathlib.Core.List.{[]};
 ghost use Prim.Native.Nat.{ℕ, _+_, _*_, _≤_, _<_};
 ghost use lib.ListN.{length, getD, take, drop, replicate};
 ghost use lib.Seq.{sets};
@@ -9,19 +8,21 @@ ghost use lib.IntN.{pos, natAbs};
 ghost use Rattle.calculus.specs.Limits.{alphabetLimit, variableLimit, lengthLimit, valueLimit};
 ghost use Rattle.calculus.specs.LinearForms.{eqℤ};
 ghost use Rattle.calculus.specs.Facts.{Branch, len};
-ghost use Rattle.calculus.specs.Classes.{labels};
+ghost use Rattle.calculus.specs.Classes as calculus;
 ghost use Rattle.calculus.specs.Model.{modelValue};
 ghost use Rattle.calculus.specs.Strings.{word, eqString, given, freshFrom, oneChar, strings};
 ghost use Rattle.format.specs.Fields.{u32s};
 ghost use Rattle.format.specs.Checking.{shortLengths};
 ghost use Rattle.rows.specs.Work.{Within};
 ghost use Rattle.answer.specs.Table.{row, tableStrings, Table};
-ghost use Rattle.leaf.specs.Leaf.{asked, Modelled, Ready};
-ghost use Rattle.strings.specs.Filling.{sized, entry, givenStrings, isIt, fixedAt, completed, ShortLiterals};
+ghost use Rattle.question.specs.Posed.{asked, numbered};
+ghost use Rattle.leaf.specs.Leaf.{Modelled, Ready};
+ghost use Rattle.strings.specs.Filling.{sized, entry, givenStrings, isIt, fixedAt, completed};
 use classes::Lowest;
-use leaf::Leaf;
 use limits::LENGTH_LIMIT;
+use limits::NODE_COUNT;
 use limits::VARIABLE_LIMIT;
+use question::Progress;
 
 // The size of a variable that has no string yet.
 const NOT_GIVEN: usize = LENGTH_LIMIT + 1;
@@ -188,13 +189,19 @@ fn fill_character(row: &mut [u32], len: i64, code: i64) -> usize
 }
 
 // What the first two rounds give to variable x: "a class with a literal gets it; a class of length 1 gets the character of its code".
-fn fill_fixed(ticket: &[u8], model: &[i64], leaf: Leaf, x: usize, row: &mut [u32]) -> usize
-    requires { ⌜ Ready (now ticket) (now model) leaf × (x < leaf .p) × (length (now row) ≡ lengthLimit) ⌝ }
-    requires { ⌜ Within valueLimit (now model) × ShortLiterals (now ticket) (leaf .literals) ⌝ }
-    ensures { λ r. ⌜ sized r (now (row .exit)) ≡ fixedAt (asked (now (ticket .entry)) leaf) (leaf .labels) (now (model .entry)) x ⌝ }
+fn fill_fixed(
+    ticket: &[u8],
+    model: &[i64],
+    s: Progress,
+    labels: [u8; NODE_COUNT],
+    x: usize,
+    row: &mut [u32],
+) -> usize
+    requires { ⌜ Ready (now ticket) (now model) s × (x < s .p) × (length (now row) ≡ lengthLimit) ⌝ }
+    requires { ⌜ Within valueLimit (now model) ⌝ }
+    ensures { λ r. ⌜ sized r (now (row .exit)) ≡ fixedAt (asked (now (ticket .entry)) s) labels (now (model .entry)) x ⌝ }
 {
-    let labels = leaf.labels;
-    let found = classes::class_literal(labels, leaf.literals + 1, x);
+    let found = classes::class_literal(labels, s.literals + 1, x);
     match found {
         Lowest::Literal(l) => {
             let literal = question::literal_text(ticket, l);
@@ -202,8 +209,8 @@ fn fill_fixed(ticket: &[u8], model: &[i64], leaf: Leaf, x: usize, row: &mut [u32
             literal.count
         }
         Lowest::Nothing => {
-            let len = leaf::len_of(model, leaf.q, x);
-            let code = leaf::code_of(model, leaf.p, leaf.q, x);
+            let len = leaf::value_of(model, s, 0, x);
+            let code = leaf::value_of(model, s, 1, x);
             fill_character(row, len, code)
         }
     }
@@ -213,19 +220,20 @@ fn fill_fixed(ticket: &[u8], model: &[i64], leaf: Leaf, x: usize, row: &mut [u32
 fn give_fixed(
     ticket: &[u8],
     model: &[i64],
-    leaf: Leaf,
+    s: Progress,
+    labels: [u8; NODE_COUNT],
     characters: &mut [u32],
 ) -> [usize; VARIABLE_LIMIT]
-    requires { ⌜ Ready (now ticket) (now model) leaf × (lengthLimit * leaf .p ≤ length (now characters)) ⌝ }
-    requires { ⌜ Within valueLimit (now model) × ShortLiterals (now ticket) (leaf .literals) ⌝ }
-    ensures { λ r. ⌜ ((y : ℕ) → y < leaf .p → entry (now (characters .exit)) r y ≡ fixedAt (asked (now (ticket .entry)) leaf) (leaf .labels) (now (model .entry)) y) ⌝ }
+    requires { ⌜ Ready (now ticket) (now model) s × (lengthLimit * s .p ≤ length (now characters)) ⌝ }
+    requires { ⌜ Within valueLimit (now model) ⌝ }
+    ensures { λ r. ⌜ ((y : ℕ) → y < s .p → entry (now (characters .exit)) r y ≡ fixedAt (asked (now (ticket .entry)) s) labels (now (model .entry)) y) ⌝ }
 {
     let mut sizes = [NOT_GIVEN; VARIABLE_LIMIT];
     let mut x = 0;
-    while x < leaf.p {
+    while x < s.p {
         let from = LENGTH_LIMIT * x;
         let to = from + LENGTH_LIMIT;
-        let size = fill_fixed(ticket, model, leaf, x, &mut characters[from..to]);
+        let size = fill_fixed(ticket, model, s, labels, x, &mut characters[from..to]);
         sizes[x] = size;
         x += 1;
     }
@@ -235,23 +243,23 @@ fn give_fixed(
 // The third round for variable x: it keeps its string from the first two, or gets that of the lowest variable of its class, or the first that is not given.
 fn complete(
     model: &[i64],
-    leaf: Leaf,
+    s: Progress,
+    labels: [u8; NODE_COUNT],
     characters: &mut [u32],
     sizes: [usize; VARIABLE_LIMIT],
     x: usize,
 ) -> usize
-    requires { ⌜ Modelled (now model) leaf × (1 ≤ leaf .n) × (leaf .n ≤ alphabetLimit) × (x < leaf .p) × (lengthLimit * leaf .p ≤ length (now characters)) ⌝ }
-    requires { ⌜ natAbs (modelValue (asked [] leaf) (now model) len x) ≤ lengthLimit ⌝ }
+    requires { ⌜ Modelled (now model) s × (1 ≤ s .n) × (s .n ≤ alphabetLimit) × (x < s .p) × (lengthLimit * s .p ≤ length (now characters)) ⌝ }
+    requires { ⌜ natAbs (modelValue (numbered s) (now model) len x) ≤ lengthLimit ⌝ }
     requires { ⌜ ((y : ℕ) → y < x → getD sizes y 0 ≤ lengthLimit) ⌝ }
-    ensures { λ r. ⌜ now (characters .exit) ≡ sets (now (characters .entry)) (lengthLimit * x) (completed (leaf .n) (leaf .p) (leaf .labels) (natAbs (modelValue (asked [] leaf) (now (model .entry)) len x)) (now (characters .entry)) sizes x) ⌝ }
-    ensures { λ r. ⌜ r ≡ length (completed (leaf .n) (leaf .p) (leaf .labels) (natAbs (modelValue (asked [] leaf) (now (model .entry)) len x)) (now (characters .entry)) sizes x) ⌝ }
+    ensures { λ r. ⌜ now (characters .exit) ≡ sets (now (characters .entry)) (lengthLimit * x) (completed (s .n) (s .p) labels (natAbs (modelValue (numbered s) (now (model .entry)) len x)) (now (characters .entry)) sizes x) ⌝ }
+    ensures { λ r. ⌜ r ≡ length (completed (s .n) (s .p) labels (natAbs (modelValue (numbered s) (now (model .entry)) len x)) (now (characters .entry)) sizes x) ⌝ }
     ensures { λ r. ⌜ r ≤ lengthLimit ⌝ }
 {
     let own = sizes[x];
     if own <= LENGTH_LIMIT {
         return own;
     }
-    let labels = leaf.labels;
     let first = classes::lowest_variable(labels, x);
     if first < x {
         let size = sizes[first];
@@ -259,9 +267,9 @@ fn complete(
         store(characters, x, w, size);
         return size;
     }
-    let len = leaf::len_of(model, leaf.q, x);
+    let len = leaf::value_of(model, s, 0, x);
     let m = leaf::magnitude(len);
-    let w = fresh(characters, sizes, leaf.p, leaf.n, m);
+    let w = fresh(characters, sizes, s.p, s.n, m);
     store(characters, x, w, m);
     m
 }
@@ -271,19 +279,20 @@ fn complete(
 pub fn give_strings(
     ticket: &[u8],
     model: &[i64],
-    leaf: Leaf,
+    s: Progress,
+    labels: [u8; NODE_COUNT],
     characters: &mut [u32],
 ) -> [usize; VARIABLE_LIMIT]
-    requires { ⌜ Ready (now ticket) (now model) leaf × (lengthLimit * leaf .p ≤ length (now characters)) ⌝ }
-    requires { ⌜ Within valueLimit (now model) × ShortLiterals (now ticket) (leaf .literals) ⌝ }
-    requires { ⌜ shortLengths (asked [] leaf) (now model) ≡ true ⌝ }
-    ensures { λ r. ⌜ ((b : Branch) → leaf .labels ≡ labels b → tableStrings (now (characters .exit)) r (leaf .p) ≡ strings (asked (now (ticket .entry)) leaf) b (now (model .entry))) ⌝ }
-    ensures { λ r. ⌜ Table (now (characters .exit)) r (leaf .p) ⌝ }
+    requires { ⌜ Ready (now ticket) (now model) s × (lengthLimit * s .p ≤ length (now characters)) ⌝ }
+    requires { ⌜ Within valueLimit (now model) ⌝ }
+    requires { ⌜ shortLengths (asked (now ticket) s) (now model) ≡ true ⌝ }
+    ensures { λ r. ⌜ ((b : Branch) → labels ≡ calculus.labels b → tableStrings (now (characters .exit)) r (s .p) ≡ strings (asked (now (ticket .entry)) s) b (now (model .entry))) ⌝ }
+    ensures { λ r. ⌜ Table (now (characters .exit)) r (s .p) ⌝ }
 {
-    let mut sizes = give_fixed(ticket, model, leaf, characters);
+    let mut sizes = give_fixed(ticket, model, s, labels, characters);
     let mut x = 0;
-    while x < leaf.p {
-        let size = complete(model, leaf, characters, sizes, x);
+    while x < s.p {
+        let size = complete(model, s, labels, characters, sizes, x);
         sizes[x] = size;
         x += 1;
     }

@@ -66,7 +66,7 @@ returns-3 c =
     strings (now (s .answer)) _
     (ended b u br (s .r) (s .at) (c .before .before .before .before .before .before .before .before .u32-at .result) (c .before .before .before .before .before .before .before .before .u32-at .ensures .0) (pre .1) (pre .2)
     (sym (c .before .before .before .before .before .before .before .settle .ensures .0) ∙ c .before .before .before .before .before .before .if1 .left) (sym (c .before .before .before .before .before .end-fault .ensures) ∙ c .before .before .before .before .if2 .left))
-    (c .before .before .write .ensures u br (modelAt b u (s .at + 6)) (c .before .before .before .before .before .before .before .settle .ensures .1 (c .before .before .before .before .before .before .if1 .left)))
+    (c .before .before .write .ensures br (modelAt b u (s .at + 6)) (c .before .before .before .before .before .before .before .settle .ensures .1 (c .before .before .before .before .before .before .if1 .left)))
 
 pub at-model-spec : {M : Type 1} → statement M
 at-model-spec =

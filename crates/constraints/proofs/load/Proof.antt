@@ -13,7 +13,7 @@ use Rattle.format.proofs.Places.{skip-snoc}
 use Rattle.format.specs.Places.{constraintsAt, skip}
 use Rattle.format.specs.Question.{constraintOf}
 use Rattle.format.specs.Records.{kind, next, size}
-use Rattle.question.proofs.Standing.{literals-within}
+use Rattle.question.proofs.Posed.{literals-whole}
 use Rattle.question.specs.Posed.{asked}
 use Rattle.question.specs.Standing.{ConstraintAt}
 use Rattle.rows.proofs.Small.{fine-put, fine-start}
@@ -34,9 +34,7 @@ abbrev μ-loop : tie.MeasureT-loop
 μ-loop ticket work₀ count at₀ k₀ work at k = count - k
 
 behind-literals-requires : tie.Need-behind-literals-requires Inv-loop μ-loop
-behind-literals-requires c κs =
-    let s = c .before in
-    literals-within (now (s .args .ticket)) (s .args .s) (s .pre .0 .to) (s .args .s .literals) (s .pre .0 .stands) (s .pre .0 .head) (omega arith)
+behind-literals-requires c κs = literals-whole (c .before .pre .0)
 
 loop-holds : tie.Need-loop-holds Inv-loop μ-loop
 unfolding skip branchOf

@@ -11,7 +11,7 @@ use Rattle.format.proofs.Places.{skip-snoc}
 use Rattle.format.specs.Places.{constraintsAt, literalsFrom, skip}
 use Rattle.format.specs.Records.{next}
 use Rattle.question.specs.Posed.{asked}
-use Rattle.judging.proofs.Constraints.{literal-room}
+use Rattle.question.proofs.Posed.{literals-whole}
 use Rattle.judging.proofs.Unmet.{first-done, first-no, first-yes}
 use Rattle.judging.specs.Judgements.{firstUnmet}
 use Rattle.judging.specs.Ready.{valuesOf}
@@ -27,9 +27,7 @@ abbrev μ-loop : tie.MeasureT-loop
 μ-loop b v s places values count at₀ k₀ at k = s .constraints - k
 
 behind-literals-requires : tie.Need-behind-literals-requires Inv-loop μ-loop
-behind-literals-requires c κs =
-    let s = c .before .before .before in
-    literal-room (now (s .args .b)) (now (s .args .v)) (s .args .s) (now (s .args .places)) (s .pre .texts) (s .args .s .literals) (omega arith)
+behind-literals-requires c κs = literals-whole (c .before .before .before .pre .texts .posed)
 
 loop-holds : tie.Need-loop-holds Inv-loop μ-loop
 unfolding skip asked

@@ -11,8 +11,9 @@ use Rattle.calculus.specs.Meaning.{str}
 use Rattle.calculus.specs.Strings.{eqString}
 use Rattle.format.specs.Fields.{u16}
 use Rattle.format.specs.Places.{literalsFrom, texts, textAt}
+use Rattle.question.proofs.Posed.{literals-to}
 use Rattle.question.specs.Posed.{asked}
-use Rattle.judging.proofs.Constraints.{apart-met, literal-met, literal-room, same-met, string-ranges, text-is, text-room}
+use Rattle.judging.proofs.Constraints.{apart-met, literal-met, same-met, string-ranges, text-is, text-room}
 use Rattle.judging.specs.Ready.{valuesOf}
 use Rattle.judging.proofs.string_met.Statement.{statement}
 use Rattle.judging.proofs.string_met.Tie as tie
@@ -48,7 +49,7 @@ is-literal-requires c κs =
     let two : u16 (now (s .args .b)) (s .args .at) ≡ 2 = sym (c .before .before .before .before .u16-at .ensures .0) ∙ c .if1 .taken in
     rw (c .before .before .before .u16-at2 .ensures .0, c .before .before .u16-at3 .ensures .0) (
       text-room (now (s .args .b)) (now (s .args .v)) (s .args .s) (now (s .args .places)) (s .pre .0) (u16 (now (s .args .b)) (s .args .at + 2)) (r .first),
-      literal-room (now (s .args .b)) (now (s .args .v)) (s .args .s) (now (s .args .places)) (s .pre .0) (u16 (now (s .args .b)) (s .args .at + 4)) (r .literal two),
+      literals-to (s .pre .0 .posed) (u16 (now (s .args .b)) (s .args .at + 4)) (r .literal two),
     )
 
 returns : tie.Need-returns

@@ -4,32 +4,31 @@ use borrow.Author.Needs.{needs}
 use denote.Ref.{now}
 use lib.IntN.{natAbs, ℤ}
 use lib.ListN.{length}
-use mathlib.Core.List.{[]}
 use mathlib.Core.Path.{_∙_, _≡_, ap, sym}
 use mir.Facts.{toZ-ofZ}
 use Rattle.calculus.specs.Facts.{len}
 use Rattle.calculus.specs.Model.{modelValue}
 use Rattle.calculus.specs.SaturationTest.{lowestOfLength}
 use Rattle.leaf.proofs.Laws.{card-few, card-many, card-roomy}
-use Rattle.leaf.specs.Leaf.{asked}
+use Rattle.question.specs.Posed.{numbered}
 use Rattle.leaf.specs.Values.{roomy}
 use Rattle.leaf.proofs.card_fits.Statement.{statement}
 use Rattle.leaf.proofs.card_fits.Tie as tie
 
 -- the length of x without its sign
-size-is : (c : tie.After-magnitude) → c .magnitude .result ≡ natAbs (modelValue (asked [] (c .before .before .args .leaf)) (now (c .before .before .args .model)) len (c .before .before .args .x))
-size-is c = c .magnitude .ensures ∙ ap natAbs (toZ-ofZ (record { sfits = c .before .len-of .ok }) ∙ c .before .len-of .ensures)
+size-is : (c : tie.After-magnitude) → c .magnitude .result ≡ natAbs (modelValue (numbered (c .before .before .args .s)) (now (c .before .before .args .model)) len (c .before .before .args .x))
+size-is c = c .magnitude .ensures ∙ ap natAbs (toZ-ofZ (record { sfits = c .before .value-of .ok }) ∙ c .before .value-of .ensures)
 
 -- the classes of the length of x
 count-is : (c : tie.After-classes-of) → c .classes-of .result
-    ≡ length (lowestOfLength (asked [] (c .before .before .before .before .before .args .leaf)) (c .before .before .before .before .before .args .leaf .labels) (now (c .before .before .before .before .before .args .model)) (modelValue (asked [] (c .before .before .before .before .before .args .leaf)) (now (c .before .before .before .before .before .args .model)) len (c .before .before .before .before .before .args .x)) (c .before .before .before .before .before .args .leaf .p))
+    ≡ length (lowestOfLength (numbered (c .before .before .before .before .before .args .s)) (c .before .before .before .before .before .args .labels) (now (c .before .before .before .before .before .args .model)) (modelValue (numbered (c .before .before .before .before .before .args .s)) (now (c .before .before .before .before .before .args .model)) len (c .before .before .before .before .before .args .x)) (c .before .before .before .before .before .args .s .p))
 count-is c =
     let s = c .before .before .before .before .before .args in
     c .classes-of .ensures .0
-    ∙ ap (λ (z : ℤ). length (lowestOfLength (asked [] (s .leaf)) (s .leaf .labels) (now (s .model)) z (s .leaf .p))) (toZ-ofZ (record { sfits = c .before .before .before .before .len-of .ok }) ∙ c .before .before .before .before .len-of .ensures)
+    ∙ ap (λ (z : ℤ). length (lowestOfLength (numbered (s .s)) (s .labels) (now (s .model)) z (s .s .p))) (toZ-ofZ (record { sfits = c .before .before .before .before .value-of .ok }) ∙ c .before .before .before .before .value-of .ensures)
 
-len-of-requires : tie.Need-len-of-requires
-len-of-requires c κs = search needs
+value-of-requires : tie.Need-value-of-requires
+value-of-requires c κs = search needs
 
 magnitude-requires : tie.Need-magnitude-requires
 magnitude-requires c κs = search needs
@@ -40,8 +39,8 @@ has-room-requires c κs = search needs
 returns : tie.Need-returns
 returns c =
     let s = c .before .before .before .before .args in
-    sym (card-roomy (asked [] (s .leaf)) (s .leaf .labels) (now (s .model)) (s .x)
-    (ap (λ (k : ℕ). roomy (s .leaf .n) (s .leaf .p) k) (sym (size-is (c .before .before))) ∙ sym (c .before .has-room .ensures) ∙ c .if1 .taken))
+    sym (card-roomy (numbered (s .s)) (s .labels) (now (s .model)) (s .x)
+    (ap (λ (k : ℕ). roomy (s .s .n) (s .s .p) k) (sym (size-is (c .before .before))) ∙ sym (c .before .has-room .ensures) ∙ c .if1 .taken))
 
 classes-of-requires : tie.Need-classes-of-requires
 classes-of-requires c κs = search needs
@@ -49,7 +48,7 @@ classes-of-requires c κs = search needs
 returns-2 : tie.Need-returns-2
 returns-2 c =
     let s = c .before .before .before .before .before .before .args in
-    sym (card-few (asked [] (s .leaf)) (s .leaf .labels) (now (s .model)) (s .x) (c .before .classes-of .result) (count-is (c .before)) (c .if2 .taken))
+    sym (card-few (numbered (s .s)) (s .labels) (now (s .model)) (s .x) (c .before .classes-of .result) (count-is (c .before)) (c .if2 .taken))
 
 has-room-requires-2 : tie.Need-has-room-requires-2
 has-room-requires-2 c κs = search needs
@@ -58,14 +57,14 @@ returns-3 : tie.Need-returns-3
 returns-3 c =
     let s = c .before .before .before .before .before .before .before .args in
     let count = c .before .before .classes-of .result in
-    c .has-room2 .ensures ∙ ap (λ (k : ℕ). roomy (s .leaf .n) count k) (size-is (c .before .before .before .before .before))
-    ∙ sym (card-many (asked [] (s .leaf)) (s .leaf .labels) (now (s .model)) (s .x) count (count-is (c .before .before)) (c .before .if2 .left))
+    c .has-room2 .ensures ∙ ap (λ (k : ℕ). roomy (s .s .n) count k) (size-is (c .before .before .before .before .before))
+    ∙ sym (card-many (numbered (s .s)) (s .labels) (now (s .model)) (s .x) count (count-is (c .before .before)) (c .before .if2 .left))
 
 pub card-fits-spec : {M : Type 1} → statement M
 card-fits-spec =
     tie.close
     (tie.spec
-    len-of-requires
+    value-of-requires
     magnitude-requires
     has-room-requires
     returns

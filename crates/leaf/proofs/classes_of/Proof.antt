@@ -6,7 +6,6 @@ use lib.Dec.{eqb}
 use lib.IntN.{ℤ}
 use lib.ListN.{length}
 use mathlib.Core.Bool.{_&&_, cond}
-use mathlib.Core.List.{[]}
 use mathlib.Core.Path.{_∙_, _≡_, ap, ap₂, refl}
 use mir.Facts.{toZ-ofZ}
 use mir.Syntax.{w64}
@@ -17,29 +16,29 @@ use Rattle.calculus.specs.Model.{modelValue}
 use Rattle.calculus.specs.LinearForms.{eqℤ}
 use Rattle.calculus.specs.SaturationTest.{lowestOfLength, lowestVariable}
 use Rattle.leaf.proofs.Laws.{count-more}
-use Rattle.leaf.specs.Leaf.{asked}
+use Rattle.question.specs.Posed.{numbered}
 use Rattle.leaf.proofs.classes_of.Statement.{statement}
 use Rattle.leaf.proofs.classes_of.Tie as tie
 
 abbrev Inv-loop : tie.InvT-loop
-Inv-loop model leaf wanted labels count₀ y₀ count y = (y ≤ leaf .p) × (count ≤ y) × (count ≡ length (lowestOfLength (asked [] leaf) (leaf .labels) model (toZ w64 wanted) y))
+Inv-loop model s labels wanted count₀ y₀ count y = (y ≤ s .p) × (count ≤ y) × (count ≡ length (lowestOfLength (numbered s) labels model (toZ w64 wanted) y))
 
 abbrev μ-loop : tie.MeasureT-loop
-μ-loop model leaf wanted labels count₀ y₀ count y = leaf .p - y
+μ-loop model s labels wanted count₀ y₀ count y = s .p - y
 
 -- the test of one variable
 told : (c : tie.After-tally Inv-loop μ-loop)
-    → c .tally .result ≡ cond (eqℤ (modelValue (asked [] (c .before .before .before .before .before .before .args .leaf)) (now (c .before .before .before .before .before .before .args .model)) len (c .before .before .before .before .loop .y)) (toZ w64 (ofZ w64 (c .before .before .before .before .before .before .args .wanted))) && eqb (lowestVariable (c .before .before .before .before .before .before .args .leaf .labels) (c .before .before .before .before .loop .y)) (c .before .before .before .before .loop .y)) 1 0
+    → c .tally .result ≡ cond (eqℤ (modelValue (numbered (c .before .before .before .before .before .args .s)) (now (c .before .before .before .before .before .args .model)) len (c .before .before .before .before .loop .y)) (toZ w64 (ofZ w64 (c .before .before .before .before .before .args .wanted))) && eqb (lowestVariable (c .before .before .before .before .before .args .labels) (c .before .before .before .before .loop .y)) (c .before .before .before .before .loop .y)) 1 0
 told c =
     c .tally .ensures .0
-    ∙ ap (λ (z : ℤ). cond (eqℤ z (toZ w64 (ofZ w64 (c .before .before .before .before .before .before .args .wanted))) && eqb (lowestVariable (c .before .before .before .before .before .before .args .leaf .labels) (c .before .before .before .before .loop .y)) (c .before .before .before .before .loop .y)) 1 0)
-    (toZ-ofZ (record { sfits = c .before .len-of .ok }) ∙ c .before .len-of .ensures)
+    ∙ ap (λ (z : ℤ). cond (eqℤ z (toZ w64 (ofZ w64 (c .before .before .before .before .before .args .wanted))) && eqb (lowestVariable (c .before .before .before .before .before .args .labels) (c .before .before .before .before .loop .y)) (c .before .before .before .before .loop .y)) 1 0)
+    (toZ-ofZ (record { sfits = c .before .value-of .ok }) ∙ c .before .value-of .ensures)
 
 loop-holds : tie.Need-loop-holds Inv-loop μ-loop
 loop-holds c = (omega arith, omega arith, refl)
 
-len-of-requires : tie.Need-len-of-requires Inv-loop μ-loop
-len-of-requires c κs = search needs
+value-of-requires : tie.Need-value-of-requires Inv-loop μ-loop
+value-of-requires c κs = search needs
 
 tally-requires : tie.Need-tally-requires Inv-loop μ-loop
 tally-requires c κs = search needs
@@ -56,18 +55,18 @@ loop-less c = search needs
 loop-again : tie.Need-loop-again Inv-loop μ-loop
 loop-again c =
     let l = c .before .before .before .before .loop in
-    let s = c .before .before .before .before .before .before .args in (
+    let s = c .before .before .before .before .before .args in (
       omega arith,
       omega arith,
-      ap (λ (k : ℕ). k + c .tally .result) (l .inv .2) ∙ count-more (asked [] (s .leaf)) (s .leaf .labels) (now (s .model)) (toZ w64 (ofZ w64 (s .wanted))) (l .y) (c .tally .result) (told c),
+      ap (λ (k : ℕ). k + c .tally .result) (l .inv .2) ∙ count-more (numbered (s .s)) (s .labels) (now (s .model)) (toZ w64 (ofZ w64 (s .wanted))) (l .y) (c .tally .result) (told c),
     )
 
 returns : tie.Need-returns Inv-loop μ-loop
 returns c =
     let l = c .before .before .loop in
-    let s = c .before .before .before .before in
-    let e : l .y ≡ s .args .leaf .p = omega arith in
-    (l .inv .2 ∙ ap₂ (λ (m : ℕ) (z : ℤ). length (lowestOfLength (asked [] (s .args .leaf)) (s .args .leaf .labels) (now (s .args .model)) z m)) e (toZ-ofZ (s .fits .wanted)), omega arith)
+    let s = c .before .before .before in
+    let e : l .y ≡ s .args .s .p = omega arith in
+    (l .inv .2 ∙ ap₂ (λ (m : ℕ) (z : ℤ). length (lowestOfLength (numbered (s .args .s)) (s .args .labels) (now (s .args .model)) z m)) e (toZ-ofZ (s .fits .wanted)), omega arith)
 
 pub classes-of-spec : {M : Type 1} → statement M
 classes-of-spec =
@@ -76,7 +75,7 @@ classes-of-spec =
     Inv-loop
     μ-loop
     loop-holds
-    len-of-requires
+    value-of-requires
     tally-requires
     add-count
     add-y

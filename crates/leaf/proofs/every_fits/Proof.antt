@@ -8,16 +8,16 @@ use mathlib.Core.Path.{_∙_, _≡_, ap, refl, sym}
 use native.Mathlib.Omega.{arith}
 use Rattle.lists.specs.Lists.{allBelow}
 use Rattle.leaf.proofs.Laws.{every-more, every-no}
-use Rattle.leaf.specs.Leaf.{asked}
+use Rattle.question.specs.Posed.{asked}
 use Rattle.leaf.specs.Values.{byValues}
 use Rattle.leaf.proofs.every_fits.Statement.{statement}
 use Rattle.leaf.proofs.every_fits.Tie as tie
 
 abbrev Inv-loop : tie.InvT-loop
-Inv-loop ticket model leaf x₀ x = (x ≤ leaf .p) × (allBelow x (byValues (asked ticket leaf) (leaf .labels) model) ≡ true)
+Inv-loop ticket model s labels x₀ x = (x ≤ s .p) × (allBelow x (byValues (asked ticket s) labels model) ≡ true)
 
 abbrev μ-loop : tie.MeasureT-loop
-μ-loop ticket model leaf x₀ x = leaf .p - x
+μ-loop ticket model s labels x₀ x = s .p - x
 
 loop-holds : tie.Need-loop-holds Inv-loop μ-loop
 loop-holds c = (omega arith, refl)
@@ -29,7 +29,7 @@ returns : tie.Need-returns Inv-loop μ-loop
 returns c =
     let l = c .before .before .before .before .loop in
     let s = c .before .before .before .before .before .before .args in
-    sym (every-no (byValues (asked (now (s .ticket)) (s .leaf)) (s .leaf .labels) (now (s .model))) (s .leaf .p) (l .x) (omega arith) (sym (c .before .values-fit .ensures) ∙ not-true _ (c .if2 .taken)))
+    sym (every-no (byValues (asked (now (s .ticket)) (s .s)) (s .labels) (now (s .model))) (s .s .p) (l .x) (omega arith) (sym (c .before .values-fit .ensures) ∙ not-true _ (c .if2 .taken)))
 
 add-x : tie.Need-add-x Inv-loop μ-loop
 add-x c = search needs
@@ -41,14 +41,14 @@ loop-again : tie.Need-loop-again Inv-loop μ-loop
 loop-again c =
     let l = c .before .before .before .before .loop in
     let s = c .before .before .before .before .before .before .args in
-    (omega arith, every-more (byValues (asked (now (s .ticket)) (s .leaf)) (s .leaf .labels) (now (s .model))) (l .x) (l .inv .1) (sym (c .before .values-fit .ensures) ∙ not-false _ (c .if2 .left)))
+    (omega arith, every-more (byValues (asked (now (s .ticket)) (s .s)) (s .labels) (now (s .model))) (l .x) (l .inv .1) (sym (c .before .values-fit .ensures) ∙ not-false _ (c .if2 .left)))
 
 returns-2 : tie.Need-returns-2 Inv-loop μ-loop
 returns-2 c =
     let l = c .before .before .loop in
     let s = c .before .before .before .before .args in
-    let e : l .x ≡ s .leaf .p = omega arith in
-    sym (ap (λ (k : ℕ). allBelow k (byValues (asked (now (s .ticket)) (s .leaf)) (s .leaf .labels) (now (s .model)))) (sym e) ∙ l .inv .1)
+    let e : l .x ≡ s .s .p = omega arith in
+    sym (ap (λ (k : ℕ). allBelow k (byValues (asked (now (s .ticket)) (s .s)) (s .labels) (now (s .model)))) (sym e) ∙ l .inv .1)
 
 pub every-fits-spec : {M : Type 1} → statement M
 every-fits-spec =

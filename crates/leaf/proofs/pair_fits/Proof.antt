@@ -1,14 +1,13 @@
 -- `leaf::pair_fits` meets its contract.
 use borrow.Author.Needs.{needs}
 use denote.Ref.{now}
-use mathlib.Core.List.{[]}
 use mathlib.Core.Path.{_∙_, _≡_}
 use mir.Facts.{toZ-ofZ}
 use mir.Syntax.{w64}
 use mir.Val.{ofZ, toZ}
 use Rattle.calculus.specs.Facts.{code, len}
 use Rattle.calculus.specs.Model.{modelValue}
-use Rattle.leaf.specs.Leaf.{asked}
+use Rattle.question.specs.Posed.{numbered}
 use Rattle.leaf.specs.Values.{pairFits}
 use Rattle.leaf.proofs.pair_fits.Statement.{statement}
 use Rattle.leaf.proofs.pair_fits.Tie as tie
@@ -22,17 +21,17 @@ mul-same-class-2 c = search needs
 same-class-requires : tie.Need-same-class-requires
 same-class-requires c κs = search needs
 
-len-of-requires : tie.Need-len-of-requires
-len-of-requires c κs = search needs
+value-of-requires : tie.Need-value-of-requires
+value-of-requires c κs = search needs
 
-len-of-requires-2 : tie.Need-len-of-requires-2
-len-of-requires-2 c κs = search needs
+value-of-requires-2 : tie.Need-value-of-requires-2
+value-of-requires-2 c κs = search needs
 
-code-of-requires : tie.Need-code-of-requires
-code-of-requires c κs = search needs
+value-of-requires-3 : tie.Need-value-of-requires-3
+value-of-requires-3 c κs = search needs
 
-code-of-requires-2 : tie.Need-code-of-requires-2
-code-of-requires-2 c κs = search needs
+value-of-requires-4 : tie.Need-value-of-requires-4
+value-of-requires-4 c κs = search needs
 
 pair-by-requires : tie.Need-pair-by-requires
 pair-by-requires c κs = search needs
@@ -40,13 +39,13 @@ pair-by-requires c κs = search needs
 returns : tie.Need-returns
 unfolding pairFits
 returns c =
-    let s = c .before .before .before .before .before .before .before .args in
-    let u = asked [] (s .leaf) in
+    let s = c .before .before .before .before .before .before .args in
+    let u = numbered (s .s) in
     let m = now (s .model) in
-    let z : toZ w64 (ofZ w64 (c .before .before .before .before .len-of .result)) ≡ modelValue u m len (s .x) = toZ-ofZ (record { sfits = c .before .before .before .before .len-of .ok }) ∙ c .before .before .before .before .len-of .ensures in
-    let w : toZ w64 (ofZ w64 (c .before .before .before .len-of2 .result)) ≡ modelValue u m len (s .y) = toZ-ofZ (record { sfits = c .before .before .before .len-of2 .ok }) ∙ c .before .before .before .len-of2 .ensures in
-    let p : toZ w64 (ofZ w64 (c .before .before .code-of .result)) ≡ modelValue u m code (s .x) = toZ-ofZ (record { sfits = c .before .before .code-of .ok }) ∙ c .before .before .code-of .ensures in
-    let q : toZ w64 (ofZ w64 (c .before .code-of2 .result)) ≡ modelValue u m code (s .y) = toZ-ofZ (record { sfits = c .before .code-of2 .ok }) ∙ c .before .code-of2 .ensures in
+    let z : toZ w64 (ofZ w64 (c .before .before .before .before .value-of .result)) ≡ modelValue u m len (s .x) = toZ-ofZ (record { sfits = c .before .before .before .before .value-of .ok }) ∙ c .before .before .before .before .value-of .ensures in
+    let w : toZ w64 (ofZ w64 (c .before .before .before .value-of2 .result)) ≡ modelValue u m len (s .y) = toZ-ofZ (record { sfits = c .before .before .before .value-of2 .ok }) ∙ c .before .before .before .value-of2 .ensures in
+    let p : toZ w64 (ofZ w64 (c .before .before .value-of3 .result)) ≡ modelValue u m code (s .x) = toZ-ofZ (record { sfits = c .before .before .value-of3 .ok }) ∙ c .before .before .value-of3 .ensures in
+    let q : toZ w64 (ofZ w64 (c .before .value-of4 .result)) ≡ modelValue u m code (s .y) = toZ-ofZ (record { sfits = c .before .value-of4 .ok }) ∙ c .before .value-of4 .ensures in
     c .pair-by .ensures ∙ rw (c .before .before .before .before .before .same-class .ensures, z, w, p, q)
 
 pub pair-fits-spec : {M : Type 1} → statement M
@@ -56,9 +55,9 @@ pair-fits-spec =
     mul-same-class
     mul-same-class-2
     same-class-requires
-    len-of-requires
-    len-of-requires-2
-    code-of-requires
-    code-of-requires-2
+    value-of-requires
+    value-of-requires-2
+    value-of-requires-3
+    value-of-requires-4
     pair-by-requires
     returns)

@@ -4,21 +4,20 @@ use borrow.Author.Needs.{needs}
 use borrow.Author.Tests.{not-false, not-true}
 use denote.Ref.{now}
 use mathlib.Core.Bool.{true}
-use mathlib.Core.List.{[]}
 use mathlib.Core.Path.{_∙_, _≡_, ap, refl, sym}
 use native.Mathlib.Omega.{arith}
 use Rattle.lists.specs.Lists.{allBelow}
 use Rattle.leaf.proofs.Laws.{every-more, every-no}
-use Rattle.leaf.specs.Leaf.{asked}
+use Rattle.question.specs.Posed.{numbered}
 use Rattle.leaf.specs.Values.{pairFits}
 use Rattle.leaf.proofs.pairs_fit.Statement.{statement}
 use Rattle.leaf.proofs.pairs_fit.Tie as tie
 
 abbrev Inv-loop : tie.InvT-loop
-Inv-loop model leaf x y₀ y = (y ≤ leaf .p) × (allBelow y (pairFits (asked [] leaf) (leaf .labels) model x) ≡ true)
+Inv-loop model s labels x y₀ y = (y ≤ s .p) × (allBelow y (pairFits (numbered s) labels model x) ≡ true)
 
 abbrev μ-loop : tie.MeasureT-loop
-μ-loop model leaf x y₀ y = leaf .p - y
+μ-loop model s labels x y₀ y = s .p - y
 
 loop-holds : tie.Need-loop-holds Inv-loop μ-loop
 loop-holds c = (omega arith, refl)
@@ -30,7 +29,7 @@ returns : tie.Need-returns Inv-loop μ-loop
 returns c =
     let l = c .before .before .before .before .loop in
     let s = c .before .before .before .before .before .args in
-    sym (every-no (pairFits (asked [] (s .leaf)) (s .leaf .labels) (now (s .model)) (s .x)) (s .leaf .p) (l .y) (omega arith) (sym (c .before .pair-fits .ensures) ∙ not-true _ (c .if2 .taken)))
+    sym (every-no (pairFits (numbered (s .s)) (s .labels) (now (s .model)) (s .x)) (s .s .p) (l .y) (omega arith) (sym (c .before .pair-fits .ensures) ∙ not-true _ (c .if2 .taken)))
 
 add-y : tie.Need-add-y Inv-loop μ-loop
 add-y c = search needs
@@ -42,14 +41,14 @@ loop-again : tie.Need-loop-again Inv-loop μ-loop
 loop-again c =
     let l = c .before .before .before .before .loop in
     let s = c .before .before .before .before .before .args in
-    (omega arith, every-more (pairFits (asked [] (s .leaf)) (s .leaf .labels) (now (s .model)) (s .x)) (l .y) (l .inv .1) (sym (c .before .pair-fits .ensures) ∙ not-false _ (c .if2 .left)))
+    (omega arith, every-more (pairFits (numbered (s .s)) (s .labels) (now (s .model)) (s .x)) (l .y) (l .inv .1) (sym (c .before .pair-fits .ensures) ∙ not-false _ (c .if2 .left)))
 
 returns-2 : tie.Need-returns-2 Inv-loop μ-loop
 returns-2 c =
     let l = c .before .before .loop in
     let s = c .before .before .before .args in
-    let e : l .y ≡ s .leaf .p = omega arith in
-    sym (ap (λ (k : ℕ). allBelow k (pairFits (asked [] (s .leaf)) (s .leaf .labels) (now (s .model)) (s .x))) (sym e) ∙ l .inv .1)
+    let e : l .y ≡ s .s .p = omega arith in
+    sym (ap (λ (k : ℕ). allBelow k (pairFits (numbered (s .s)) (s .labels) (now (s .model)) (s .x))) (sym e) ∙ l .inv .1)
 
 pub pairs-fit-spec : {M : Type 1} → statement M
 pairs-fit-spec =

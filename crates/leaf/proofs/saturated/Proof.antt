@@ -9,17 +9,17 @@ use Rattle.lists.specs.Lists.{allBelow}
 use Rattle.calculus.specs.Classes.{conflict, labels}
 use Rattle.leaf.proofs.Laws.{conflict-is}
 use Rattle.leaf.proofs.Saturation.{saturated-is}
-use Rattle.leaf.specs.Leaf.{asked}
+use Rattle.question.specs.Posed.{asked}
 use Rattle.leaf.specs.Values.{byValues}
 use Rattle.rows.specs.Rows.{branchOf}
 use Rattle.leaf.proofs.saturated.Statement.{statement}
 use Rattle.leaf.proofs.saturated.Tie as tie
 
 -- S-Conf's test
-conflict-test : (c : tie.After-conflict) → c .conflict .result ≡ conflict (asked (now (c .before .before .before .before .args .ticket)) (c .before .before .before .before .args .leaf)) (branchOf (now (c .before .before .before .before .args .work)) (c .before .before .before .before .args .count))
+conflict-test : (c : tie.After-conflict) → c .conflict .result ≡ conflict (asked (now (c .before .before .before .args .ticket)) (c .before .before .before .args .s)) (branchOf (now (c .before .before .before .args .work)) (c .before .before .before .args .count))
 conflict-test c =
-    let s = c .before .before .before .before in
-    c .conflict .ensures ∙ conflict-is (now (s .args .ticket)) (s .args .leaf) (branchOf (now (s .args .work)) (s .args .count)) (s .pre .1)
+    let s = c .before .before .before in
+    c .conflict .ensures ∙ conflict-is (now (s .args .ticket)) (s .args .s) (s .args .labels) (branchOf (now (s .args .work)) (s .args .count)) (s .pre .1)
 
 add-conflict : tie.Need-add-conflict
 add-conflict c = search needs
@@ -29,8 +29,8 @@ conflict-requires c κs = search needs
 
 returns : tie.Need-returns
 returns c =
-    let s = c .before .before .before .before .before .args in
-    let u = asked (now (s .ticket)) (s .leaf) in
+    let s = c .before .before .before .before .args in
+    let u = asked (now (s .ticket)) (s .s) in
     let b = branchOf (now (s .work)) (s .count) in
     sym (saturated-is u b (now (s .model))
     ∙ ap (λ (t : Bool). not t && allBelow (u .p) (byValues u (labels b) (now (s .model)))) (sym (conflict-test (c .before)) ∙ c .if1 .taken))
@@ -39,9 +39,10 @@ every-fits-requires : tie.Need-every-fits-requires
 every-fits-requires c κs = search needs
 
 returns-2 : tie.Need-returns-2
+unfolding asked
 returns-2 c =
-    let s = c .before .before .before .before .before .before in
-    let u = asked (now (s .args .ticket)) (s .args .leaf) in
+    let s = c .before .before .before .before .before in
+    let u = asked (now (s .args .ticket)) (s .args .s) in
     let m = now (s .args .model) in
     let b = branchOf (now (s .args .work)) (s .args .count) in
     c .every-fits .ensures

@@ -1,5 +1,4 @@
 -- `leaf::var_fits` meets its contract.
-use Prim.Native.Nat.{suc, ℕ}
 use borrow.Author.Needs.{needs}
 use borrow.Author.Tests.{not-false, not-true}
 use denote.Ref.{now}
@@ -8,88 +7,88 @@ use mathlib.Core.Path.{_∙_, _≡_, ap, ap₂, sym}
 use mir.Facts.{toZ-ofZ}
 use mir.Syntax.{w64}
 use mir.Val.{ofZ, toZ}
-use Rattle.calculus.specs.Classes.{lowestLiteral}
+use Rattle.calculus.specs.Classes.{literalIn}
 use Rattle.calculus.specs.Facts.{code, len}
 use Rattle.calculus.specs.Model.{modelValue}
-use Rattle.format.proofs.Places.{length-texts}
-use Rattle.format.specs.Places.{literalsFrom}
 use Rattle.leaf.proofs.Laws.{card-any, fromLiteral, var-card, var-code, var-length, var-literal}
-use Rattle.leaf.specs.Leaf.{asked}
+use Rattle.question.proofs.Posed.{some-character}
+use Rattle.question.specs.Posed.{asked}
 use Rattle.leaf.specs.Values.{codeFits, lengthFits, literalFits}
 use Rattle.leaf.proofs.var_fits.Statement.{statement}
 use Rattle.leaf.proofs.var_fits.Tie as tie
 
 -- the length and the code that were read
-z-is : (c : tie.After-len-of) → toZ w64 (ofZ w64 (c .len-of .result)) ≡ modelValue (asked (now (c .before .before .before .args .ticket)) (c .before .before .before .args .leaf)) (now (c .before .before .before .args .model)) len (c .before .before .before .args .x)
-z-is c = toZ-ofZ (record { sfits = c .len-of .ok }) ∙ c .len-of .ensures
+z-is : (c : tie.After-value-of) → toZ w64 (ofZ w64 (c .value-of .result)) ≡ modelValue (asked (now (c .before .before .args .ticket)) (c .before .before .args .s)) (now (c .before .before .args .model)) len (c .before .before .args .x)
+unfolding asked
+z-is c = toZ-ofZ (record { sfits = c .value-of .ok }) ∙ c .value-of .ensures
 
-c-is : (c : tie.After-code-of) → toZ w64 (ofZ w64 (c .code-of .result)) ≡ modelValue (asked (now (c .before .before .before .before .args .ticket)) (c .before .before .before .before .args .leaf)) (now (c .before .before .before .before .args .model)) code (c .before .before .before .before .args .x)
-c-is c = toZ-ofZ (record { sfits = c .code-of .ok }) ∙ c .code-of .ensures
+c-is : (c : tie.After-value-of2) → toZ w64 (ofZ w64 (c .value-of2 .result)) ≡ modelValue (asked (now (c .before .before .before .args .ticket)) (c .before .before .before .args .s)) (now (c .before .before .before .args .model)) code (c .before .before .before .args .x)
+unfolding asked
+c-is c = toZ-ofZ (record { sfits = c .value-of2 .ok }) ∙ c .value-of2 .ensures
 
 -- the tests before Card
 literal-test : (c : tie.After-literal-fits) → c .literal-fits .result
-    ≡ fromLiteral (asked (now (c .before .before .before .before .before .args .ticket)) (c .before .before .before .before .before .args .leaf)) (c .before .before .before .before .before .args .leaf .labels) (now (c .before .before .before .before .before .args .model)) (c .before .before .before .before .before .args .x)
+    ≡ fromLiteral (asked (now (c .before .before .before .before .args .ticket)) (c .before .before .before .before .args .s)) (c .before .before .before .before .args .labels) (now (c .before .before .before .before .args .model)) (c .before .before .before .before .args .x)
 literal-test c =
-    let s = c .before .before .before .before .before .args in
-    let u = asked (now (s .ticket)) (s .leaf) in
-    let m = now (s .model) in
-    c .literal-fits .ensures
-    ∙ ap₂ (λ (z w : ℤ). literalFits u (lowestLiteral (s .leaf .labels) (s .x) 0 (suc (s .leaf .literals))) z w) (z-is (c .before .before)) (c-is (c .before))
-    ∙ ap (λ (k : ℕ). literalFits u (lowestLiteral (s .leaf .labels) (s .x) 0 (suc k)) (modelValue u m len (s .x)) (modelValue u m code (s .x))) (sym (length-texts (now (s .ticket)) (s .leaf .literals) literalsFrom))
+    let s = c .before .before .before .before .args in
+    let u = asked (now (s .ticket)) (s .s) in
+    c .literal-fits .ensures ∙ ap₂ (literalFits u (literalIn u (s .labels) (s .x))) (z-is (c .before .before)) (c-is (c .before))
 
 length-test : (c : tie.After-length-fits) → c .length-fits .result
-    ≡ lengthFits (c .before .before .before .before .before .before .before .args .leaf .labels) (c .before .before .before .before .before .before .before .args .x) (modelValue (asked (now (c .before .before .before .before .before .before .before .args .ticket)) (c .before .before .before .before .before .before .before .args .leaf)) (now (c .before .before .before .before .before .before .before .args .model)) len (c .before .before .before .before .before .before .before .args .x))
-length-test c = c .length-fits .ensures ∙ ap (lengthFits (c .before .before .before .before .before .before .before .args .leaf .labels) (c .before .before .before .before .before .before .before .args .x)) (z-is (c .before .before .before .before))
+    ≡ lengthFits (c .before .before .before .before .before .before .args .labels) (c .before .before .before .before .before .before .args .x) (modelValue (asked (now (c .before .before .before .before .before .before .args .ticket)) (c .before .before .before .before .before .before .args .s)) (now (c .before .before .before .before .before .before .args .model)) len (c .before .before .before .before .before .before .args .x))
+length-test c = c .length-fits .ensures ∙ ap (lengthFits (c .before .before .before .before .before .before .args .labels) (c .before .before .before .before .before .before .args .x)) (z-is (c .before .before .before .before))
 
 code-test : (c : tie.After-code-fits) → c .code-fits .result
-    ≡ codeFits (c .before .before .before .before .before .before .before .before .before .args .leaf .n) (modelValue (asked (now (c .before .before .before .before .before .before .before .before .before .args .ticket)) (c .before .before .before .before .before .before .before .before .before .args .leaf)) (now (c .before .before .before .before .before .before .before .before .before .args .model)) len (c .before .before .before .before .before .before .before .before .before .args .x)) (modelValue (asked (now (c .before .before .before .before .before .before .before .before .before .args .ticket)) (c .before .before .before .before .before .before .before .before .before .args .leaf)) (now (c .before .before .before .before .before .before .before .before .before .args .model)) code (c .before .before .before .before .before .before .before .before .before .args .x))
-code-test c = c .code-fits .ensures ∙ ap₂ (λ (z w : ℤ). codeFits (c .before .before .before .before .before .before .before .before .before .args .leaf .n) z w) (z-is (c .before .before .before .before .before .before)) (c-is (c .before .before .before .before .before))
+    ≡ codeFits (c .before .before .before .before .before .before .before .before .args .s .n) (modelValue (asked (now (c .before .before .before .before .before .before .before .before .args .ticket)) (c .before .before .before .before .before .before .before .before .args .s)) (now (c .before .before .before .before .before .before .before .before .args .model)) len (c .before .before .before .before .before .before .before .before .args .x)) (modelValue (asked (now (c .before .before .before .before .before .before .before .before .args .ticket)) (c .before .before .before .before .before .before .before .before .args .s)) (now (c .before .before .before .before .before .before .before .before .args .model)) code (c .before .before .before .before .before .before .before .before .args .x))
+code-test c = c .code-fits .ensures ∙ ap₂ (λ (z w : ℤ). codeFits (c .before .before .before .before .before .before .before .before .args .s .n) z w) (z-is (c .before .before .before .before .before .before)) (c-is (c .before .before .before .before .before))
 
-len-of-requires : tie.Need-len-of-requires
-len-of-requires c κs = search needs
+value-of-requires : tie.Need-value-of-requires
+value-of-requires c κs = search needs
 
-code-of-requires : tie.Need-code-of-requires
-code-of-requires c κs = search needs
+value-of-requires-2 : tie.Need-value-of-requires-2
+value-of-requires-2 c κs = search needs
 
 literal-fits-requires : tie.Need-literal-fits-requires
 literal-fits-requires c κs = search needs
 
 returns : tie.Need-returns
 returns c =
-    let s = c .before .before .before .before .before .before .args in
-    sym (var-literal (asked (now (s .ticket)) (s .leaf)) (s .leaf .labels) (now (s .model)) (s .x) (sym (literal-test (c .before)) ∙ not-true _ (c .if1 .taken)))
+    let s = c .before .before .before .before .before .args in
+    sym (var-literal (asked (now (s .ticket)) (s .s)) (s .labels) (now (s .model)) (s .x) (sym (literal-test (c .before)) ∙ not-true _ (c .if1 .taken)))
 
 length-fits-requires : tie.Need-length-fits-requires
 length-fits-requires c κs = search needs
 
 returns-2 : tie.Need-returns-2
 returns-2 c =
-    let s = c .before .before .before .before .before .before .before .before .args in
-    sym (var-length (asked (now (s .ticket)) (s .leaf)) (s .leaf .labels) (now (s .model)) (s .x) (sym (literal-test (c .before .before .before)) ∙ not-false _ (c .before .before .if1 .left)) (sym (length-test (c .before)) ∙ not-true _ (c .if2 .taken)))
+    let s = c .before .before .before .before .before .before .before .args in
+    sym (var-length (asked (now (s .ticket)) (s .s)) (s .labels) (now (s .model)) (s .x) (sym (literal-test (c .before .before .before)) ∙ not-false _ (c .before .before .if1 .left)) (sym (length-test (c .before)) ∙ not-true _ (c .if2 .taken)))
 
 code-fits-requires : tie.Need-code-fits-requires
-code-fits-requires c κs = search needs
+code-fits-requires c κs = some-character (c .before .before .before .before .before .before .before .pre .0 .posed)
 
 returns-3 : tie.Need-returns-3
+unfolding asked
 returns-3 c =
-    let s = c .before .before .before .before .before .before .before .before .before .before .args in
-    sym (var-code (asked (now (s .ticket)) (s .leaf)) (s .leaf .labels) (now (s .model)) (s .x) (sym (literal-test (c .before .before .before .before .before)) ∙ not-false _ (c .before .before .before .before .if1 .left)) (sym (length-test (c .before .before .before)) ∙ not-false _ (c .before .before .if2 .left)) (sym (code-test (c .before)) ∙ not-true _ (c .if3 .taken)))
+    let s = c .before .before .before .before .before .before .before .before .before .args in
+    sym (var-code (asked (now (s .ticket)) (s .s)) (s .labels) (now (s .model)) (s .x) (sym (literal-test (c .before .before .before .before .before)) ∙ not-false _ (c .before .before .before .before .if1 .left)) (sym (length-test (c .before .before .before)) ∙ not-false _ (c .before .before .if2 .left)) (sym (code-test (c .before)) ∙ not-true _ (c .if3 .taken)))
 
 card-fits-requires : tie.Need-card-fits-requires
 card-fits-requires c κs = search needs
 
 returns-4 : tie.Need-returns-4
+unfolding asked
 returns-4 c =
-    let s = c .before .before .before .before .before .before .before .before .before .before .before .args in
-    c .card-fits .ensures ∙ card-any (now (s .ticket)) (s .leaf) (s .leaf .labels) (now (s .model)) (s .x)
-    ∙ sym (var-card (asked (now (s .ticket)) (s .leaf)) (s .leaf .labels) (now (s .model)) (s .x) (sym (literal-test (c .before .before .before .before .before .before)) ∙ not-false _ (c .before .before .before .before .before .if1 .left)) (sym (length-test (c .before .before .before .before)) ∙ not-false _ (c .before .before .before .if2 .left)) (sym (code-test (c .before .before)) ∙ not-false _ (c .before .if3 .left)))
+    let s = c .before .before .before .before .before .before .before .before .before .before .args in
+    c .card-fits .ensures ∙ card-any (now (s .ticket)) (s .s) (s .labels) (now (s .model)) (s .x)
+    ∙ sym (var-card (asked (now (s .ticket)) (s .s)) (s .labels) (now (s .model)) (s .x) (sym (literal-test (c .before .before .before .before .before .before)) ∙ not-false _ (c .before .before .before .before .before .if1 .left)) (sym (length-test (c .before .before .before .before)) ∙ not-false _ (c .before .before .before .if2 .left)) (sym (code-test (c .before .before)) ∙ not-false _ (c .before .if3 .left)))
 
 pub var-fits-spec : {M : Type 1} → statement M
 var-fits-spec =
     tie.close
     (tie.spec
-    len-of-requires
-    code-of-requires
+    value-of-requires
+    value-of-requires-2
     literal-fits-requires
     returns
     length-fits-requires

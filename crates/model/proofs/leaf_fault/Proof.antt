@@ -2,30 +2,33 @@
 use borrow.Author.Needs.{needs}
 use borrow.Author.Tests.{not-false, not-true}
 use denote.Ref.{now}
-use lib.ListN.{take}
 use lib.Seq.{length-take-le}
 use mathlib.Core.Bool.{true, false}
 use mathlib.Core.Path.{_∙_, _≡_, refl, sym}
 use native.Mathlib.Omega.{arith}
+use Rattle.calculus.specs.Facts.{columnCount}
 use Rattle.calculus.specs.SaturationTest.{saturated}
 use Rattle.format.specs.Checking.{keeps, shortLengths}
-use Rattle.leaf.specs.Leaf.{asked, columnsOf}
+use Rattle.question.specs.Posed.{asked, numbered}
 use Rattle.rows.specs.Rows.{branchOf}
+use Rattle.model.specs.Settled.{values}
+use Rattle.model.proofs.Settling.{columns-ready, few-columns}
 use Rattle.model.proofs.Tested.{keeps-columns, leaf-tests}
 use Rattle.model.proofs.leaf_fault.Statement.{statement}
 use Rattle.model.proofs.leaf_fault.Tie as tie
 
 -- 12's test
-keeps-test : (c : tie.After-keeps-facts) → c .keeps-facts .result ≡ keeps (take (columnsOf (c .before .before .args .leaf)) (now (c .before .before .args .model))) (branchOf (now (c .before .before .args .work)) (c .before .before .args .count))
+keeps-test : (c : tie.After-keeps-facts) → c .keeps-facts .result ≡ keeps (values (c .before .before .args .s) (now (c .before .before .args .model))) (branchOf (now (c .before .before .args .work)) (c .before .before .args .count))
 keeps-test c =
     let s = c .before .before in
-    c .keeps-facts .ensures ∙ keeps-columns (now (s .args .model)) (s .args .leaf) (branchOf (now (s .args .work)) (s .args .count)) (s .pre .1 .0)
+    c .keeps-facts .ensures ∙ keeps-columns (now (s .args .model)) (s .args .s) (branchOf (now (s .args .work)) (s .args .count)) (s .pre .0 .1)
 
 -- 13's and 14's
-saturated-test : (c : tie.After-saturated) → c .saturated .result ≡ saturated (asked (now (c .before .before .before .before .before .before .before .args .ticket)) (c .before .before .before .before .before .before .before .args .leaf)) (branchOf (now (c .before .before .before .before .before .before .before .args .work)) (c .before .before .before .before .before .before .before .args .count)) (take (columnsOf (c .before .before .before .before .before .before .before .args .leaf)) (now (c .before .before .before .before .before .before .before .args .model)))
+saturated-test : (c : tie.After-saturated) → c .saturated .result ≡ saturated (asked (now (c .before .before .before .before .before .before .before .args .ticket)) (c .before .before .before .before .before .before .before .args .s)) (branchOf (now (c .before .before .before .before .before .before .before .args .work)) (c .before .before .before .before .before .before .before .args .count)) (values (c .before .before .before .before .before .before .before .args .s) (now (c .before .before .before .before .before .before .before .args .model)))
 saturated-test c = c .saturated .ensures
 
-lengths-test : (c : tie.After-short-lengths) → c .short-lengths .result ≡ shortLengths (asked (now (c .before .before .before .before .before .before .before .before .before .args .ticket)) (c .before .before .before .before .before .before .before .before .before .args .leaf)) (take (columnsOf (c .before .before .before .before .before .before .before .before .before .args .leaf)) (now (c .before .before .before .before .before .before .before .before .before .args .model)))
+lengths-test : (c : tie.After-short-lengths) → c .short-lengths .result ≡ shortLengths (asked (now (c .before .before .before .before .before .before .before .before .before .args .ticket)) (c .before .before .before .before .before .before .before .before .before .args .s)) (values (c .before .before .before .before .before .before .before .before .before .args .s) (now (c .before .before .before .before .before .before .before .before .before .args .model)))
+unfolding asked
 lengths-test c = c .short-lengths .ensures
 
 keeps-facts-requires : tie.Need-keeps-facts-requires
@@ -34,7 +37,7 @@ keeps-facts-requires c κs = search needs
 returns : tie.Need-returns
 returns c =
     let s = c .before .before .before .args in
-    leaf-tests (asked (now (s .ticket)) (s .leaf)) (branchOf (now (s .work)) (s .count)) (take (columnsOf (s .leaf)) (now (s .model))) false _ _ (sym (keeps-test (c .before)) ∙ not-true _ (c .if1 .taken)) refl refl
+    leaf-tests (asked (now (s .ticket)) (s .s)) (branchOf (now (s .work)) (s .count)) (values (s .s) (now (s .model))) false _ _ (sym (keeps-test (c .before)) ∙ not-true _ (c .if1 .taken)) refl refl
 
 add-columns : tie.Need-add-columns
 add-columns c = search needs
@@ -45,26 +48,28 @@ add-columns-2 c = search needs
 slice-aggregate-values : tie.Need-slice-aggregate-values
 slice-aggregate-values c =
     let s = c .before .before .before .before .before .before in
-    let r = s .pre .1 .1 .modelled in
-    let all = s .pre .1 .0 .all in
-    sym (length-take-le (columnsOf (s .args .leaf)) (now (s .args .model)) (omega (arith, r .few-strings, r .few-integers)))
+    sym (length-take-le (columnCount (numbered (s .args .s))) (now (s .args .model)) (omega (arith, few-columns (now (s .args .ticket)) (s .args .s) (s .pre .0 .0), s .pre .0 .1 .all)))
 
 saturated-requires : tie.Need-saturated-requires
-saturated-requires c κs = search needs
+saturated-requires c κs =
+    let s = c .before .before .before .before .before .before in
+    ((columns-ready (now (s .args .ticket)) (s .args .s) (s .pre .0 .0) (now (s .args .model)) (s .pre .0 .1 .all), search needs, search needs), s .pre .1 .1)
 
 returns-2 : tie.Need-returns-2
 returns-2 c =
     let s = c .before .before .before .before .before .before .before .before .args in
-    leaf-tests (asked (now (s .ticket)) (s .leaf)) (branchOf (now (s .work)) (s .count)) (take (columnsOf (s .leaf)) (now (s .model))) true false _
+    leaf-tests (asked (now (s .ticket)) (s .s)) (branchOf (now (s .work)) (s .count)) (values (s .s) (now (s .model))) true false _
     (sym (keeps-test (c .before .before .before .before .before .before)) ∙ not-false _ (c .before .before .before .before .before .if1 .left)) (sym (saturated-test (c .before)) ∙ not-true _ (c .if2 .taken)) refl
 
 short-lengths-requires : tie.Need-short-lengths-requires
-short-lengths-requires c κs = search needs
+short-lengths-requires c κs =
+    let s = c .before .before .before .before .before .before .before .before in
+    search (needs, columns-ready (now (s .args .ticket)) (s .args .s) (s .pre .0 .0) (now (s .args .model)) (s .pre .0 .1 .all))
 
 returns-3 : tie.Need-returns-3
 returns-3 c =
     let s = c .before .before .before .before .before .before .before .before .before .before .args in
-    leaf-tests (asked (now (s .ticket)) (s .leaf)) (branchOf (now (s .work)) (s .count)) (take (columnsOf (s .leaf)) (now (s .model))) true true false
+    leaf-tests (asked (now (s .ticket)) (s .s)) (branchOf (now (s .work)) (s .count)) (values (s .s) (now (s .model))) true true false
     (sym (keeps-test (c .before .before .before .before .before .before .before .before)) ∙ not-false _ (c .before .before .before .before .before .before .before .if1 .left))
     (sym (saturated-test (c .before .before .before)) ∙ not-false _ (c .before .before .if2 .left))
     (sym (lengths-test (c .before)) ∙ not-true _ (c .if3 .taken))
@@ -72,7 +77,7 @@ returns-3 c =
 returns-4 : tie.Need-returns-4
 returns-4 c =
     let s = c .before .before .before .before .before .before .before .before .before .before .args in
-    leaf-tests (asked (now (s .ticket)) (s .leaf)) (branchOf (now (s .work)) (s .count)) (take (columnsOf (s .leaf)) (now (s .model))) true true true
+    leaf-tests (asked (now (s .ticket)) (s .s)) (branchOf (now (s .work)) (s .count)) (values (s .s) (now (s .model))) true true true
     (sym (keeps-test (c .before .before .before .before .before .before .before .before)) ∙ not-false _ (c .before .before .before .before .before .before .before .if1 .left))
     (sym (saturated-test (c .before .before .before)) ∙ not-false _ (c .before .before .if2 .left))
     (sym (lengths-test (c .before)) ∙ not-false _ (c .if3 .left))

@@ -12,7 +12,7 @@ use Rattle.format.specs.Fields.{i32s, allWithin}
 use Rattle.format.specs.Reading.{modelAt}
 use Rattle.question.specs.Posed.{asked}
 use Rattle.rows.specs.Rows.{branchOf}
-use Rattle.model.proofs.Settling.{held-filled, held-ready, settled-answers, settled-fault}
+use Rattle.model.proofs.Settling.{held-filled, settled-answers, settled-fault}
 use Rattle.model.proofs.Tested.{model-tests}
 use Rattle.model.proofs.settle.Statement.{statement}
 use Rattle.model.proofs.settle.Tie as tie
@@ -65,13 +65,8 @@ small c = sym (c .before .integers-within .ensures) ∙ not-false _ (c .if2 .lef
 leaf-fault-requires : tie.Need-leaf-fault-requires
 leaf-fault-requires c κs =
     let s = c .before .before .before .before .before .before .before .before .before in
-    let ls = c .before .before .before .before .before .before .before .labels .result in
-    let held = c .before .read-model .result in
-    let e = c .before .read-model .ensures in
-    let i = small (c .before .before) in (
-      (s .pre .2, c .before .before .before .before .before .before .before .labels .ensures),
-      (held-filled (now (s .args .ticket)) (s .args .s) (s .pre .0) (s .args .at) ls held i e, held-ready (now (s .args .ticket)) (s .args .s) (s .pre .0) (s .args .at) ls held i e),
-    )
+    let ls = c .before .before .before .before .before .before .before .labels in
+    ((s .pre .0, held-filled (now (s .args .ticket)) (s .args .s) (s .pre .0) (s .args .at) (ls .result) (c .before .read-model .result) (small (c .before .before)) (c .before .read-model .ensures)), (s .pre .2, ls .ensures))
 
 returns-3 : tie.Need-returns-3
 returns-3 c =

@@ -7,7 +7,7 @@ use lib.Seq.{length-sets, length-take-le, sets}
 use mathlib.Core.List.{List, _++_}
 use mathlib.Core.Path.{_∙_, _≡_, ap, refl}
 use native.Mathlib.Omega.{arith}
-use Rattle.leaf.specs.Leaf.{asked}
+use Rattle.question.specs.Posed.{asked}
 use Rattle.strings.proofs.Table.{part-stored, stored-passed}
 use Rattle.strings.specs.Filling.{entry, fixedAt}
 use Rattle.strings.proofs.give_fixed.Statement.{statement}
@@ -17,11 +17,11 @@ no-number : {A : Type 0} (y : ℕ) → y < 0 → A
 no-number y h = absurd (omega arith)
 
 abbrev Inv-loop : tie.InvT-loop
-Inv-loop ticket model leaf characters₀ sizes₀ x₀ characters sizes x =
-    (x ≤ leaf .p) × (length characters ≡ length characters₀) × (length sizes ≡ 16) × ((y : ℕ) → y < x → entry characters sizes y ≡ fixedAt (asked ticket leaf) (leaf .labels) model y)
+Inv-loop ticket model s labels characters₀ sizes₀ x₀ characters sizes x =
+    (x ≤ s .p) × (length characters ≡ length characters₀) × (length sizes ≡ 16) × ((y : ℕ) → y < x → entry characters sizes y ≡ fixedAt (asked ticket s) labels model y)
 
 abbrev μ-loop : tie.MeasureT-loop
-μ-loop ticket model leaf characters₀ sizes₀ x₀ characters sizes x = leaf .p - x
+μ-loop ticket model s labels characters₀ sizes₀ x₀ characters sizes x = s .p - x
 
 loop-holds : tie.Need-loop-holds Inv-loop μ-loop
 loop-holds c = (omega arith, refl, refl, λ y h. no-number y h)
@@ -45,7 +45,7 @@ part-fill-fixed-end : tie.Need-part-fill-fixed-end Inv-loop μ-loop
 part-fill-fixed-end c = search needs
 
 fill-fixed-requires : tie.Need-fill-fixed-requires Inv-loop μ-loop
-fill-fixed-requires c κs = search needs
+fill-fixed-requires c κs = let s = c .before .before .before .before .before .before in ((s .pre .0 .0, search needs, search needs), s .pre .1)
 
 mul-sizes : tie.Need-mul-sizes Inv-loop μ-loop
 mul-sizes c = search needs
@@ -64,18 +64,18 @@ loop-again c =
     let l = c .before .before .before .before .before .before .loop in
     let s = c .before .before .before .before .before .before .before .before .before .args in
     let r = c .before .before .fill-fixed in
-    let v = r .last .1 .1 .1 .1 .0 in
+    let v = r .last .1 .1 .1 .1 .1 .0 in
     let at = 64 * l .x in
     let room : at + (at + 64 - at) ≤ length (l .characters) = omega arith in
     let part : length (take (at + 64 - at) (drop at (l .characters))) ≡ at + 64 - at = length-take-le (at + 64 - at) (drop at (l .characters)) (rw length-drop (omega arith)) in
-    let n : length v ≡ at + 64 - at = r .kept .1 .1 .1 .1 .0 ∙ part in
+    let n : length v ≡ at + 64 - at = r .kept .1 .1 .1 .1 .1 .0 ∙ part in
     let p : take at (l .characters) ++ (v ++ drop (at + 64 - at) (drop at (l .characters))) ≡ sets (l .characters) at v = part-stored (l .characters) v at (at + 64 - at) n room in (
       omega arith,
       ap length p ∙ length-sets (l .characters) at v ∙ l .inv .1,
       simp length-set (l .inv .2),
       λ y h. ap (λ (cs : List ℕ). entry cs (set (l .sizes) (l .x) (r .result)) y) p
           ∙ stored-passed (l .characters) (l .sizes) (l .x) (r .result) v (omega arith) (λ q. omega arith) (omega arith) (omega arith)
-          (fixedAt (asked (now (s .ticket)) (s .leaf)) (s .leaf .labels) (now (s .model))) (l .inv .3) (r .ensures) y h,
+          (fixedAt (asked (now (s .ticket)) (s .s)) (s .labels) (now (s .model))) (l .inv .3) (r .ensures) y h,
     )
 
 same-length : tie.Need-same-length Inv-loop μ-loop
