@@ -51,13 +51,13 @@ module _ (b : Branch) where
       go false e = here
   relabel-reached old new (c ∷ cs) (suc i) d r = relabel-reached old new cs i d r
 
-  join-reached : (ls : List ℕ) (i j : ℕ) → Chain b i j → Reached ls → Reached (mergeNodes ls i j)
-  join-reached ls i j c h k = chain-trans (h k) (relabel-reached (label ls j) (label ls i) ls k k (chain-trans (chain-sym (h j)) (chain-trans (chain-sym c) (h i))))
+  merge-reached : (ls : List ℕ) (i j : ℕ) → Chain b i j → Reached ls → Reached (mergeNodes ls i j)
+  merge-reached ls i j c h k = chain-trans (h k) (relabel-reached (label ls j) (label ls i) ls k k (chain-trans (chain-sym (h j)) (chain-trans (chain-sym c) (h i))))
 
   fact-reached : (ls : List ℕ) (f : Fact) → ((i j : ℕ) → Edge f i j → Chain b i j) → Reached ls → Reached (mergeFact ls f)
-  fact-reached ls (same x y) g h = join-reached ls (varNode x) (varNode y) (g (varNode x) (varNode y) (refl, refl)) h
+  fact-reached ls (same x y) g h = merge-reached ls (varNode x) (varNode y) (g (varNode x) (varNode y) (refl, refl)) h
   fact-reached ls (notSame x y) g h = h
-  fact-reached ls (isLiteral x l) g h = join-reached ls (varNode x) (litNode l) (g (varNode x) (litNode l) (refl, refl)) h
+  fact-reached ls (isLiteral x l) g h = merge-reached ls (varNode x) (litNode l) (g (varNode x) (litNode l) (refl, refl)) h
   fact-reached ls (arithmetic r e) g h = h
 
   from-reached : (ls : List ℕ) (c : Branch) → ((i j : ℕ) → AnyEdge c i j → Chain b i j) → Reached ls → Reached (labelsFrom ls c)
@@ -85,11 +85,11 @@ pub length-relabel : (old new : ℕ) (cs : List ℕ) → length (relabel old new
 length-relabel old new [] = refl
 length-relabel old new (c ∷ cs) = ap suc (length-relabel old new cs)
 
-length-join : (ls : List ℕ) (f : Fact) → length (mergeFact ls f) ≡ length ls
-length-join ls (same x y) = length-relabel (label ls (varNode y)) (label ls (varNode x)) ls
-length-join ls (notSame x y) = refl
-length-join ls (isLiteral x l) = length-relabel (label ls (litNode l)) (label ls (varNode x)) ls
-length-join ls (arithmetic r e) = refl
+length-merge : (ls : List ℕ) (f : Fact) → length (mergeFact ls f) ≡ length ls
+length-merge ls (same x y) = length-relabel (label ls (varNode y)) (label ls (varNode x)) ls
+length-merge ls (notSame x y) = refl
+length-merge ls (isLiteral x l) = length-relabel (label ls (litNode l)) (label ls (varNode x)) ls
+length-merge ls (arithmetic r e) = refl
 
 moved-old : (old new : ℕ) → moved old new old ≡ new
 unfolding moved
@@ -103,8 +103,8 @@ moved-new old new = go (eqb new old)
     go true = refl
     go false = refl
 
-joins : (ls : List ℕ) (i j : ℕ) → i < length ls → j < length ls → label (mergeNodes ls i j) i ≡ label (mergeNodes ls i j) j
-joins ls i j h g = label-relabel (label ls j) (label ls i) ls i i h ∙ moved-new (label ls j) (label ls i)
+merges : (ls : List ℕ) (i j : ℕ) → i < length ls → j < length ls → label (mergeNodes ls i j) i ≡ label (mergeNodes ls i j) j
+merges ls i j h g = label-relabel (label ls j) (label ls i) ls i i h ∙ moved-new (label ls j) (label ls i)
     ∙ sym (label-relabel (label ls j) (label ls i) ls j j g ∙ moved-old (label ls j) (label ls i))
 
 keeps-nodes : (ls : List ℕ) (x y i j : ℕ) → i < length ls → j < length ls → label ls i ≡ label ls j → label (mergeNodes ls x y) i ≡ label (mergeNodes ls x y) j
@@ -118,21 +118,21 @@ keeps ls (arithmetic r t) i j h g e = e
 
 keeps-all : (b : Branch) (ls : List ℕ) (i j : ℕ) → i < length ls → j < length ls → label ls i ≡ label ls j → label (labelsFrom ls b) i ≡ label (labelsFrom ls b) j
 keeps-all [] ls i j h g e = e
-keeps-all (f ∷ b) ls i j h g e = keeps-all b (mergeFact ls f) i j (rw length-join h) (rw length-join g) (keeps ls f i j h g e)
+keeps-all (f ∷ b) ls i j h g e = keeps-all b (mergeFact ls f) i j (rw length-merge h) (rw length-merge g) (keeps ls f i j h g e)
 
-join-edge : (ls : List ℕ) (x y i j : ℕ) → i ≡ x → j ≡ y → i < length ls → j < length ls → label (mergeNodes ls x y) i ≡ label (mergeNodes ls x y) j
-join-edge ls x y i j p q h g = subst (λ n. label (mergeNodes ls n y) i ≡ label (mergeNodes ls n y) j) p (subst (λ n. label (mergeNodes ls i n) i ≡ label (mergeNodes ls i n) j) q (joins ls i j h g))
+merge-edge : (ls : List ℕ) (x y i j : ℕ) → i ≡ x → j ≡ y → i < length ls → j < length ls → label (mergeNodes ls x y) i ≡ label (mergeNodes ls x y) j
+merge-edge ls x y i j p q h g = subst (λ n. label (mergeNodes ls n y) i ≡ label (mergeNodes ls n y) j) p (subst (λ n. label (mergeNodes ls i n) i ≡ label (mergeNodes ls i n) j) q (merges ls i j h g))
 
-edge-joins : (ls : List ℕ) (f : Fact) (i j : ℕ) → Edge f i j → i < length ls → j < length ls → label (mergeFact ls f) i ≡ label (mergeFact ls f) j
-edge-joins ls (same x y) i j (p, q) h g = join-edge ls (varNode x) (varNode y) i j p q h g
-edge-joins ls (notSame x y) i j e h g = absurd e
-edge-joins ls (isLiteral x l) i j (p, q) h g = join-edge ls (varNode x) (litNode l) i j p q h g
-edge-joins ls (arithmetic r t) i j e h g = absurd e
+edge-merges : (ls : List ℕ) (f : Fact) (i j : ℕ) → Edge f i j → i < length ls → j < length ls → label (mergeFact ls f) i ≡ label (mergeFact ls f) j
+edge-merges ls (same x y) i j (p, q) h g = merge-edge ls (varNode x) (varNode y) i j p q h g
+edge-merges ls (notSame x y) i j e h g = absurd e
+edge-merges ls (isLiteral x l) i j (p, q) h g = merge-edge ls (varNode x) (litNode l) i j p q h g
+edge-merges ls (arithmetic r t) i j e h g = absurd e
 
-any-joins : (b : Branch) (ls : List ℕ) (i j : ℕ) → AnyEdge b i j → i < length ls → j < length ls → label (labelsFrom ls b) i ≡ label (labelsFrom ls b) j
-any-joins [] ls i j e h g = absurd e
-any-joins (f ∷ b) ls i j (inl e) h g = keeps-all b (mergeFact ls f) i j (rw length-join h) (rw length-join g) (edge-joins ls f i j e h g)
-any-joins (f ∷ b) ls i j (inr e) h g = any-joins b (mergeFact ls f) i j e (rw length-join h) (rw length-join g)
+any-merges : (b : Branch) (ls : List ℕ) (i j : ℕ) → AnyEdge b i j → i < length ls → j < length ls → label (labelsFrom ls b) i ≡ label (labelsFrom ls b) j
+any-merges [] ls i j e h g = absurd e
+any-merges (f ∷ b) ls i j (inl e) h g = keeps-all b (mergeFact ls f) i j (rw length-merge h) (rw length-merge g) (edge-merges ls f i j e h g)
+any-merges (f ∷ b) ls i j (inr e) h g = any-merges b (mergeFact ls f) i j e (rw length-merge h) (rw length-merge g)
 
 -- ---- a branch in range
 
@@ -150,7 +150,7 @@ module _ (u : Question) (w : HeadInRange u) where
 
 module _ (u : Question) (w : HeadInRange u) (b : Branch) (r : FactsInRange u b) where
   edge-label : (i j : ℕ) → AnyEdge b i j → label (labels b) i ≡ label (labels b) j
-  edge-label i j e = let (h, g) = any-nodes u w b i j r e in any-joins b (upFrom 0 nodeCount) i j e h g
+  edge-label i j e = let (h, g) = any-nodes u w b i j r e in any-merges b (upFrom 0 nodeCount) i j e h g
 
   pub chain→label : {i j : ℕ} → Chain b i j → label (labels b) i ≡ label (labels b) j
   chain→label here = refl

@@ -10,17 +10,17 @@ use borrow.Author.Tests.{leb-true, leb-false}
 use Rattle.calculus.specs.Rules.{leastPower}
 use Rattle.calculus.specs.Instances.{LeastPower}
 
-log-reaches : (d n m j : ℕ) → m ≤ n ^ (d + j) → m ≤ n ^ leastPower d n m j
-log-reaches zero n m j h = subst (λ k. m ≤ n ^ k) (let z : 0 + j ≡ j = omega arith in z) h
-log-reaches (suc d) n m j h = go (leb m (n ^ j)) refl (log-reaches d n m (suc j) (subst (λ k. m ≤ n ^ k) (let z : suc d + j ≡ d + suc j = omega arith in z) h))
+least-power-reaches : (d n m j : ℕ) → m ≤ n ^ (d + j) → m ≤ n ^ leastPower d n m j
+least-power-reaches zero n m j h = subst (λ k. m ≤ n ^ k) (let z : 0 + j ≡ j = omega arith in z) h
+least-power-reaches (suc d) n m j h = go (leb m (n ^ j)) refl (least-power-reaches d n m (suc j) (subst (λ k. m ≤ n ^ k) (let z : suc d + j ≡ d + suc j = omega arith in z) h))
   where
     go : (t : Bool) → leb m (n ^ j) ≡ t → m ≤ n ^ leastPower d n m (suc j) → m ≤ n ^ (elim t as (λ _. ℕ) [ true ↦ j | false ↦ leastPower d n m (suc j) ])
     go true e ih = leb-true m (n ^ j) e
     go false e ih = ih
 
-log-least : (d n m j k : ℕ) → m ≤ n ^ k → j ≤ k → leastPower d n m j ≤ k
-log-least zero n m j k h g = g
-log-least (suc d) n m j k h g = go (leb m (n ^ j)) refl (ℕ-discrete j k) (log-least d n m (suc j) k h)
+least-power-least : (d n m j k : ℕ) → m ≤ n ^ k → j ≤ k → leastPower d n m j ≤ k
+least-power-least zero n m j k h g = g
+least-power-least (suc d) n m j k h g = go (leb m (n ^ j)) refl (ℕ-discrete j k) (least-power-least d n m (suc j) k h)
   where
     go : (t : Bool) → leb m (n ^ j) ≡ t → Dec (j ≡ k) → (suc j ≤ k → leastPower d n m (suc j) ≤ k) → (elim t as (λ _. ℕ) [ true ↦ j | false ↦ leastPower d n m (suc j) ]) ≤ k
     go true e c ih = g
@@ -37,8 +37,8 @@ power-grows n (suc m) h =
 
 pub least-power : (n m : ℕ) → 2 ≤ n → LeastPower n m (leastPower m n m 0)
 least-power n m h = record {
-  reaches = log-reaches m n m 0 (subst (λ k. m ≤ n ^ k) (let z : m ≡ m + 0 = omega arith in z) (omega (arith, power-grows n m h)));
-  least = λ k g. log-least m n m 0 k g (omega arith);
+  reaches = least-power-reaches m n m 0 (subst (λ k. m ≤ n ^ k) (let z : m ≡ m + 0 = omega arith in z) (omega (arith, power-grows n m h)));
+  least = λ k g. least-power-least m n m 0 k g (omega arith);
 }
 
 pub least-unique : {n m k l : ℕ} → LeastPower n m k → LeastPower n m l → k ≡ l

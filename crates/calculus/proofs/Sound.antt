@@ -10,7 +10,7 @@ use lib.ListN.{length, length-map}
 use lib.Dec.{eqb}
 use lib.IntN.{ℤ, pos, negsuc, negℤ, _+ℤ_, _-ℤ_, _*ℤ_, +ℤ-idr, *ℤ-zero, ℤ-discrete, pos-ne-negsuc}
 use lib.Signed.{_≤ℤ_, ≤ℤ-refl}
-use Rattle.integers.proofs.Laws.{minus-one-*ℤ, pos-injective, pos-≤ℤ, ≤ℤ-antisym, ≤ℤ-trans, +ℤ-mono, *ℤ-mono, -ℤ-zero→, →-ℤ-zero, →-ℤ-nonneg, neg-nonneg→, split-cases, apart-cases, tighten}
+use Rattle.integers.proofs.Laws.{minus-one-*ℤ, pos-injective, pos-≤ℤ, ≤ℤ-antisym, ≤ℤ-trans, +ℤ-mono, *ℤ-mono, -ℤ-zero→, →-ℤ-zero, →-ℤ-nonneg, neg-nonneg→, branch-cases, apart-cases, tighten}
 use Rattle.lists.specs.Lists.{All, Distinct}
 use Rattle.lists.proofs.Lists.{Any, all-at, distinct-at}
 use Rattle.calculus.specs.Alphabet.{lastCharacter, Over}
@@ -188,7 +188,7 @@ module _ (u : Question) (a : Assignment) (f : For u a) where
   pub instance-sound : Distinct ([] ∷ u .literals) → (b : Branch) (st : Step) (cs : List (List Fact)) → StepInRange u st → Instance u b st cs → Met u a b → AnyMet u a cs
   unfolding Instance StepInRange
   instance-sound d b (Sum k ts) cs g i m = subst (AnyMet u a) (sym (i .adds)) (inl ((new-met b k ts cs m i), tt))
-  instance-sound d b (BranchOn e) cs g i m = subst (AnyMet u a) (sym i) (two (arithmetic ge e) (arithmetic ge (below e)) (at-least e refl) (at-least (below e) (dot-below v e refl)) (split-cases (value a e)))
+  instance-sound d b (BranchOn e) cs g i m = subst (AnyMet u a) (sym i) (two (arithmetic ge e) (arithmetic ge (below e)) (at-least e refl) (at-least (below e) (dot-below v e refl)) (branch-cases (value a e)))
   instance-sound d b (Apart k) cs g i m = let e = i .form in
       subst (AnyMet u a) (sym (i .adds)) (two (arithmetic ge (above e)) (arithmetic ge (below e)) (at-least (above e) (dot-above v e refl)) (at-least (below e) (dot-below v e refl))
       (apart-cases (value a e) (all-at (Meets u a) b k m (i .named))))

@@ -21,7 +21,7 @@ use Rattle.format.proofs.Turns.{read-none, read-ended, read-stopped, read-more,
 use Rattle.format.proofs.StepTurns.{claim-clean}
 use Rattle.question.specs.declared.Progress.{Progress}
 use Rattle.question.specs.Progress.{progressOf}
-use Rattle.question.specs.Standing.{Stands}
+use Rattle.question.specs.Standing.{StandsTo}
 use Rattle.question.specs.Posed.{Posed, asked}
 use Rattle.question.proofs.Standing.{question-stands, question-short}
 
@@ -47,7 +47,7 @@ numbered (suc d) b s t r at to q l h e =
 
 -- what holds where reading ended
 pub record Read (b : List ℕ) (s : Progress) (at r : ℕ) : Type 0 where
-  pub stands : Stands b s at
+  pub stands : StandsTo b s at
   pub headed : at + 6 ≤ length b
   pub short : length b ≤ ticketBytes
   pub few : r ≤ at
@@ -82,7 +82,7 @@ claim-good b s at e =
       two = eqb-true _ _ sized;
     }
 
-pub posed : (b : List ℕ) (s : Progress) (at : ℕ) → Stands b s at → length b ≤ ticketBytes → claimFault b (progressOf b s) at ≡ 0 → Posed b s
+pub posed : (b : List ℕ) (s : Progress) (at : ℕ) → StandsTo b s at → length b ≤ ticketBytes → claimFault b (progressOf b s) at ≡ 0 → Posed b s
 posed b s at h short e = record { to = at; stands = h; head = claim-good b (progressOf b s) at e .head; short = short }
 
 -- ---- behind the claim

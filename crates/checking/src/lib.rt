@@ -12,7 +12,7 @@ ghost use Rattle.format.specs.Reading.{proving, taking, readClaim, readBehind};
 ghost use Rattle.format.specs.Checking.{checker, outcomeOf};
 ghost use Rattle.question.specs.Progress.{progressOf};
 ghost use Rattle.question.specs.Posed.{Posed, asked};
-ghost use Rattle.question.specs.Standing.{Stands};
+ghost use Rattle.question.specs.Standing.{StandsTo};
 ghost use Rattle.rows.specs.Rows.{branchOf};
 ghost use Rattle.rows.specs.Work.{Fine};
 ghost use Rattle.checking.specs.Outcomes.{outcomeFrom, Decided, Promised};
@@ -118,7 +118,7 @@ fn behind_question(
     work: &mut [i64],
     answer: &mut [u8],
 ) -> Outcome
-    requires { ⌜ Stands (now ticket) s at × (at + 6 ≤ length (now ticket)) × (length (now ticket) ≤ ticketBytes) × (r ≤ at) ⌝ }
+    requires { ⌜ StandsTo (now ticket) s at × (at + 6 ≤ length (now ticket)) × (length (now ticket) ≤ ticketBytes) × (r ≤ at) ⌝ }
     requires { ⌜ (workNumbers ≤ length (now work)) × (answerBytes ≤ length (now answer)) ⌝ }
     ensures { λ o. ⌜ Decided (outcomeOf (readClaim checker (now (ticket .entry)) (progressOf (now (ticket .entry)) s) at r)) (now (answer .entry)) (now (answer .exit)) o ⌝ }
 {

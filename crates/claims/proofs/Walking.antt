@@ -19,7 +19,7 @@ use Rattle.question.specs.Posed.{asked, Posed}
 use Rattle.branch.specs.declared.Branch as code
 use Rattle.branch.specs.Stack.{split, stack}
 use Rattle.derivation.specs.State.{waitings, stateOf}
-use Rattle.derivation.specs.Ok.{AllPend, Holds}
+use Rattle.derivation.specs.Ok.{AllPend, InOrder}
 use Rattle.derivation.specs.Actions.{numberOf, Acts}
 use Rattle.derivation.specs.declared.Action.{Action}
 use Rattle.derivation.specs.declared.Action.the-variants.{Refused, Closes, Extends, Splits}
@@ -38,7 +38,7 @@ module _ (b : List ℕ) (s : Progress) where
   pub record Going (n : ℕ) (outcome : Ticket Branch (List Fact)) (w : List ℤ) (c : code.Branch) (i k : ℕ) : Type 0 where
     pub kept : length w ≡ n
     pub low : k ≤ i
-    pub holds : Holds b s w c
+    pub holds : InOrder b s w c
     pub rest : left (stateOf b (asked b s) w c) k i ≡ outcome
 
   -- a state by other names
@@ -104,7 +104,7 @@ module _ (b : List ℕ) (s : Progress) where
           ∙ sym (turn-moved b (asked b s) k i (all-there b i j m r) br pending (sym z ∙ its-number))
           ∙ g .rest
 
-      going-on : (x : List ℤ) (d : code.Branch) → (stateOf b (asked b s) x d ≡ entered (g .holds) i v a acts) × Holds b s x d → numberOf a ≡ 0 → length x ≡ length w → Going n outcome x d (i + 6 + m) (k + 1)
+      going-on : (x : List ℤ) (d : code.Branch) → (stateOf b (asked b s) x d ≡ entered (g .holds) i v a acts) × InOrder b s x d → numberOf a ≡ 0 → length x ≡ length w → Going n outcome x d (i + 6 + m) (k + 1)
       going-on x d q z same = record {
         kept = same ∙ g .kept;
         low = omega (arith, g .low);
@@ -116,7 +116,7 @@ module _ (b : List ℕ) (s : Progress) where
       unfolding walkedOf
       going-closed q d = on-from closed (entered-closed (g .holds) i v a acts q d) (ap numberOf q)
 
-      pub going-next : a ≡ Closes → (x : List ℤ) (d : code.Branch) → stateOf b (asked b s) x d ≡ cutBack _++_ (waitings b (asked b s) (branchOf v (c .count)) (stack c)) → Holds b s x d → length x ≡ length w
+      pub going-next : a ≡ Closes → (x : List ℤ) (d : code.Branch) → stateOf b (asked b s) x d ≡ cutBack _++_ (waitings b (asked b s) (branchOf v (c .count)) (stack c)) → InOrder b s x d → length x ≡ length w
           → Going n outcome x d (i + 6 + m) (k + 1)
       going-next q x d p o same = going-on x d (entered-next (g .holds) i v a acts q (stateOf b (asked b s) x d) p, o) (ap numberOf q) same
 

@@ -31,7 +31,7 @@ followedOf b u w (followed.the-variants.Refused c r) = Faulty c r
 followedOf b u w (followed.the-variants.Model at r count) = stepsOn (checker u) b u (taking (branchOf w count)) r at
 
 -- the model's record is all there, and the rows are in order
-pub record Modelled (b : List ℕ) (w : List ℤ) (at r count : ℕ) : Type 0 where
+pub record AtModel (b : List ℕ) (w : List ℤ) (at r count : ℕ) : Type 0 where
   pub model : kind b at ≡ 7
   pub whole : next b at ≤ length b
   pub fine : Fine w count
@@ -39,4 +39,4 @@ pub record Modelled (b : List ℕ) (w : List ℤ) (at r count : ℕ) : Type 0 wh
 
 unfoldable pub LeafAt : List ℕ → List ℤ → Followed → Type 0
 LeafAt b w (followed.the-variants.Refused c r) = Unit {0}
-LeafAt b w (followed.the-variants.Model at r count) = Modelled b w at r count
+LeafAt b w (followed.the-variants.Model at r count) = AtModel b w at r count

@@ -114,17 +114,17 @@ module _ (t : ℕ → Bool) where
 -- ---- the smallest power that is enough
 
 module _ (n m k : ℕ) where
-  pub log-done : (d : ℕ) → d ≤ 0 → leastPower d n m k ≡ k
-  log-done zero h = refl
-  log-done (suc d) h = absurd (omega arith)
+  pub least-power-done : (d : ℕ) → d ≤ 0 → leastPower d n m k ≡ k
+  least-power-done zero h = refl
+  least-power-done (suc d) h = absurd (omega arith)
 
-  pub log-yes : (d : ℕ) → m ≤ n ^ k → leastPower d n m k ≡ k
-  log-yes zero h = refl
-  log-yes (suc d) h = rw (le-leb m (n ^ k) h, leastPower)
+  pub least-power-yes : (d : ℕ) → m ≤ n ^ k → leastPower d n m k ≡ k
+  least-power-yes zero h = refl
+  least-power-yes (suc d) h = rw (le-leb m (n ^ k) h, leastPower)
 
-  pub log-no : (d : ℕ) → 0 < d → n ^ k < m → leastPower d n m k ≡ leastPower (d - 1) n m (k + 1)
-  log-no zero h l = absurd (omega arith)
-  log-no (suc d) h l = rw (lt-leb m (n ^ k) l, leastPower) (ap (λ (i : ℕ). leastPower d n m i) one ∙ ap (λ (i : ℕ). leastPower i n m (k + 1)) less)
+  pub least-power-no : (d : ℕ) → 0 < d → n ^ k < m → leastPower d n m k ≡ leastPower (d - 1) n m (k + 1)
+  least-power-no zero h l = absurd (omega arith)
+  least-power-no (suc d) h l = rw (lt-leb m (n ^ k) l, leastPower) (ap (λ (i : ℕ). leastPower d n m i) one ∙ ap (λ (i : ℕ). leastPower i n m (k + 1)) less)
     where
       one : suc k ≡ k + 1
       one = omega arith
@@ -134,35 +134,35 @@ module _ (n m k : ℕ) where
 
 -- ---- ≉ facts
 
-apart-cons : (ls : List ℕ) (f : Fact) (b : Branch) → sidesMeet ls (f ∷ b) ≡ (sidesMeet ls (f ∷ []) || sidesMeet ls b)
-apart-cons ls (same x y) b = refl
-apart-cons ls (notSame x y) b = ap (λ (t : Bool). t || sidesMeet ls b) (sym (or-false (sameClass ls (varNode x) (varNode y))))
-apart-cons ls (isLiteral x l) b = refl
-apart-cons ls (arithmetic r e) b = refl
+sides-cons : (ls : List ℕ) (f : Fact) (b : Branch) → sidesMeet ls (f ∷ b) ≡ (sidesMeet ls (f ∷ []) || sidesMeet ls b)
+sides-cons ls (same x y) b = refl
+sides-cons ls (notSame x y) b = ap (λ (t : Bool). t || sidesMeet ls b) (sym (or-false (sameClass ls (varNode x) (varNode y))))
+sides-cons ls (isLiteral x l) b = refl
+sides-cons ls (arithmetic r e) b = refl
 
-pub apart-snoc : (ls : List ℕ) (b : Branch) (f : Fact) → sidesMeet ls (b ++ f ∷ []) ≡ (sidesMeet ls b || sidesMeet ls (f ∷ []))
-apart-snoc ls [] f = refl
-apart-snoc ls (g ∷ b) f =
-    apart-cons ls g (b ++ f ∷ [])
-    ∙ ap (λ (t : Bool). sidesMeet ls (g ∷ []) || t) (apart-snoc ls b f)
+pub sides-snoc : (ls : List ℕ) (b : Branch) (f : Fact) → sidesMeet ls (b ++ f ∷ []) ≡ (sidesMeet ls b || sidesMeet ls (f ∷ []))
+sides-snoc ls [] f = refl
+sides-snoc ls (g ∷ b) f =
+    sides-cons ls g (b ++ f ∷ [])
+    ∙ ap (λ (t : Bool). sidesMeet ls (g ∷ []) || t) (sides-snoc ls b f)
     ∙ sym (or-assoc (sidesMeet ls (g ∷ [])) (sidesMeet ls b) (sidesMeet ls (f ∷ [])))
-    ∙ ap (λ (t : Bool). t || sidesMeet ls (f ∷ [])) (sym (apart-cons ls g b))
+    ∙ ap (λ (t : Bool). t || sidesMeet ls (f ∷ [])) (sym (sides-cons ls g b))
 
-not-apart : (ls : List ℕ) (f : Fact) → (tagOf f ≡ 4 → ⊥) → sidesMeet ls (f ∷ []) ≡ false
+no-sides : (ls : List ℕ) (f : Fact) → (tagOf f ≡ 4 → ⊥) → sidesMeet ls (f ∷ []) ≡ false
 unfolding tagOf
-not-apart ls (same x y) h = refl
-not-apart ls (notSame x y) h = absurd (h refl)
-not-apart ls (isLiteral x l) h = refl
-not-apart ls (arithmetic r e) h = refl
+no-sides ls (same x y) h = refl
+no-sides ls (notSame x y) h = absurd (h refl)
+no-sides ls (isLiteral x l) h = refl
+no-sides ls (arithmetic r e) h = refl
 
 -- ---- what a row says, by its kind
 
-not-joined : (ls : List ℕ) (f : Fact) → (tagOf f ≡ 3 → ⊥) → (tagOf f ≡ 5 → ⊥) → mergeFact ls f ≡ ls
+merges-none : (ls : List ℕ) (f : Fact) → (tagOf f ≡ 3 → ⊥) → (tagOf f ≡ 5 → ⊥) → mergeFact ls f ≡ ls
 unfolding tagOf
-not-joined ls (same x y) h k = absurd (h refl)
-not-joined ls (notSame x y) h k = refl
-not-joined ls (isLiteral x l) h k = absurd (k refl)
-not-joined ls (arithmetic r e) h k = refl
+merges-none ls (same x y) h k = absurd (h refl)
+merges-none ls (notSame x y) h k = refl
+merges-none ls (isLiteral x l) h k = absurd (k refl)
+merges-none ls (arithmetic r e) h k = refl
 
 module _ (row : List ℤ) (ls : List ℕ) (k : ℕ) (kind : k ≡ tagOf (factOf row)) where
   abbrev first : ℕ
@@ -177,13 +177,13 @@ module _ (row : List ℤ) (ls : List ℕ) (k : ℕ) (kind : k ≡ tagOf (factOf 
   pub row-literal : k ≡ 5 → mergeFact ls (factOf row) ≡ mergeNodes ls (varNode first) (litNode second)
   row-literal e = ap (mergeFact ls) (row-string row 5 (sym e ∙ kind) (omega arith))
 
-  pub row-joins-none : (k ≡ 3 → ⊥) → (k ≡ 5 → ⊥) → mergeFact ls (factOf row) ≡ ls
-  row-joins-none h g = not-joined ls (factOf row) (λ e. h (kind ∙ e)) (λ e. g (kind ∙ e))
+  pub row-merges-none : (k ≡ 3 → ⊥) → (k ≡ 5 → ⊥) → mergeFact ls (factOf row) ≡ ls
+  row-merges-none h g = merges-none ls (factOf row) (λ e. h (kind ∙ e)) (λ e. g (kind ∙ e))
 
-  pub row-apart : k ≡ 4 → sidesMeet ls (factOf row ∷ []) ≡ sameClass ls (varNode first) (varNode second)
-  row-apart e =
+  pub row-sides : k ≡ 4 → sidesMeet ls (factOf row ∷ []) ≡ sameClass ls (varNode first) (varNode second)
+  row-sides e =
       ap (λ (f : Fact). sidesMeet ls (f ∷ [])) (row-string row 4 (sym e ∙ kind) (omega arith))
       ∙ or-false (sameClass ls (varNode first) (varNode second))
 
-  pub row-not-apart : (k ≡ 4 → ⊥) → sidesMeet ls (factOf row ∷ []) ≡ false
-  row-not-apart h = not-apart ls (factOf row) (λ e. h (kind ∙ e))
+  pub row-no-sides : (k ≡ 4 → ⊥) → sidesMeet ls (factOf row ∷ []) ≡ false
+  row-no-sides h = no-sides ls (factOf row) (λ e. h (kind ∙ e))

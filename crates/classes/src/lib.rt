@@ -99,18 +99,18 @@ fn merge(labels: [u8; NODE_COUNT], i: usize, j: usize) -> [u8; NODE_COUNT]
     relabel(old, new, labels)
 }
 
-// The labels once the fact of a row stands: variable ≈ variable is of kind 3, variable ≈ literal of kind 5.
+// The labels once the fact of a row stands: variable ≈ variable has tag 3, variable ≈ literal tag 5.
 fn merge_row(row: &[i64], labels: [u8; NODE_COUNT]) -> [u8; NODE_COUNT]
     requires { ⌜ length (now row) ≡ rowLength ⌝ }
     ensures { λ r. ⌜ r ≡ mergeFact labels (factOf (now (row .entry))) ⌝ }
 {
-    let kind = tag_of(row);
-    if kind == 3 {
+    let tag = tag_of(row);
+    if tag == 3 {
         let a = operand(row, 1);
         let b = operand(row, 2);
         return merge(labels, 2 * a, 2 * b);
     }
-    if kind == 5 {
+    if tag == 5 {
         let a = operand(row, 1);
         let b = operand(row, 2);
         return merge(labels, 2 * a, 2 * b + 1);
@@ -207,7 +207,7 @@ fn literals_meet(labels: [u8; NODE_COUNT], m: usize) -> bool
     false
 }
 
-// Is a row a fact a ≉ b, of kind 4, with both sides in one class?
+// Is a row a fact a ≉ b, with tag 4, with both sides in one class?
 fn row_sides_meet(row: &[i64], labels: [u8; NODE_COUNT]) -> bool
     requires { ⌜ length (now row) ≡ rowLength ⌝ }
     ensures { λ r. ⌜ r ≡ sidesMeet labels (factOf (now (row .entry)) ∷ []) ⌝ }

@@ -50,8 +50,8 @@ module _ (u : Question) (b : Branch) (f : Function) (x y : ℕ) where
   by-class : (t : Bool) → (x ≡ y → ⊥) → sameClass (labels b) (varNode x) (varNode y) ≡ t → guard t (sPropChild u f x y) ≡ children u b (SProp f x y)
   by-class t n e = sym (ap₂ (λ (s r : Bool). guard (not s && r) (sPropChild u f x y)) (ne-eqb x y n) e)
 
-  pub s-prop-apart : (x ≡ y → ⊥) → sameClass (labels b) (varNode x) (varNode y) ≡ false → none ≡ children u b (SProp f x y)
-  s-prop-apart n e = by-class false n e
+  pub s-prop-other-class : (x ≡ y → ⊥) → sameClass (labels b) (varNode x) (varNode y) ≡ false → none ≡ children u b (SProp f x y)
+  s-prop-other-class n e = by-class false n e
 
   pub s-prop-fits : (x ≡ y → ⊥) → sameClass (labels b) (varNode x) (varNode y) ≡ true → some (sPropChild u f x y) ≡ children u b (SProp f x y)
   s-prop-fits n e = by-class true n e

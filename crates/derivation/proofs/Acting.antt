@@ -16,14 +16,14 @@ use Rattle.question.specs.Posed.{asked}
 use Rattle.branch.specs.declared.Branch as code
 use Rattle.branch.specs.Stack.{split, stack}
 use Rattle.derivation.specs.State.{childrenOn, waitings, stateOf}
-use Rattle.derivation.specs.Ok.{Ok, Holds}
+use Rattle.derivation.specs.Ok.{Ok, InOrder}
 use Rattle.derivation.specs.Actions.{Acts, Begins, Branches}
 use Rattle.derivation.specs.declared.Action.{Action}
 use Rattle.derivation.specs.declared.Action.the-variants.{Closes, Extends, Splits}
 use Rattle.derivation.proofs.Closing.{none-left}
 use Rattle.derivation.proofs.Beginning.{begins-one, begins-more}
 
-module _ {b : List ℕ} {s : Progress} {w : List ℤ} {c : code.Branch} (h : Holds b s w c) (at : ℕ) (v : List ℤ) (a : Action) (acts : Acts b (asked b s) at (c .depth) w (c .count) v a) where
+module _ {b : List ℕ} {s : Progress} {w : List ℤ} {c : code.Branch} (h : InOrder b s w c) (at : ℕ) (v : List ℤ) (a : Action) (acts : Acts b (asked b s) at (c .depth) w (c .count) v a) where
   abbrev br : Branch
   br = branchOf w (c .count)
 
@@ -41,7 +41,7 @@ module _ {b : List ℕ} {s : Progress} {w : List ℤ} {c : code.Branch} (h : Hol
     unfolding Acts
     cuts-back = ap (λ (o : Option (List (List Fact))). enter _++_ br (orNone o) (waitings b (asked b s) br (stack c))) (sym (subst (Acts b (asked b s) at (c .depth) w (c .count) v) e acts .0))
 
-    pub holds-closed : length v ≡ length w → Holds b s v c
+    pub holds-closed : length v ≡ length w → InOrder b s v c
     holds-closed n = record {
       posed = h .posed;
       room = omega (arith, n, h .room);
@@ -66,7 +66,7 @@ module _ {b : List ℕ} {s : Progress} {w : List ℤ} {c : code.Branch} (h : Hol
     pub few-extended : k ≤ factLimit
     few-extended = extended .fine .few
 
-    pub entered-one : (r : code.Branch) → r .count ≡ k → stack r ≡ stack c → (stateOf b (asked b s) v r ≡ entered) × Holds b s v r
+    pub entered-one : (r : code.Branch) → r .count ≡ k → stack r ≡ stack c → (stateOf b (asked b s) v r ≡ entered) × InOrder b s v r
     entered-one r er es = begins-one h at 1 v k extended r er refl es
 
   -- ---- the branch splits
@@ -82,5 +82,5 @@ module _ {b : List ℕ} {s : Progress} {w : List ℤ} {c : code.Branch} (h : Hol
     pub can-mark : (c .depth < pendingLimit) × (at ≤ ticketBytes) × (n < 256)
     can-mark = (split-up .1 .room, omega (arith, split-up .0 .splits .formed .within, h .posed .short), split-up .1 .few)
 
-    pub entered-more : (r : code.Branch) → r .count ≡ k → stack r ≡ split (c .count) at 2 n ∷ stack c → (stateOf b (asked b s) v r ≡ entered) × Holds b s v r
+    pub entered-more : (r : code.Branch) → r .count ≡ k → stack r ≡ split (c .count) at 2 n ∷ stack c → (stateOf b (asked b s) v r ≡ entered) × InOrder b s v r
     entered-more r er es = begins-more h at n v k (split-up .0) r er (split-up .1) es

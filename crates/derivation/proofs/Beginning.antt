@@ -16,18 +16,18 @@ use Rattle.branch.specs.declared.Branch as code
 use Rattle.branch.specs.Stack.{split, stack}
 use Rattle.branch.proofs.Stacks.{length-stack}
 use Rattle.derivation.specs.State.{childOn, childrenOn, waitings, walkOf, stateOf}
-use Rattle.derivation.specs.Ok.{Ok, Holds}
+use Rattle.derivation.specs.Ok.{Ok, InOrder}
 use Rattle.derivation.specs.Actions.{Begins, Branches}
 use Rattle.derivation.proofs.Pending.{ok-one, ok-split}
 use Rattle.derivation.proofs.Walks.{entered-one, entered-more}
 
-module _ {b : List ℕ} {s : Progress} {w : List ℤ} {c : code.Branch} (h : Holds b s w c) (at n : ℕ) (v : List ℤ) (k : ℕ) (g : Begins b (asked b s) (branchOf w (c .count)) at n v k)
+module _ {b : List ℕ} {s : Progress} {w : List ℤ} {c : code.Branch} (h : InOrder b s w c) (at n : ℕ) (v : List ℤ) (k : ℕ) (g : Begins b (asked b s) (branchOf w (c .count)) at n v k)
     (r : code.Branch) (er : r .count ≡ k) where
   abbrev br : Branch
   br = branchOf w (c .count)
 
   abbrev Entered : Type 0
-  Entered = (stateOf b (asked b s) v r ≡ enter _++_ br (childrenOn b (asked b s) br at) (waitings b (asked b s) br (stack c))) × Holds b s v r
+  Entered = (stateOf b (asked b s) v r ≡ enter _++_ br (childrenOn b (asked b s) br at) (waitings b (asked b s) br (stack c))) × InOrder b s v r
 
   rows : branchOf v (r .count) ≡ br ++ childOn b (asked b s) br at 1
   rows = ap (branchOf v) er ∙ g .rows

@@ -14,7 +14,7 @@ use Rattle.calculus.specs.Facts.{Question, Fact, Branch}
 use Rattle.calculus.specs.Children.{childAt}
 use Rattle.format.specs.Records.{need}
 use Rattle.format.specs.Checking.{orNone, factsWithin, childrenWithin, room, roomForAll, childIn, takenTried}
-use Rattle.steps.proofs.Offered.{child-there, fitted, nth-within}
+use Rattle.steps.proofs.Offered.{child-there, fitted, child-in-within}
 use Rattle.derivation.specs.State.{offeredIn, childrenOn, childOn}
 use Rattle.derivation.specs.Ok.{Splits}
 
@@ -50,7 +50,7 @@ module _ {b : List ℕ} {u : Question} {br : Branch} {at n : ℕ} (sp : Splits b
 
   -- its numbers are within the limit, and it finds room
   pub child-within : (k : ℕ) → factsWithin (childOn b u br at k) ≡ true
-  child-within k = nth-within (offeredIn b u br at) k (ap childrenWithin its-all ∙ sp .within)
+  child-within k = child-in-within (offeredIn b u br at) k (ap childrenWithin its-all ∙ sp .within)
 
   pub child-room : (k : ℕ) → 1 ≤ k → k ≤ n → length br + length (childOn b u br at k) ≤ factLimit
   child-room k l h = leb-true _ factLimit (room-at (length br) (sp .its-children) k (childOn b u br at k) (sp .room) (child-at k l h))

@@ -19,7 +19,7 @@ use Rattle.branch.specs.declared.Branch as code
 use Rattle.branch.specs.Stack.{lastFirst, stack, latestOf, begunOf}
 use Rattle.branch.proofs.Stacks.{stack-top, length-stack}
 use Rattle.derivation.specs.State.{childOn, waitings, walkOf, stateOf}
-use Rattle.derivation.specs.Ok.{Splits, Pends, Ok, Holds}
+use Rattle.derivation.specs.Ok.{Splits, Pends, Ok, InOrder}
 use Rattle.derivation.proofs.Pending.{its-pends, within-take, ok-begun}
 use Rattle.derivation.proofs.Walks.{cut-back}
 use Rattle.derivation.proofs.Holding.{few-facts, Puts, puts}
@@ -36,7 +36,7 @@ open-depth c n = omega arith
 pub cut-depth : (c r : code.Branch) → stack r ≡ stack c → r .depth ≡ c .depth
 cut-depth c r q = sym (length-stack r) ∙ ap length q ∙ length-stack c
 
-module _ {b : List ℕ} {s : Progress} {w : List ℤ} {c : code.Branch} (h : Holds b s w c) (d : 0 < c .depth) (t : Split) (e : t ≡ latestOf (stack c)) where
+module _ {b : List ℕ} {s : Progress} {w : List ℤ} {c : code.Branch} (h : InOrder b s w c) (d : 0 < c .depth) (t : Split) (e : t ≡ latestOf (stack c)) where
   abbrev br : Branch
   br = branchOf w (c .count)
 
@@ -80,7 +80,7 @@ module _ {b : List ℕ} {s : Progress} {w : List ℤ} {c : code.Branch} (h : Hol
   -- and then the walk is the one cut back
   pub next-begins : (v : List ℤ) (r : code.Branch) (m k : ℕ) → m ≡ size b (t .at) → r .count ≡ k
       → branchOf v k ≡ branchOf w (t .mark) ++ offeredChild b (asked b s) (branchOf w (t .mark)) (t .at + 6) m (t .child) → Fine v k → stack r ≡ begunOf (stack c)
-      → (stateOf b (asked b s) v r ≡ cutBack _++_ (waitings b (asked b s) br (stack c))) × Holds b s v r
+      → (stateOf b (asked b s) v r ≡ cutBack _++_ (waitings b (asked b s) br (stack c))) × InOrder b s v r
   unfolding stateOf
   next-begins v r m k em er e f es =
       let u = asked b s in

@@ -22,11 +22,11 @@ use Rattle.branch.specs.declared.Branch as code
 use Rattle.branch.specs.Stack.{stack}
 use Rattle.branch.proofs.Stacks.{length-stack}
 use Rattle.derivation.specs.State.{waitings}
-use Rattle.derivation.specs.Ok.{Splits, Holds}
+use Rattle.derivation.specs.Ok.{Splits, InOrder}
 use Rattle.derivation.proofs.Children.{none-of-these}
 use Rattle.derivation.proofs.Pending.{length-waitings}
 
-module _ {b : List ℕ} {s : Progress} {w : List ℤ} {c : code.Branch} (h : Holds b s w c) where
+module _ {b : List ℕ} {s : Progress} {w : List ℤ} {c : code.Branch} (h : InOrder b s w c) where
   pub few-facts : c .count ≤ factLimit
   few-facts = omega (arith, h .ok .few, length-branch w (c .count))
 

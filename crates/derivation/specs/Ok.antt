@@ -51,7 +51,7 @@ pub record Ok (b : List ℕ) (u : Question) (br : Branch) (ss : List Split) : Ty
   pub pend : AllPend b u br ss
 
 -- a question that stands in the ticket, and a state in order
-pub record Holds (b : List ℕ) (s : Progress) (w : List ℤ) (c : code.Branch) : Type 0 where
+pub record InOrder (b : List ℕ) (s : Progress) (w : List ℤ) (c : code.Branch) : Type 0 where
   pub posed : Posed b s
   pub room : workNumbers ≤ length w
   pub ok : Ok b (asked b s) (branchOf w (c .count)) (stack c)

@@ -13,7 +13,7 @@ ghost use Rattle.steps.specs.declared.Conclusions.the-variants.{Nothing, One, S
 ghost use Rattle.steps.specs.Ready.{Ready};
 ghost use Rattle.branch.specs.Stack.{stack};
 ghost use Rattle.derivation.specs.State.{offeredIn, waitings, stateOf};
-ghost use Rattle.derivation.specs.Ok.{Holds};
+ghost use Rattle.derivation.specs.Ok.{InOrder};
 ghost use Rattle.derivation.specs.Actions.{numberOf, Acts};
 use branch::Branch;
 use question::Progress;
@@ -127,9 +127,9 @@ pub fn take_step(
 
 // "a closed branch is cut back to the mark of its last pending split", and its next child begins.
 pub fn next_child(ticket: &[u8], s: Progress, work: &mut [i64], b: Branch) -> Branch
-    requires { ⌜ Holds (now ticket) s (now work) b × (0 < b .depth) ⌝ }
+    requires { ⌜ InOrder (now ticket) s (now work) b × (0 < b .depth) ⌝ }
     ensures state { λ r. ⌜ stateOf (now (ticket .entry)) (asked (now (ticket .entry)) s) (now (work .exit)) r ≡ cutBack _++_ (waitings (now (ticket .entry)) (asked (now (ticket .entry)) s) (branchOf (now (work .entry)) (b .count)) (stack b)) ⌝ }
-    ensures holds { λ r. ⌜ Holds (now (ticket .entry)) s (now (work .exit)) r ⌝ }
+    ensures holds { λ r. ⌜ InOrder (now (ticket .entry)) s (now (work .exit)) r ⌝ }
 {
     let split = b.latest();
     let at = split.at as usize;

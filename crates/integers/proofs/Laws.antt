@@ -86,9 +86,9 @@ neg-nonneg→ {a} h = up-le (omega (arith, le-of (v (pos 0)) (⊝ (v a)) h))
 
 -- z or -z - 1 is not negative; of a nonzero z, z - 1 or -z - 1
 
-pub split-cases : (z : ℤ) → (pos 0 ≤ℤ z) ⊎ (pos 0 ≤ℤ (negℤ z -ℤ pos 1))
-split-cases (pos n) = inl (up-le (omega arith))
-split-cases (negsuc n) = inr (le-by (v (pos 0)) (⊝ (v (negsuc n)) ⊖ v (pos 1)) (omega arith))
+pub branch-cases : (z : ℤ) → (pos 0 ≤ℤ z) ⊎ (pos 0 ≤ℤ (negℤ z -ℤ pos 1))
+branch-cases (pos n) = inl (up-le (omega arith))
+branch-cases (negsuc n) = inr (le-by (v (pos 0)) (⊝ (v (negsuc n)) ⊖ v (pos 1)) (omega arith))
 
 pub apart-cases : (z : ℤ) → z ≢ pos 0 → (pos 0 ≤ℤ (z -ℤ pos 1)) ⊎ (pos 0 ≤ℤ (negℤ z -ℤ pos 1))
 apart-cases (pos zero) h = absurd (h refl)

@@ -51,8 +51,8 @@ module _ (u : Question) (a : Assignment) (r x y : ℕ) where
   pub same-met : r ≡ 0 → eqString (str a x) (str a y) ≡ meets u a (stringFact r x y)
   same-met e = ap (λ (z : ℕ). meets u a (stringFact z x y)) (sym e)
 
-  pub apart-met : r ≡ 1 → not (eqString (str a x) (str a y)) ≡ meets u a (stringFact r x y)
-  apart-met e = ap (λ (z : ℕ). meets u a (stringFact z x y)) (sym e)
+  pub not-same-met : r ≡ 1 → not (eqString (str a x) (str a y)) ≡ meets u a (stringFact r x y)
+  not-same-met e = ap (λ (z : ℕ). meets u a (stringFact z x y)) (sym e)
 
   pub literal-met : r ≡ 2 → eqString (str a x) (literal u y) ≡ meets u a (stringFact r x y)
   literal-met e = ap (λ (z : ℕ). meets u a (stringFact z x y)) (sym e)

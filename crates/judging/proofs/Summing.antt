@@ -17,7 +17,7 @@ use Rattle.format.specs.Fields.{u16, i32, pairsAt, within}
 use Rattle.format.specs.Question.{rising, formOf}
 use Rattle.format.proofs.Faults.{and-true}
 use Rattle.format.proofs.Sums.{pairSum, form-value, sum-done, sum-more, pair-ranged}
-use Rattle.judging.specs.Ready.{Form}
+use Rattle.judging.specs.Ready.{FormIn}
 
 -- the most that one product may come to: 1,000,000,000 times 100,000,000
 abbrev product : ℕ
@@ -33,7 +33,7 @@ module _ (b : List ℕ) (at count : ℕ) (values : List ℤ) where
     pub whole : sum +ℤ pairSum values (pairsAt b i left) ≡ dot (formOf b at count) (pos 1 ∷ values)
     pub room : natAbs sum + product * left ≤ numberLimit + product * count
 
-  pub begin : Form b at count values → Summing (i32 b at) (at + 4) count
+  pub begin : FormIn b at count values → Summing (i32 b at) (at + 4) count
   begin f =
       let (c, r) = and-true (within numberLimit (i32 b at)) (rising (length values) 0 (pairsAt b (at + 4) count)) (f .in-range) in
       record {
@@ -49,7 +49,7 @@ module _ (b : List ℕ) (at count : ℕ) (values : List ℤ) where
   ended {sum} {i} {left} h s = sym (+ℤ-idr sum) ∙ ap (λ (z : ℤ). sum +ℤ z) (sym (sum-done b i values left h)) ∙ s .whole
 
   -- one pair more
-  module _ (f : Form b at count values) (sum : ℤ) (i left : ℕ) (h : 0 < left) (s : Summing sum i left) where
+  module _ (f : FormIn b at count values) (sum : ℤ) (i left : ℕ) (h : 0 < left) (s : Summing sum i left) where
     abbrev term : ℤ
     term = i32 b (i + 2) *ℤ getD values (u16 b i) (pos 0)
 

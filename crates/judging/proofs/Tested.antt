@@ -21,7 +21,7 @@ use Rattle.question.specs.Standing.{ConstraintAt}
 use Rattle.question.specs.Posed.{asked}
 use Rattle.answer.specs.Form.{columnsAt}
 use Rattle.answer.proofs.Columns.{length-columns}
-use Rattle.judging.specs.Ready.{valuesOf, Form, Ready}
+use Rattle.judging.specs.Ready.{valuesOf, FormIn, Judgeable}
 use Rattle.judging.proofs.Constraints.{ArithmeticRanges, arithmetic-ranges}
 
 -- the columns of the answer are the values that were found
@@ -29,7 +29,7 @@ columns-are : (b v : List ℕ) (s : Progress) → columns (valuesOf b v s) ≡ c
 unfolding columnsAt asked
 columns-are b v s = refl
 
-module _ (b v : List ℕ) (s : Progress) (places : List ℕ) (values : List ℤ) (r : Ready b v s places values) (at : ℕ) (c : ConstraintAt b (s .p) (s .q) (s .literals) at) where
+module _ (b v : List ℕ) (s : Progress) (places : List ℕ) (values : List ℤ) (r : Judgeable b v s places values) (at : ℕ) (c : ConstraintAt b (s .p) (s .q) (s .literals) at) where
   abbrev u : Question
   u = asked b s
 
@@ -63,7 +63,7 @@ module _ (b v : List ℕ) (s : Progress) (places : List ℕ) (values : List ℤ)
   length-values : length values ≡ s .q + (s .p + s .p)
   length-values = ap length (r .columns) ∙ length-columns v (s .p) (s .q)
 
-  pub arithmetic-there : (kind b at ≡ 3 → ⊥) → (6 ≤ m) × Form b (at + 6 + 2) (m / 6 - 1) values
+  pub arithmetic-there : (kind b at ≡ 3 → ⊥) → (6 ≤ m) × FormIn b (at + 6 + 2) (m / 6 - 1) values
   arithmetic-there h =
       let g = ranges h in
       let stands = r .texts .posed .stands in (

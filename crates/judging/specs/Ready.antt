@@ -26,14 +26,14 @@ pub record Texts (b v : List ℕ) (s : Progress) (places : List ℕ) : Type 0 wh
   pub enough : s .p < length places
 
 -- and its columns' values
-pub record Ready (b v : List ℕ) (s : Progress) (places : List ℕ) (values : List ℤ) : Type 0 where
+pub record Judgeable (b v : List ℕ) (s : Progress) (places : List ℕ) (values : List ℤ) : Type 0 where
   pub texts : Texts b v s places
   pub columns : values ≡ columnsAt v (s .p) (s .q)
   -- so that no sum of products wraps
   pub small : Within valueLimit values
 
 -- a form of count pairs at a position, over the columns that have these values
-pub record Form (b : List ℕ) (at count : ℕ) (values : List ℤ) : Type 0 where
+pub record FormIn (b : List ℕ) (at count : ℕ) (values : List ℤ) : Type 0 where
   pub few : count ≤ columnLimit
   pub there : at + 4 + 6 * count ≤ length b
   pub few-columns : length values ≤ columnLimit

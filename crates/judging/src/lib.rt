@@ -17,7 +17,7 @@ ghost use Rattle.format.specs.Answer.{answerForm, outside};
 ghost use Rattle.format.specs.Judging.{meets, judgeAnswer, judging, Says};
 ghost use Rattle.question.specs.Standing.{ConstraintAt};
 ghost use Rattle.question.specs.Posed.{asked, Posed};
-ghost use Rattle.judging.specs.Ready.{valuesOf, Form, Texts, Ready};
+ghost use Rattle.judging.specs.Ready.{valuesOf, FormIn, Texts, Judgeable};
 ghost use Rattle.judging.specs.Judgements.{judgementOf, firstUnmet};
 use answer::Outside;
 use answer::answer_formed;
@@ -78,7 +78,7 @@ fn string_met(b: &[u8], v: &[u8], s: Progress, places: &[usize], at: usize) -> b
 
 // The value of the form at a position: its constant, and each coefficient times the value of its column.
 fn form_value(b: &[u8], at: usize, count: usize, values: &[i64]) -> i64
-    requires { ⌜ Form (now b) at count (now values) ⌝ }
+    requires { ⌜ FormIn (now b) at count (now values) ⌝ }
     ensures { λ r. ⌜ r ≡ dot (formOf (now (b .entry)) at count) (pos 1 ∷ now (values .entry)) ⌝ }
 {
     let mut sum = i32_at(b, at);
@@ -96,7 +96,7 @@ fn form_value(b: &[u8], at: usize, count: usize, values: &[i64]) -> i64
 
 // Whether the values meet the arithmetic constraint with its body at a position.
 fn arithmetic_met(b: &[u8], at: usize, size: usize, values: &[i64]) -> bool
-    requires { ⌜ (6 ≤ size) × Form (now b) (at + 2) (size / 6 - 1) (now values) ⌝ }
+    requires { ⌜ (6 ≤ size) × FormIn (now b) (at + 2) (size / 6 - 1) (now values) ⌝ }
     ensures { λ r. ⌜ r ≡ holds (relationOf (u16 (now (b .entry)) at)) (dot (formOf (now (b .entry)) (at + 2) (size / 6 - 1)) (pos 1 ∷ now (values .entry))) ⌝ }
 {
     let relation = u16_at(b, at);
@@ -115,7 +115,7 @@ fn constraint_met(
     values: &[i64],
     at: usize,
 ) -> bool
-    requires { ⌜ Ready (now b) (now v) s (now places) (now values) × ConstraintAt (now b) (s .p) (s .q) (s .literals) at ⌝ }
+    requires { ⌜ Judgeable (now b) (now v) s (now places) (now values) × ConstraintAt (now b) (s .p) (s .q) (s .literals) at ⌝ }
     ensures { λ r. ⌜ r ≡ meets (asked (now (b .entry)) s) (valuesOf (now (b .entry)) (now (v .entry)) s)
         (constraintOf (now (b .entry)) (kindAt (now (b .entry)) at) (at + 6) (sizeAt (now (b .entry)) at)) ⌝ }
 {
@@ -137,7 +137,7 @@ pub enum Judgement {
 
 // The first constraint that the answer does not meet, by its number.
 fn first_unmet(b: &[u8], v: &[u8], s: Progress, places: &[usize], values: &[i64]) -> Judgement
-    requires { ⌜ Ready (now b) (now v) s (now places) (now values) ⌝ }
+    requires { ⌜ Judgeable (now b) (now v) s (now places) (now values) ⌝ }
     ensures { λ r. ⌜ judgementOf r ≡ firstUnmet (asked (now (b .entry)) s) (valuesOf (now (b .entry)) (now (v .entry)) s) (asked (now (b .entry)) s .constraints) 0 ⌝ }
 {
     let count = s.constraints;

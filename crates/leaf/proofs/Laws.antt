@@ -32,7 +32,7 @@ use Rattle.question.specs.declared.Progress.{Progress}
 use Rattle.question.specs.Columns.{columnAt}
 use Rattle.question.specs.Posed.{asked, numbered, Posed}
 use Rattle.question.proofs.Posed.{literals-to}
-use Rattle.leaf.specs.Values.{textFits, literalFits, lengthFits, codeBy, codeFits, roomy, varFits, pairBy, pairFits}
+use Rattle.leaf.specs.Values.{textFits, literalFits, lValidFits, codeBy, codeFits, roomy, varFits, pairBy, pairFits}
 
 -- ---- tests of a variable
 
@@ -54,12 +54,12 @@ module _ (u : Question) (z c : ℤ) where
   literal-none o e = rw e
 
 module _ (ls : List ℕ) (x : ℕ) (z : ℤ) where
-  pub length-empty : sameClass ls (varNode x) (litNode 0) ≡ true → lengthFits ls x z ≡ true
-  unfolding lengthFits
+  pub length-empty : sameClass ls (varNode x) (litNode 0) ≡ true → lValidFits ls x z ≡ true
+  unfolding lValidFits
   length-empty e = ap (λ (t : Bool). t || ltZ (pos 0) z) e
 
-  pub length-other : sameClass ls (varNode x) (litNode 0) ≡ false → lengthFits ls x z ≡ ltZ (pos 0) z
-  unfolding lengthFits
+  pub length-other : sameClass ls (varNode x) (litNode 0) ≡ false → lValidFits ls x z ≡ ltZ (pos 0) z
+  unfolding lValidFits
   length-other e = ap (λ (t : Bool). t || ltZ (pos 0) z) e
 
 module _ (n : ℕ) (z : ℤ) where
@@ -90,9 +90,9 @@ module _ (z w c d : ℤ) where
   unfolding pairBy
   pair-no-code s e h = rw (e, h)
 
-  pub pair-apart : (s : Bool) → s ≡ false → eqℤ c (negsuc 0) ≡ false → pairBy s z w c d ≡ not (eqℤ c d)
+  pub pair-other-class : (s : Bool) → s ≡ false → eqℤ c (negsuc 0) ≡ false → pairBy s z w c d ≡ not (eqℤ c d)
   unfolding pairBy
-  pair-apart s e h = rw (e, h)
+  pair-other-class s e h = rw (e, h)
 
 -- ---- counting classes
 
@@ -236,22 +236,22 @@ module _ (u : Question) (ls : List ℕ) (m : List ℤ) (x : ℕ) where
 
   pub var-literal : fromLiteral ≡ false → varFits u ls m x ≡ false
   unfolding varFits
-  var-literal e = ap (λ (t : Bool). t && (lengthFits ls x z && (codeFits (u .n) z c && saturatedCard u ls m x))) e
+  var-literal e = ap (λ (t : Bool). t && (lValidFits ls x z && (codeFits (u .n) z c && saturatedCard u ls m x))) e
 
-  past-literal : fromLiteral ≡ true → varFits u ls m x ≡ (lengthFits ls x z && (codeFits (u .n) z c && saturatedCard u ls m x))
+  past-literal : fromLiteral ≡ true → varFits u ls m x ≡ (lValidFits ls x z && (codeFits (u .n) z c && saturatedCard u ls m x))
   unfolding varFits
-  past-literal e = ap (λ (t : Bool). t && (lengthFits ls x z && (codeFits (u .n) z c && saturatedCard u ls m x))) e
+  past-literal e = ap (λ (t : Bool). t && (lValidFits ls x z && (codeFits (u .n) z c && saturatedCard u ls m x))) e
 
-  pub var-length : fromLiteral ≡ true → lengthFits ls x z ≡ false → varFits u ls m x ≡ false
+  pub var-length : fromLiteral ≡ true → lValidFits ls x z ≡ false → varFits u ls m x ≡ false
   var-length e f = past-literal e ∙ ap (λ (t : Bool). t && (codeFits (u .n) z c && saturatedCard u ls m x)) f
 
-  past-length : fromLiteral ≡ true → lengthFits ls x z ≡ true → varFits u ls m x ≡ (codeFits (u .n) z c && saturatedCard u ls m x)
+  past-length : fromLiteral ≡ true → lValidFits ls x z ≡ true → varFits u ls m x ≡ (codeFits (u .n) z c && saturatedCard u ls m x)
   past-length e f = past-literal e ∙ ap (λ (t : Bool). t && (codeFits (u .n) z c && saturatedCard u ls m x)) f
 
-  pub var-code : fromLiteral ≡ true → lengthFits ls x z ≡ true → codeFits (u .n) z c ≡ false → varFits u ls m x ≡ false
+  pub var-code : fromLiteral ≡ true → lValidFits ls x z ≡ true → codeFits (u .n) z c ≡ false → varFits u ls m x ≡ false
   var-code e f g = past-length e f ∙ ap (λ (t : Bool). t && saturatedCard u ls m x) g
 
-  pub var-card : fromLiteral ≡ true → lengthFits ls x z ≡ true → codeFits (u .n) z c ≡ true → varFits u ls m x ≡ saturatedCard u ls m x
+  pub var-card : fromLiteral ≡ true → lValidFits ls x z ≡ true → codeFits (u .n) z c ≡ true → varFits u ls m x ≡ saturatedCard u ls m x
   var-card e f g = past-length e f ∙ ap (λ (t : Bool). t && saturatedCard u ls m x) g
 
 -- ---- S-Conf

@@ -24,7 +24,7 @@ use Rattle.calculus.specs.SaturationTest.{held, heldSome, byChildren, saturated
 use Rattle.calculus.proofs.LinearForms.{eqℤ→, →eqℤ, isZero→, →isZero}
 use Rattle.calculus.proofs.Relations.{nonneg→, →nonneg}
 use Rattle.calculus.proofs.Leaf.{apply-in, above-in, number-in, difference-in, last-in}
-use Rattle.leaf.specs.Values.{textFits, literalFits, lengthFits, codeBy, codeFits, varFits, pairBy, pairFits, byValues}
+use Rattle.leaf.specs.Values.{textFits, literalFits, lValidFits, codeBy, codeFits, varFits, pairBy, pairFits, byValues}
 
 -- ---- tests of equal meaning
 
@@ -74,8 +74,8 @@ module _ (u : Question) (ls : List ℕ) (m : List ℤ) where
   both-values (some l) z c = refl
 
   -- L-Valid
-  length-step : (x : ℕ) → heldSome ls m (lValidChildren u x) ≡ lengthFits ls x (M len x)
-  unfolding lengthFits
+  length-step : (x : ℕ) → heldSome ls m (lValidChildren u x) ≡ lValidFits ls x (M len x)
+  unfolding lValidFits
   length-step x =
       ap₂ _||_ (and-true (sameClass ls (varNode x) (litNode 0)))
       (one-holds (arithmetic ge (above (apply u len x))) (ap nonNeg (above-in u m x) ∙ positive-minus (M len x)))
@@ -162,7 +162,7 @@ module _ (u : Question) (b : Branch) (m : List ℤ) where
   var-step x =
       let a = saturatedStep u b m (LIntro x) in
       let c = saturatedStep u b m (CCollapse x) in
-      let l = lengthFits (labels b) x (modelValue u m len x) in
+      let l = lValidFits (labels b) x (modelValue u m len x) in
       let k = codeFits (u .n) (modelValue u m len x) (modelValue u m code x) in
       let f = literalFits u (classLiteral u b x) (modelValue u m len x) (modelValue u m code x) in
       let literal : (a && c) ≡ f =

@@ -15,6 +15,6 @@ pub record Modelled (m : List ℤ) (s : Progress) : Type 0 where
   pub columns : columnCount (numbered s) ≤ length m
 
 -- m has one for each column of a question that was read from the bytes b
-pub record Ready (b : List ℕ) (m : List ℤ) (s : Progress) : Type 0 where
+pub record LeafReady (b : List ℕ) (m : List ℤ) (s : Progress) : Type 0 where
   pub posed : Posed b s
   pub columns : columnCount (numbered s) ≤ length m

@@ -27,8 +27,8 @@ literalFits u none z c = true
 literalFits u (some l) z c = textFits (literal u l) z c
 
 -- L-Valid
-unfoldable pub lengthFits : List ℕ → ℕ → ℤ → Bool
-lengthFits ls x z = sameClass ls (varNode x) (litNode 0) || ltZ (pos 0) z
+unfoldable pub lValidFits : List ℕ → ℕ → ℤ → Bool
+lValidFits ls x z = sameClass ls (varNode x) (litNode 0) || ltZ (pos 0) z
 
 -- C-Valid: the code of a string of length 1, and of any other
 unfoldable pub codeBy : Bool → ℕ → ℤ → Bool
@@ -47,7 +47,7 @@ roomy n k size = not (leb n 1) && leb (leastPower k n k 0) size
 unfoldable pub varFits : Question → List ℕ → List ℤ → ℕ → Bool
 varFits u ls m x =
     literalFits u (literalIn u ls x) (modelValue u m len x) (modelValue u m code x)
-    && (lengthFits ls x (modelValue u m len x)
+    && (lValidFits ls x (modelValue u m len x)
     && (codeFits (u .n) (modelValue u m len x) (modelValue u m code x)
     && saturatedCard u ls m x))
 

@@ -19,8 +19,8 @@ ghost use Rattle.format.specs.StepForms.{functionOf};
 ghost use Rattle.format.specs.Checking.{shortLengths};
 ghost use Rattle.rows.specs.Rows.{rowLength, branchOf};
 ghost use Rattle.question.specs.Posed.{asked, numbered, Posed};
-ghost use Rattle.leaf.specs.Leaf.{Modelled, Ready};
-ghost use Rattle.leaf.specs.Values.{textFits, literalFits, lengthFits, codeFits, roomy, varFits, pairBy, pairFits, byValues};
+ghost use Rattle.leaf.specs.Leaf.{Modelled, LeafReady};
+ghost use Rattle.leaf.specs.Values.{textFits, literalFits, lValidFits, codeFits, roomy, varFits, pairBy, pairFits, byValues};
 use classes::Lowest;
 use limits::LENGTH_LIMIT;
 use limits::NODE_COUNT;
@@ -96,7 +96,7 @@ fn literal_fits(
 // L-Valid for variable x, whose length is given.
 fn length_fits(labels: [u8; NODE_COUNT], x: usize, len: i64) -> bool
     requires { ⌜ x < variableLimit ⌝ }
-    ensures { λ r. ⌜ r ≡ lengthFits labels x len ⌝ }
+    ensures { λ r. ⌜ r ≡ lValidFits labels x len ⌝ }
 {
     if classes::same_class(labels, 2 * x, 1) {
         return true;
@@ -183,7 +183,7 @@ fn card_fits(model: &[i64], s: Progress, labels: [u8; NODE_COUNT], x: usize) -> 
 
 // L-Intro, C-Collapse, L-Valid, C-Valid and Card for variable x.
 fn var_fits(ticket: &[u8], model: &[i64], s: Progress, labels: [u8; NODE_COUNT], x: usize) -> bool
-    requires { ⌜ Ready (now ticket) (now model) s × (x < s .p) ⌝ }
+    requires { ⌜ LeafReady (now ticket) (now model) s × (x < s .p) ⌝ }
     ensures { λ r. ⌜ r ≡ varFits (asked (now (ticket .entry)) s) labels (now (model .entry)) x ⌝ }
 {
     let len = value_of(model, s, 0, x);
@@ -249,7 +249,7 @@ fn pairs_fit(model: &[i64], s: Progress, labels: [u8; NODE_COUNT], x: usize) -> 
 
 // The rules for variable x, itself and with every variable.
 fn values_fit(ticket: &[u8], model: &[i64], s: Progress, labels: [u8; NODE_COUNT], x: usize) -> bool
-    requires { ⌜ Ready (now ticket) (now model) s × (x < s .p) ⌝ }
+    requires { ⌜ LeafReady (now ticket) (now model) s × (x < s .p) ⌝ }
     ensures { λ r. ⌜ r ≡ byValues (asked (now (ticket .entry)) s) labels (now (model .entry)) x ⌝ }
 {
     if !var_fits(ticket, model, s, labels, x) {
@@ -259,7 +259,7 @@ fn values_fit(ticket: &[u8], model: &[i64], s: Progress, labels: [u8; NODE_COUNT
 }
 
 fn every_fits(ticket: &[u8], model: &[i64], s: Progress, labels: [u8; NODE_COUNT]) -> bool
-    requires { ⌜ Ready (now ticket) (now model) s ⌝ }
+    requires { ⌜ LeafReady (now ticket) (now model) s ⌝ }
     ensures { λ r. ⌜ r ≡ allBelow (s .p) (byValues (asked (now (ticket .entry)) s) labels (now (model .entry))) ⌝ }
 {
     let mut x = 0;
@@ -281,7 +281,7 @@ pub fn saturated(
     s: Progress,
     labels: [u8; NODE_COUNT],
 ) -> bool
-    requires { ⌜ Ready (now ticket) (now model) s × (count ≤ factLimit) × (rowLength * count ≤ length (now work)) ⌝ }
+    requires { ⌜ LeafReady (now ticket) (now model) s × (count ≤ factLimit) × (rowLength * count ≤ length (now work)) ⌝ }
     requires { ⌜ labels ≡ classes.labels (branchOf (now work) count) ⌝ }
     ensures { λ r. ⌜ r ≡ test.saturated (asked (now (ticket .entry)) s) (branchOf (now (work .entry)) count) (now (model .entry)) ⌝ }
 {

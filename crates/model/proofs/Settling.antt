@@ -20,7 +20,7 @@ use Rattle.rows.specs.Work.{Within}
 use Rattle.rows.proofs.Values.{within-filled}
 use Rattle.question.specs.declared.Progress.{Progress}
 use Rattle.question.specs.Posed.{asked, numbered, Posed}
-use Rattle.leaf.specs.Leaf.{Ready}
+use Rattle.leaf.specs.Leaf.{LeafReady}
 use Rattle.model.specs.Settled.{values, Filled, Answers}
 use Rattle.model.proofs.Tested.{lengths-pass, model-tests}
 
@@ -49,7 +49,7 @@ module _ (b : List ℕ) (s : Progress) (h : Posed b s) where
   few-columns = omega (arith, h .stands .few-strings, h .stands .few-integers)
 
   -- the numbers of the columns are there
-  pub columns-ready : (held : List ℤ) → length held ≡ columnLimit → Ready b (values s held) s
+  pub columns-ready : (held : List ℤ) → length held ≡ columnLimit → LeafReady b (values s held) s
   columns-ready held all = record { posed = h; columns = omega (arith, few-columns, length-take-le (columnCount (numbered s)) held (omega (arith, few-columns, all))) }
 
   -- ---- the model's record, with its body at a position

@@ -13,7 +13,7 @@ use Rattle.format.specs.Checking.{shortLengths}
 use Rattle.rows.specs.Work.{Within}
 use Rattle.question.specs.declared.Progress.{Progress}
 use Rattle.question.specs.Posed.{asked, numbered}
-use Rattle.leaf.specs.Leaf.{Ready}
+use Rattle.leaf.specs.Leaf.{LeafReady}
 use Rattle.model.specs.declared.Settled.{Settled}
 
 -- the numbers of the question's columns
@@ -28,7 +28,7 @@ pub record Filled (m : List ℤ) (s : Progress) : Type 0 where
 
 -- what the strings are given by, in the bytes b
 pub record Writable (b : List ℕ) (s : Progress) (r : Settled) : Type 0 where
-  pub ready : Ready b (values s (r .model)) s
+  pub ready : LeafReady b (values s (r .model)) s
   pub small : Within valueLimit (values s (r .model))
   pub short-lengths : shortLengths (asked b s) (values s (r .model)) ≡ true
 

@@ -50,12 +50,12 @@ module _ (a b : List ℕ) (x y : ℕ) where
   same-more (suc k) h = ap (λ (n : ℕ). eqb (u32 a x) (u32 b y) && eqString (u32s a (x + 4) n) (u32s b (y + 4) n)) (sym (down k))
 
 -- strings that differ at a place differ
-pub same-apart : (s t : List ℕ) (i : ℕ) → (getD s i 0 ≡ getD t i 0 → ⊥) → eqString s t ≡ false
-same-apart [] [] i h = absurd (h refl)
-same-apart [] (d ∷ t) i h = refl
-same-apart (c ∷ s) [] i h = refl
-same-apart (c ∷ s) (d ∷ t) zero h = ap (λ (e : Bool). e && eqString s t) (ne-eqb c d h)
-same-apart (c ∷ s) (d ∷ t) (suc i) h = ap (λ (e : Bool). eqb c d && e) (same-apart s t i h) ∙ and-false (eqb c d)
+pub same-differs : (s t : List ℕ) (i : ℕ) → (getD s i 0 ≡ getD t i 0 → ⊥) → eqString s t ≡ false
+same-differs [] [] i h = absurd (h refl)
+same-differs [] (d ∷ t) i h = refl
+same-differs (c ∷ s) [] i h = refl
+same-differs (c ∷ s) (d ∷ t) zero h = ap (λ (e : Bool). e && eqString s t) (ne-eqb c d h)
+same-differs (c ∷ s) (d ∷ t) (suc i) h = ap (λ (e : Bool). eqb c d && e) (same-differs s t i h) ∙ and-false (eqb c d)
 
 -- a character of a text
 pub text-char : (b : List ℕ) (at k i : ℕ) → i < k → getD (u32s b at k) i 0 ≡ u32 b (at + 4 * i)

@@ -20,7 +20,7 @@ use Rattle.format.proofs.Places.{skip-far, skip-snoc, skip-up, length-texts, le
 use Rattle.format.proofs.Turns.{read-none, read-ended, read-stopped, read-more, read-long, read-begin}
 use Rattle.question.specs.declared.Progress.{Progress}
 use Rattle.question.specs.Progress.{progressOf}
-use Rattle.question.specs.Standing.{LiteralAt, ConstraintAt, Stands}
+use Rattle.question.specs.Standing.{LiteralAt, ConstraintAt, StandsTo}
 use Rattle.question.specs.Posed.{Posed}
 use Rattle.format.proofs.RecordFaults.{Passed, passed, head-first, Behind, behind-head, Head, head-formed, literal-formed}
 use Rattle.format.proofs.Faults.{clash}
@@ -40,7 +40,7 @@ same-numbers b s t e =
 
 -- ---- positions
 
-pub literals-within : (b : List ℕ) (s : Progress) (at l : ℕ) → Stands b s at → 1 ≤ s .last → l ≤ s .literals → skip b l literalsFrom ≤ length b
+pub literals-within : (b : List ℕ) (s : Progress) (at l : ℕ) → StandsTo b s at → 1 ≤ s .last → l ≤ s .literals → skip b l literalsFrom ≤ length b
 literals-within b s at l h g few =
     omega (arith, h .ends-here g, skip-up b l (s .literals) literalsFrom few, skip-far b (s .constraints) (skip b (s .literals) literalsFrom), h .within)
 
@@ -53,7 +53,7 @@ after b s at =
     (cond (eqb (kind b at) 2) (record { last = 2; n = s .n; p = s .p; q = s .q; literals = s .literals + 1; constraints = s .constraints })
     (record { last = kind b at; n = s .n; p = s .p; q = s .q; literals = s .literals; constraints = s .constraints + 1 }))
 
-module _ (b : List ℕ) (s : Progress) (at : ℕ) (h : Stands b s at) (e : questionFault b (progressOf b s) at ≡ 0) where
+module _ (b : List ℕ) (s : Progress) (at : ℕ) (h : StandsTo b s at) (e : questionFault b (progressOf b s) at ≡ 0) where
   no-fault : Passed b (progressOf b s) at
   no-fault = passed b (progressOf b s) at e
 
@@ -94,7 +94,7 @@ module _ (b : List ℕ) (s : Progress) (at : ℕ) (h : Stands b s at) (e : quest
   pub head-size : kind b at ≡ 1 → at + 6 + 8 ≤ length b
   head-size k = omega (arith, head-here k .1 .eight, no-fault .all-there)
 
-  after-head : kind b at ≡ 1 → Stands b (record { last = 1; n = u32 b (at + 6); p = u16 b (at + 6 + 4); q = u16 b (at + 6 + 6); literals = 0; constraints = 0 }) (next b at)
+  after-head : kind b at ≡ 1 → StandsTo b (record { last = 1; n = u32 b (at + 6); p = u16 b (at + 6 + 4); q = u16 b (at + 6 + 6); literals = 0; constraints = 0 }) (next b at)
   unfolding skip
   after-head k =
       let (first, f) = head-here k in
@@ -113,7 +113,7 @@ module _ (b : List ℕ) (s : Progress) (at : ℕ) (h : Stands b s at) (e : quest
         constraints-stand = λ j l. absurd (omega arith);
       }
 
-  after-literal : kind b at ≡ 2 → Stands b (record { last = 2; n = s .n; p = s .p; q = s .q; literals = s .literals + 1; constraints = s .constraints }) (next b at)
+  after-literal : kind b at ≡ 2 → StandsTo b (record { last = 2; n = s .n; p = s .p; q = s .q; literals = s .literals + 1; constraints = s .constraints }) (next b at)
   unfolding skip
   after-literal k =
       let other : (kind b at ≡ 1 → ⊥) = λ z. omega arith in
@@ -145,7 +145,7 @@ module _ (b : List ℕ) (s : Progress) (at : ℕ) (h : Stands b s at) (e : quest
       }
 
   after-constraint : (kind b at ≡ 1 → ⊥) → (kind b at ≡ 2 → ⊥)
-      → Stands b (record { last = kind b at; n = s .n; p = s .p; q = s .q; literals = s .literals; constraints = s .constraints + 1 }) (next b at)
+      → StandsTo b (record { last = kind b at; n = s .n; p = s .p; q = s .q; literals = s .literals; constraints = s .constraints + 1 }) (next b at)
   after-constraint x y =
       let g = behind x in
       let from : ℕ = skip b (s .literals) literalsFrom in
@@ -176,17 +176,17 @@ module _ (b : List ℕ) (s : Progress) (at : ℕ) (h : Stands b s at) (e : quest
         constraints-stand = below-more (λ j. ConstraintAt b (s .p) (s .q) (s .literals) (skip b j from)) (s .constraints) (h .constraints-stand) (subst (ConstraintAt b (s .p) (s .q) (s .literals)) here constraint);
       }
 
-  pub after-stands : Stands b (after b s at) (next b at)
+  pub after-stands : StandsTo b (after b s at) (next b at)
   after-stands = go (ℕ-discrete (kind b at) 1) (ℕ-discrete (kind b at) 2)
     where
-      go : Dec (kind b at ≡ 1) → Dec (kind b at ≡ 2) → Stands b (after b s at) (next b at)
+      go : Dec (kind b at ≡ 1) → Dec (kind b at ≡ 2) → StandsTo b (after b s at) (next b at)
       go (yes k) d = rw (eq-eqb _ _ k) (after-head k)
       go (no x) (yes k) = rw (ne-eqb _ _ x, eq-eqb _ _ k) (after-literal k)
       go (no x) (no y) = rw (ne-eqb _ _ x, ne-eqb _ _ y) (after-constraint x y)
 
   -- and so do the numbers that are known to be those after the record
-  pub advanced-stands : (t : Progress) → progressOf b t ≡ questionAdvanced b (progressOf b s) at → Stands b t (next b at)
-  advanced-stands t g = subst (λ (u : Progress). Stands b u (next b at)) (same-numbers b (after b s at) t (after-advanced ∙ sym g)) after-stands
+  pub advanced-stands : (t : Progress) → progressOf b t ≡ questionAdvanced b (progressOf b s) at → StandsTo b t (next b at)
+  advanced-stands t g = subst (λ (u : Progress). StandsTo b u (next b at)) (same-numbers b (after b s at) t (after-advanced ∙ sym g)) after-stands
 
 -- ---- all records
 
@@ -198,7 +198,7 @@ pub begun-fresh : (b : List ℕ) → progressOf b begun ≡ unread
 unfolding texts constraintsAt
 begun-fresh b = refl
 
-pub begun-stands : (b : List ℕ) → Stands b begun 0
+pub begun-stands : (b : List ℕ) → StandsTo b begun 0
 begun-stands b = record {
   within = omega arith;
   some-character = λ z. absurd (omega arith);
@@ -216,9 +216,9 @@ begun-stands b = record {
 
 -- where reading ended
 abbrev pub Ends : List ℕ → Progress → ℕ → Type 0
-Ends b t to = Stands b t to × (to + 6 ≤ length b)
+Ends b t to = StandsTo b t to × (to + 6 ≤ length b)
 
-read-stands : (d : ℕ) (b : List ℕ) (s t : Progress) (r at to q : ℕ) → length b ≤ at + d → Stands b s at
+read-stands : (d : ℕ) (b : List ℕ) (s t : Progress) (r at to q : ℕ) → length b ≤ at + d → StandsTo b s at
     → readOn questionFault b (progressOf b s) r at ≡ format.Ended (progressOf b t) to q → Ends b t to
 read-stands zero b s t r at to q l h e = let g = read-none questionFault b (progressOf b s) r at (omega arith) in clash cc
 read-stands (suc d) b s t r at to q l h e =
@@ -232,7 +232,7 @@ read-stands (suc d) b s t r at to q l h e =
         let g = read-ended questionFault b (progressOf b s) r at (leb-true _ _ ex) ey in
         let here : at ≡ to = cc in
         let known : progressOf b s ≡ progressOf b t = cc in
-        (subst (λ (u : Progress). Stands b u to) (same-numbers b s t known) (subst (Stands b s) here h), subst (λ z. z + 6 ≤ length b) here (leb-true _ _ ex))
+        (subst (λ (u : Progress). StandsTo b u to) (same-numbers b s t known) (subst (StandsTo b s) here h), subst (λ z. z + 6 ≤ length b) here (leb-true _ _ ex))
     go true false (suc f) ex ey ef later = let g = read-stopped questionFault b (progressOf b s) r at f (leb-true _ _ ex) ey ef in clash cc
     go true false zero ex ey ef later =
         later ef (ap (λ (u : format.Progress). readOn questionFault b u (suc r) (next b at)) (after-advanced b s at h ef) ∙ sym (read-more questionFault b (progressOf b s) r at (leb-true _ _ ex) ey ef) ∙ e)

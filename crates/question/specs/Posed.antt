@@ -6,7 +6,7 @@ use Rattle.calculus.specs.Limits.{ticketBytes}
 use Rattle.question.specs.declared.Progress.{Progress}
 use Rattle.calculus.specs.Facts.{Question, blank}
 use Rattle.question.specs.Progress.{progressOf}
-use Rattle.question.specs.Standing.{Stands}
+use Rattle.question.specs.Standing.{StandsTo}
 
 -- the question of a ticket's bytes, by the numbers read of it
 unfoldable pub asked : List ℕ → Progress → Question
@@ -19,6 +19,6 @@ numbered s = blank (s .n) (s .p) (s .q)
 -- it stands, with its head, in a ticket that is not too long
 pub record Posed (b : List ℕ) (s : Progress) : Type 0 where
   pub to : ℕ
-  pub stands : Stands b s to
+  pub stands : StandsTo b s to
   pub head : 1 ≤ s .last
   pub short : length b ≤ ticketBytes

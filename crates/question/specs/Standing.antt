@@ -28,7 +28,7 @@ pub record ConstraintAt (b : List ℕ) (p q k at : ℕ) : Type 0 where
   pub string-formed : kind b at ≡ 3 → stringFault b p k (at + 6) (size b at) ≡ 0
   pub arithmetic-formed : kind b at ≡ 4 → arithmeticFault b (q + (p + p)) (at + 6) (size b at) ≡ 0
 
-pub record Stands (b : List ℕ) (s : Progress) (at : ℕ) : Type 0 where
+pub record StandsTo (b : List ℕ) (s : Progress) (at : ℕ) : Type 0 where
   pub within : at ≤ length b
   -- behind the head there is a character
   pub some-character : 1 ≤ s .last → 1 ≤ s .n

@@ -14,7 +14,7 @@ ghost use Rattle.format.specs.Records.{kind as kindAt, size as sizeAt};
 ghost use Rattle.format.specs.Question.{headFault, textOf, literalFault, stringRange, stringFault, coefficientInRange, pairInRange, rising, formRange, arithmeticFault, kindInPlace, questionBodyFault, questionFault, questionAdvanced, ending, question};
 ghost use Rattle.format.specs.Places.{skip, texts, literalsFrom};
 ghost use Rattle.question.specs.Progress.{progressOf, readingOf};
-ghost use Rattle.question.specs.Standing.{Stands};
+ghost use Rattle.question.specs.Standing.{StandsTo};
 ghost use Rattle.question.specs.Columns.{columnAt};
 use limits::ALPHABET_LIMIT;
 use limits::COLUMN_LIMIT;
@@ -328,7 +328,7 @@ fn body_fault(b: &[u8], s: Progress, k: usize, at: usize, size: usize) -> usize
 
 // The first number that applies to a whole record, 10 behind the others.
 fn record_fault(b: &[u8], s: Progress, k: usize, at: usize, size: usize) -> usize
-    requires { ⌜ Stands (now b) s at ⌝ }
+    requires { ⌜ StandsTo (now b) s at ⌝ }
     requires { ⌜ (k ≡ kindAt (now b) at) × (size ≡ sizeAt (now b) at) × (at + 6 + size ≤ length (now b)) ⌝ }
     ensures { λ r. ⌜ r ≡ questionFault (now (b .entry)) (progressOf (now (b .entry)) s) at ⌝ }
 {
@@ -348,7 +348,7 @@ fn record_fault(b: &[u8], s: Progress, k: usize, at: usize, size: usize) -> usiz
 
 // What was read after a record without fault.
 fn advance(b: &[u8], s: Progress, k: usize, at: usize) -> Progress
-    requires { ⌜ Stands (now b) s at ⌝ }
+    requires { ⌜ StandsTo (now b) s at ⌝ }
     requires { ⌜ (k ≡ kindAt (now b) at) × (questionFault (now b) (progressOf (now b) s) at ≡ 0) ⌝ }
     ensures { λ r. ⌜ progressOf (now (b .entry)) r ≡ questionAdvanced (now (b .entry)) (progressOf (now (b .entry)) s) at ⌝ }
 {

@@ -39,7 +39,7 @@ string-fact (suc zero) a b l h g k = ap₂ notSame (index-of a g) (index-of b k)
 string-fact (suc (suc zero)) a b l h g k = ap₂ isLiteral (index-of a g) (index-of b k)
 string-fact (suc (suc (suc r))) a b l h g k = absurd (omega arith)
 
--- ---- the kind from the tag
+-- ---- the tag of a row
 
 module _ (row : List ℤ) where
   tag-kind : (z : ℤ) → getD row 0 (pos 0) ≡ z → tagOf (factOf row) ≡ tagOf (tagged z (index (getD row 1 (pos 0))) (index (getD row 2 (pos 0))) (drop 1 row))

@@ -21,7 +21,7 @@ pub record Fine (w : List ℤ) (count : ℕ) : Type 0 where
 abbrev pub Within : ℕ → List ℤ → Type 0
 Within n zs = (j : ℕ) → natAbs (getD zs j (pos 0)) ≤ n
 
--- the number of a fact's kind
+-- the tag of a fact's row
 unfoldable pub tagOf : Fact → ℕ
 tagOf (arithmetic ge e) = 0
 tagOf (arithmetic eq e) = 1

@@ -324,12 +324,12 @@ pub fn is_false(row: &[i64]) -> bool
     requires { ⌜ length (now row) ≡ rowLength ⌝ }
     ensures { λ r. ⌜ r ≡ isFalse (factOf (now (row .entry))) ⌝ }
 {
-    let kind = tag_of(row);
-    if kind > 2 {
+    let tag = tag_of(row);
+    if tag > 2 {
         return false;
     }
     let c = row[1];
-    if relation_holds(kind, c) {
+    if relation_holds(tag, c) {
         return false;
     }
     constant(row)
@@ -442,12 +442,12 @@ fn keeps_row(row: &[i64], model: &[i64]) -> bool
     requires { ⌜ Within valueLimit (now model) ⌝ }
     ensures { λ r. ⌜ r ≡ keepsFact (now (model .entry)) (factOf (now (row .entry))) ⌝ }
 {
-    let kind = tag_of(row);
-    if kind > 2 {
+    let tag = tag_of(row);
+    if tag > 2 {
         return true;
     }
     let value = row_value(row, model);
-    relation_holds(kind, value)
+    relation_holds(tag, value)
 }
 
 // Does the model meet every arithmetic fact?

@@ -22,7 +22,7 @@ use Rattle.steps.specs.Offered.{offered}
 use Rattle.steps.specs.Ready.{Ready}
 use Rattle.steps.proofs.Concluding.{no-child, some-child, child-between}
 use Rattle.steps.proofs.Bodies.{before, given}
-use Rattle.steps.proofs.Offered.{nth-there, its-shape}
+use Rattle.steps.proofs.Offered.{child-in-there, its-shape}
 
 -- ---- claim 1
 
@@ -67,4 +67,4 @@ module _ {b : List ℕ} {s : Progress} {at m : ℕ} {w : List ℤ} {count : ℕ}
   pub taken-there : conclusionsOf (rule b at) ≡ Several → childInRange (s .n) (stepAt b at m) k ≡ true → fits (given h) ≡ true → fits (childIn (given h) k) ≡ true
   taken-there several e f =
       let (l, g) = child-between (shape (s .n) (stepAt b at m)) k (some-child b (s .n) at m (h .formed .fits) several) e in
-      nth-there (given h) k f l (omega (arith, length-map (orNone (given h)) length, ap length (its-shape h f)))
+      child-in-there (given h) k f l (omega (arith, length-map (orNone (given h)) length, ap length (its-shape h f)))

@@ -44,17 +44,17 @@ child-three c d e cs k q = ap (λ n. orNone (childAt (c ∷ d ∷ e ∷ cs) n)) 
 pub parted-beyond : (w : List ℤ) (count k : ℕ) → count ≤ k → fits (then (getElem? (branchOf w count) k) apartOf) ≡ false
 parted-beyond w count k h = rw (branch-beyond w count k h)
 
-parted-kind : (f : Fact) → (tagOf f ≡ 2 → ⊥) → fits (apartOf f) ≡ false
+apart-of-tag : (f : Fact) → (tagOf f ≡ 2 → ⊥) → fits (apartOf f) ≡ false
 unfolding tagOf
-parted-kind (same x y) h = refl
-parted-kind (notSame x y) h = refl
-parted-kind (isLiteral x l) h = refl
-parted-kind (arithmetic ge e) h = refl
-parted-kind (arithmetic eq e) h = refl
-parted-kind (arithmetic ne e) h = absurd (h refl)
+apart-of-tag (same x y) h = refl
+apart-of-tag (notSame x y) h = refl
+apart-of-tag (isLiteral x l) h = refl
+apart-of-tag (arithmetic ge e) h = refl
+apart-of-tag (arithmetic eq e) h = refl
+apart-of-tag (arithmetic ne e) h = absurd (h refl)
 
 pub parted-no : (w : List ℤ) (count k : ℕ) → k < count → (tagOf (factOf (rowAt w k)) ≡ 2 → ⊥) → fits (then (getElem? (branchOf w count) k) apartOf) ≡ false
-parted-no w count k h n = ap (λ o. fits (then o apartOf)) (branch-at w count k h) ∙ parted-kind (factOf (rowAt w k)) n
+parted-no w count k h n = ap (λ o. fits (then o apartOf)) (branch-at w count k h) ∙ apart-of-tag (factOf (rowAt w k)) n
 
 pub parted-is : (w : List ℤ) (count k : ℕ) → k < count → tagOf (factOf (rowAt w k)) ≡ 2
     → then (getElem? (branchOf w count) k) apartOf ≡ some (apartChildren (drop 1 (rowAt w k)))

@@ -115,9 +115,9 @@ pairs-within : (xs : List ℕ) (more : List (List Fact)) → childrenWithin (pai
 pairs-within [] more = refl
 pairs-within (x ∷ xs) more = with-within x xs (pairChildren xs more) ∙ pairs-within xs more
 
-log-bound : (d n m k : ℕ) → leastPower d n m k ≤ k + d
-log-bound zero n m k = omega arith
-log-bound (suc d) n m k = go (leb m (n ^ k)) (log-bound d n m (suc k))
+least-power-bound : (d n m k : ℕ) → leastPower d n m k ≤ k + d
+least-power-bound zero n m k = omega arith
+least-power-bound (suc d) n m k = go (leb m (n ^ k)) (least-power-bound d n m (suc k))
   where
     go : (t : Bool) → leastPower d n m (suc k) ≤ suc k + d → elim t [ true ↦ k | false ↦ leastPower d n m (suc k) ] ≤ k + suc d
     go true h = omega arith
@@ -129,7 +129,7 @@ last-within s x m h g = go (decLt 1 (s .n))
   where
     go : Dec (1 < s .n) → childrenWithin (lastChild (numbered s) x m) ≡ true
     go (yes n) =
-        let l : leastPower m (s .n) m 0 ≤ 0 + m = log-bound m (s .n) m 0 in
+        let l : leastPower m (s .n) m 0 ≤ 0 + m = least-power-bound m (s .n) m 0 in
         let a : natAbs (negℤ (pos (leastPower m (s .n) m 0))) ≡ leastPower m (s .n) m 0 = abs-neg (pos (leastPower m (s .n) m 0)) in
         ap childrenWithin (last-is s x m n h)
         ∙ ap (λ t. (t && true) && true) (within-single (negℤ (pos (leastPower m (s .n) m 0))) (s .q + x) (pos 1) (omega arith) (omega arith))

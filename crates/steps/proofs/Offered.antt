@@ -66,9 +66,9 @@ pub none-there : (o : Option (List (List Fact))) (k : ℕ) → fits o ≡ false 
 none-there none k e = refl
 none-there (some cs) k e = absurd (not-both true refl e)
 
-pub nth-there : (o : Option (List (List Fact))) (k : ℕ) → fits o ≡ true → 1 ≤ k → k ≤ length (orNone o) → fits (childIn o k) ≡ true
-nth-there none k f l h = absurd (not-both false f refl)
-nth-there (some cs) k f l h = child-there cs k l h
+pub child-in-there : (o : Option (List (List Fact))) (k : ℕ) → fits o ≡ true → 1 ≤ k → k ≤ length (orNone o) → fits (childIn o k) ≡ true
+child-in-there none k f l h = absurd (not-both false f refl)
+child-in-there (some cs) k f l h = child-there cs k l h
 
 module _ (o : Option (List (List Fact))) (k : ℕ) (e : fits (childIn o k) ≡ true) where
   pub step-fits : fits o ≡ true
@@ -93,13 +93,13 @@ module _ (o : Option (List (List Fact))) (k : ℕ) (e : fits (childIn o k) ≡ t
       ap (λ (s : List ℕ). getD s (k - 1) 0) (sym q) ∙ getD-map length cs (k - 1) [] 0 (omega arith) ∙ sym (ap length (child-at cs k l)) ∙ sym (ap (λ (p : Option (List (List Fact))). length (orNone (childIn p k))) its)
 
 -- what holds of the numbers of all holds of its own
-pub nth-within : (o : Option (List (List Fact))) (k : ℕ) → childrenWithin (orNone o) ≡ true → factsWithin (orNone (childIn o k)) ≡ true
+pub child-in-within : (o : Option (List (List Fact))) (k : ℕ) → childrenWithin (orNone o) ≡ true → factsWithin (orNone (childIn o k)) ≡ true
 unfolding childrenWithin factsWithin
-nth-within none k e = refl
-nth-within (some cs) zero e = refl
-nth-within (some []) (suc j) e = refl
-nth-within (some (c ∷ cs)) (suc zero) e = and-true (factsWithin c) (childrenWithin cs) e .0
-nth-within (some (c ∷ cs)) (suc (suc j)) e = nth-within (some cs) (suc j) (and-true (factsWithin c) (childrenWithin cs) e .1)
+child-in-within none k e = refl
+child-in-within (some cs) zero e = refl
+child-in-within (some []) (suc j) e = refl
+child-in-within (some (c ∷ cs)) (suc zero) e = and-true (factsWithin c) (childrenWithin cs) e .0
+child-in-within (some (c ∷ cs)) (suc (suc j)) e = child-in-within (some cs) (suc j) (and-true (factsWithin c) (childrenWithin cs) e .1)
 
 pub its-shape : {b : List ℕ} {s : Progress} {at m : ℕ} {w : List ℤ} {count : ℕ} (h : Ready b s at m w count) → fits (given h) ≡ true → map length (orNone (given h)) ≡ shape (s .n) (stepAt b at m)
 unfolding asked offered

@@ -27,7 +27,7 @@ use Rattle.calculus.proofs.Strings.{S, length-strings, strings-at, in-strings�
 use Rattle.calculus.proofs.Words.{given→, →given}
 use Rattle.format.specs.Checking.{shortLengths}
 use Rattle.answer.specs.Table.{row, tableStrings}
-use Rattle.strings.specs.Filling.{entry, before, givenStrings, fixedAt, completed}
+use Rattle.strings.specs.Filling.{stringIn, before, givenStrings, fixedAt, completed}
 use Rattle.strings.proofs.Table.{sized-some, some-sized, stored-there, stored-passed, completed-own, completed-copied, completed-fresh}
 use Rattle.strings.proofs.Words.{fresh-same}
 
@@ -47,23 +47,23 @@ module _ (characters sizes : List ℕ) where
   →in-before (some s) ss w (inl e) = inl (sym (some-injective e))
   →in-before (some s) ss w (inr i) = inr i
 
-  in-given→ : (p : ℕ) (w : List ℕ) → In w (givenStrings characters sizes p) → (y : ℕ) × (y < p) × (entry characters sizes y ≡ some w)
+  in-given→ : (p : ℕ) (w : List ℕ) → In w (givenStrings characters sizes p) → (y : ℕ) × (y < p) × (stringIn characters sizes y ≡ some w)
   unfolding givenStrings
   in-given→ zero w i = absurd i
-  in-given→ (suc p) w i = go (in-before→ (entry characters sizes p) (givenStrings characters sizes p) w i) (in-given→ p w)
+  in-given→ (suc p) w i = go (in-before→ (stringIn characters sizes p) (givenStrings characters sizes p) w i) (in-given→ p w)
     where
-      go : (entry characters sizes p ≡ some w) ⊎ In w (givenStrings characters sizes p) → (In w (givenStrings characters sizes p) → (y : ℕ) × (y < p) × (entry characters sizes y ≡ some w))
-          → (y : ℕ) × (y < suc p) × (entry characters sizes y ≡ some w)
+      go : (stringIn characters sizes p ≡ some w) ⊎ In w (givenStrings characters sizes p) → (In w (givenStrings characters sizes p) → (y : ℕ) × (y < p) × (stringIn characters sizes y ≡ some w))
+          → (y : ℕ) × (y < suc p) × (stringIn characters sizes y ≡ some w)
       go (inl e) ih = (p, omega arith, e)
       go (inr j) ih = let (y, h, e) = ih j in (y, omega arith, e)
 
-  →in-given : (p y : ℕ) (w : List ℕ) → y < p → entry characters sizes y ≡ some w → In w (givenStrings characters sizes p)
+  →in-given : (p y : ℕ) (w : List ℕ) → y < p → stringIn characters sizes y ≡ some w → In w (givenStrings characters sizes p)
   unfolding givenStrings
   →in-given zero y w h e = absurd (omega arith)
-  →in-given (suc p) y w h e = →in-before (entry characters sizes p) (givenStrings characters sizes p) w (go (ℕ-discrete y p) (→in-given p y w))
+  →in-given (suc p) y w h e = →in-before (stringIn characters sizes p) (givenStrings characters sizes p) w (go (ℕ-discrete y p) (→in-given p y w))
     where
-      go : Dec (y ≡ p) → (y < p → entry characters sizes y ≡ some w → In w (givenStrings characters sizes p)) → (entry characters sizes p ≡ some w) ⊎ In w (givenStrings characters sizes p)
-      go (yes k) ih = inl (ap (entry characters sizes) (sym k) ∙ e)
+      go : Dec (y ≡ p) → (y < p → stringIn characters sizes y ≡ some w → In w (givenStrings characters sizes p)) → (stringIn characters sizes p ≡ some w) ⊎ In w (givenStrings characters sizes p)
+      go (yes k) ih = inl (ap (stringIn characters sizes) (sym k) ∙ e)
       go (no k) ih = inr (ih (omega arith) e)
 
 -- ---- the table in the third round
@@ -71,14 +71,14 @@ module _ (characters sizes : List ℕ) where
 module _ (u : Question) (b : Branch) (m : List ℤ) where
   -- the first x variables have their strings, the others what the first two rounds gave
   pub record Filled (characters sizes : List ℕ) (x : ℕ) : Type 0 where
-    pub passed : (y : ℕ) → y < x → entry characters sizes y ≡ some (S u b m y)
-    pub ahead : (y : ℕ) → x ≤ y → y < u .p → entry characters sizes y ≡ fixedString u b m y
+    pub passed : (y : ℕ) → y < x → stringIn characters sizes y ≡ some (S u b m y)
+    pub ahead : (y : ℕ) → x ≤ y → y < u .p → stringIn characters sizes y ≡ fixedString u b m y
 
   abbrev before-x : ℕ → List (List ℕ)
   before-x x = fixedStrings u b m (u .p) ++ stringsTo u b m x
 
   -- before the third round
-  pub round-start : (ls characters sizes : List ℕ) → ls ≡ labels b → ((y : ℕ) → y < u .p → entry characters sizes y ≡ fixedAt u ls m y) → Filled characters sizes 0
+  pub round-start : (ls characters sizes : List ℕ) → ls ≡ labels b → ((y : ℕ) → y < u .p → stringIn characters sizes y ≡ fixedAt u ls m y) → Filled characters sizes 0
   round-start ls characters sizes e h = record {
     passed = λ y g. absurd (no-number y g);
     ahead = λ y g k. h y k ∙ ap (λ (l : List ℕ). fixedAt u l m y) e;
@@ -100,14 +100,14 @@ module _ (u : Question) (b : Branch) (m : List ℤ) where
         (λ t. →given w (before-x x) (there (in-given→ characters sizes (u .p) w (given→ w (givenStrings characters sizes (u .p)) t))))
         (λ t. →given w (givenStrings characters sizes (u .p)) (back (in-append w (fixedStrings u b m (u .p)) (stringsTo u b m x) (given→ w (before-x x) t))))
       where
-        there : (y : ℕ) × (y < u .p) × (entry characters sizes y ≡ some w) → In w (before-x x)
+        there : (y : ℕ) × (y < u .p) × (stringIn characters sizes y ≡ some w) → In w (before-x x)
         there (y, g, e) = go (decLt y x)
           where
             go : Dec (y < x) → In w (before-x x)
             go (yes k) = in-right w (fixedStrings u b m (u .p)) (stringsTo u b m x) (subst (λ s. In s (stringsTo u b m x)) (some-injective (sym (f .passed y k) ∙ e)) (→in-strings u b m x y k))
             go (no k) = in-left w (fixedStrings u b m (u .p)) (stringsTo u b m x) (→in-fixed u b m (u .p) y w g (sym (f .ahead y (omega arith) g) ∙ e))
 
-        from-fixed : (y : ℕ) → y < u .p → fixedString u b m y ≡ some w → Dec (y < x) → entry characters sizes y ≡ some w
+        from-fixed : (y : ℕ) → y < u .p → fixedString u b m y ≡ some w → Dec (y < x) → stringIn characters sizes y ≡ some w
         from-fixed y g e (yes k) = f .passed y k ∙ ap some (S-fixed u b m y w e)
         from-fixed y g e (no k) = f .ahead y (omega arith) g ∙ e
 
@@ -118,7 +118,7 @@ module _ (u : Question) (b : Branch) (m : List ℤ) where
     pub completed-is : completed (u .n) (u .p) (labels b) l characters sizes x ≡ S u b m x
     completed-is = go (fixedString u b m x) refl (decLt low x)
       where
-        here : entry characters sizes x ≡ fixedString u b m x
+        here : stringIn characters sizes x ≡ fixedString u b m x
         here = f .ahead x (omega arith) h
 
         go : (o : Option (List ℕ)) → fixedString u b m x ≡ o → Dec (low < x) → completed (u .n) (u .p) (labels b) l characters sizes x ≡ S u b m x

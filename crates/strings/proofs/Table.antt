@@ -31,7 +31,7 @@ use Rattle.format.proofs.Places.{text-at}
 use Rattle.answer.specs.Table.{row}
 use Rattle.question.specs.declared.Progress.{Progress}
 use Rattle.question.specs.Posed.{asked, Posed}
-use Rattle.strings.specs.Filling.{sized, entry, before, givenStrings, isIt, fixedAt, completed}
+use Rattle.strings.specs.Filling.{sized, stringIn, before, givenStrings, isIt, fixedAt, completed}
 
 -- ---- a string by its size
 
@@ -133,7 +133,7 @@ module _ (characters sizes : List ℕ) (x size : ℕ) (v : List ℕ) (short : le
   abbrev stored : List ℕ
   stored = sets characters (lengthLimit * x) v
 
-  stored-here : entry stored (set sizes x size) x ≡ sized size v
+  stored-here : stringIn stored (set sizes x size) x ≡ sized size v
   stored-here = ap (λ (k : ℕ). sized k (drop (lengthLimit * x) stored)) (getD-set-same sizes x size 0 inside) ∙ go (leb size lengthLimit) refl
     where
       go : (t : Bool) → leb size lengthLimit ≡ t → sized size (drop (lengthLimit * x) stored) ≡ sized size v
@@ -144,11 +144,11 @@ module _ (characters sizes : List ℕ) (x size : ℕ) (v : List ℕ) (short : le
           let h : lengthLimit < size = leb-false size lengthLimit f in
           sized-none size (drop (lengthLimit * x) stored) h ∙ sym (sized-none size v h)
 
-  pub stored-there : (y : ℕ) → y ≢ x → lengthLimit * y + lengthLimit ≤ length characters → entry stored (set sizes x size) y ≡ entry characters sizes y
+  pub stored-there : (y : ℕ) → y ≢ x → lengthLimit * y + lengthLimit ≤ length characters → stringIn stored (set sizes x size) y ≡ stringIn characters sizes y
   stored-there y ne r =
       ap (λ (k : ℕ). sized k (drop (lengthLimit * y) stored)) (getD-set-other sizes x y size 0 ne) ∙ go (leb (getD sizes y 0) lengthLimit) refl
     where
-      go : (t : Bool) → leb (getD sizes y 0) lengthLimit ≡ t → sized (getD sizes y 0) (drop (lengthLimit * y) stored) ≡ entry characters sizes y
+      go : (t : Bool) → leb (getD sizes y 0) lengthLimit ≡ t → sized (getD sizes y 0) (drop (lengthLimit * y) stored) ≡ stringIn characters sizes y
       go false g =
           let h : lengthLimit < getD sizes y 0 = leb-false (getD sizes y 0) lengthLimit g in
           sized-none (getD sizes y 0) (drop (lengthLimit * y) stored) h ∙ sym (sized-none (getD sizes y 0) (drop (lengthLimit * y) characters) h)
@@ -159,12 +159,12 @@ module _ (characters sizes : List ℕ) (x size : ℕ) (v : List ℕ) (short : le
           ∙ sym (sized-some (getD sizes y 0) (drop (lengthLimit * y) characters) h)
 
   -- the first variables have the strings g, and x gets its own
-  pub stored-passed : (g : ℕ → Option (List ℕ)) → ((y : ℕ) → y < x → entry characters sizes y ≡ g y) → sized size v ≡ g x
-      → (y : ℕ) → y < x + 1 → entry stored (set sizes x size) y ≡ g y
+  pub stored-passed : (g : ℕ → Option (List ℕ)) → ((y : ℕ) → y < x → stringIn characters sizes y ≡ g y) → sized size v ≡ g x
+      → (y : ℕ) → y < x + 1 → stringIn stored (set sizes x size) y ≡ g y
   stored-passed g h e y l = go (ℕ-discrete y x)
     where
-      go : Dec (y ≡ x) → entry stored (set sizes x size) y ≡ g y
-      go (yes q) = ap (entry stored (set sizes x size)) q ∙ stored-here ∙ e ∙ ap g (sym q)
+      go : Dec (y ≡ x) → stringIn stored (set sizes x size) y ≡ g y
+      go (yes q) = ap (stringIn stored (set sizes x size)) q ∙ stored-here ∙ e ∙ ap g (sym q)
       go (no q) = stored-there y q (omega arith) ∙ h y (omega arith)
 
 -- ---- the strings that are given
@@ -175,26 +175,26 @@ module _ (characters sizes w : List ℕ) where
   given-before none ss = refl
   given-before (some s) ss = refl
 
-  given-turn : (y : ℕ) → given w (givenStrings characters sizes (suc y)) ≡ (isIt (entry characters sizes y) w || given w (givenStrings characters sizes y))
+  given-turn : (y : ℕ) → given w (givenStrings characters sizes (suc y)) ≡ (isIt (stringIn characters sizes y) w || given w (givenStrings characters sizes y))
   unfolding givenStrings
-  given-turn y = given-before (entry characters sizes y) (givenStrings characters sizes y)
+  given-turn y = given-before (stringIn characters sizes y) (givenStrings characters sizes y)
 
   pub given-none : given w (givenStrings characters sizes 0) ≡ false
   unfolding givenStrings
   given-none = refl
 
-  pub given-more : (y : ℕ) → given w (givenStrings characters sizes y) ≡ false → isIt (entry characters sizes y) w ≡ false → given w (givenStrings characters sizes (y + 1)) ≡ false
+  pub given-more : (y : ℕ) → given w (givenStrings characters sizes y) ≡ false → isIt (stringIn characters sizes y) w ≡ false → given w (givenStrings characters sizes (y + 1)) ≡ false
   given-more y e f = ap (λ (k : ℕ). given w (givenStrings characters sizes k)) (add-one y) ∙ given-turn y ∙ ap₂ _||_ f e
 
-  pub given-yes : (p y : ℕ) → y < p → isIt (entry characters sizes y) w ≡ true → given w (givenStrings characters sizes p) ≡ true
+  pub given-yes : (p y : ℕ) → y < p → isIt (stringIn characters sizes y) w ≡ true → given w (givenStrings characters sizes p) ≡ true
   given-yes zero y h e = absurd (omega arith)
   given-yes (suc p) y h e = go (λ l. given-yes p y l e) (decLt y p)
     where
       go : (y < p → given w (givenStrings characters sizes p) ≡ true) → Dec (y < p) → given w (givenStrings characters sizes (suc p)) ≡ true
-      go ih (yes l) = given-turn p ∙ ap (λ (t : Bool). isIt (entry characters sizes p) w || t) (ih l) ∙ or-true (isIt (entry characters sizes p) w)
+      go ih (yes l) = given-turn p ∙ ap (λ (t : Bool). isIt (stringIn characters sizes p) w || t) (ih l) ∙ or-true (isIt (stringIn characters sizes p) w)
       go ih (no n) =
           let k : p ≡ y = omega arith in
-          given-turn p ∙ ap (λ (t : Bool). t || given w (givenStrings characters sizes p)) (ap (λ (z : ℕ). isIt (entry characters sizes z) w) k ∙ e)
+          given-turn p ∙ ap (λ (t : Bool). t || given w (givenStrings characters sizes p)) (ap (λ (z : ℕ). isIt (stringIn characters sizes z) w) k ∙ e)
 
 -- ---- the third round, by what a variable has
 
@@ -209,15 +209,15 @@ module _ (n p : ℕ) (ls : List ℕ) (l : ℕ) (characters sizes : List ℕ) (x 
         ]
   ]
 
-  pub completed-own : (s : List ℕ) → entry characters sizes x ≡ some s → completed n p ls l characters sizes x ≡ s
+  pub completed-own : (s : List ℕ) → stringIn characters sizes x ≡ some s → completed n p ls l characters sizes x ≡ s
   unfolding completed
   completed-own s e = ap (λ (o : Option (List ℕ)). third o (ltb (lowestVariable ls x) x)) e
 
-  pub completed-copied : entry characters sizes x ≡ none → lowestVariable ls x < x → completed n p ls l characters sizes x ≡ row characters (lowestVariable ls x) (getD sizes (lowestVariable ls x) 0)
+  pub completed-copied : stringIn characters sizes x ≡ none → lowestVariable ls x < x → completed n p ls l characters sizes x ≡ row characters (lowestVariable ls x) (getD sizes (lowestVariable ls x) 0)
   unfolding completed
   completed-copied e h = ap₂ third e (lt-ltb (lowestVariable ls x) x h)
 
-  pub completed-fresh : entry characters sizes x ≡ none → x ≤ lowestVariable ls x → completed n p ls l characters sizes x ≡ freshFrom p n l (givenStrings characters sizes p) 0
+  pub completed-fresh : stringIn characters sizes x ≡ none → x ≤ lowestVariable ls x → completed n p ls l characters sizes x ≡ freshFrom p n l (givenStrings characters sizes p) 0
   unfolding completed
   completed-fresh e h = ap₂ third e (le-ltb (lowestVariable ls x) x h)
 

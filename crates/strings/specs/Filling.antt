@@ -19,8 +19,8 @@ unfoldable pub sized : ℕ → List ℕ → Option (List ℕ)
 sized size characters = cond (leb size lengthLimit) (some (take size characters)) none
 
 -- the string of variable y in a table
-abbrev pub entry : List ℕ → List ℕ → ℕ → Option (List ℕ)
-entry characters sizes y = sized (getD sizes y 0) (drop (lengthLimit * y) characters)
+abbrev pub stringIn : List ℕ → List ℕ → ℕ → Option (List ℕ)
+stringIn characters sizes y = sized (getD sizes y 0) (drop (lengthLimit * y) characters)
 
 -- the strings of the first variables that have one
 unfoldable pub before : Option (List ℕ) → List (List ℕ) → List (List ℕ)
@@ -29,7 +29,7 @@ before (some s) ss = s ∷ ss
 
 unfoldable pub givenStrings : List ℕ → List ℕ → ℕ → List (List ℕ)
 givenStrings characters sizes zero = []
-givenStrings characters sizes (suc y) = before (entry characters sizes y) (givenStrings characters sizes y)
+givenStrings characters sizes (suc y) = before (stringIn characters sizes y) (givenStrings characters sizes y)
 
 -- the string w is the one there
 unfoldable pub isIt : Option (List ℕ) → List ℕ → Bool
@@ -42,7 +42,7 @@ fixedAt u ls m x = fixedBy u (literalIn u ls x) (modelValue u m len x) (modelVal
 
 -- the string of variable x, of length l, in the third round: its own, that of the lowest variable of its class, or the first that is not given
 unfoldable pub completed : ℕ → ℕ → List ℕ → ℕ → List ℕ → List ℕ → ℕ → List ℕ
-completed n p ls l characters sizes x = elim (entry characters sizes x) [
+completed n p ls l characters sizes x = elim (stringIn characters sizes x) [
   | some s ↦ s
   | none ↦
       elim (ltb (lowestVariable ls x) x) [

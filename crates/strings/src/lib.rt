@@ -16,8 +16,8 @@ ghost use Rattle.format.specs.Checking.{shortLengths};
 ghost use Rattle.rows.specs.Work.{Within};
 ghost use Rattle.answer.specs.Table.{row, tableStrings, Table};
 ghost use Rattle.question.specs.Posed.{asked, numbered};
-ghost use Rattle.leaf.specs.Leaf.{Modelled, Ready};
-ghost use Rattle.strings.specs.Filling.{sized, entry, givenStrings, isIt, fixedAt, completed};
+ghost use Rattle.leaf.specs.Leaf.{Modelled, LeafReady};
+ghost use Rattle.strings.specs.Filling.{sized, stringIn, givenStrings, isIt, fixedAt, completed};
 use classes::Lowest;
 use limits::LENGTH_LIMIT;
 use limits::NODE_COUNT;
@@ -197,7 +197,7 @@ fn fill_fixed(
     x: usize,
     row: &mut [u32],
 ) -> usize
-    requires { ⌜ Ready (now ticket) (now model) s × (x < s .p) × (length (now row) ≡ lengthLimit) ⌝ }
+    requires { ⌜ LeafReady (now ticket) (now model) s × (x < s .p) × (length (now row) ≡ lengthLimit) ⌝ }
     requires { ⌜ Within valueLimit (now model) ⌝ }
     ensures { λ r. ⌜ sized r (now (row .exit)) ≡ fixedAt (asked (now (ticket .entry)) s) labels (now (model .entry)) x ⌝ }
 {
@@ -224,9 +224,9 @@ fn give_fixed(
     labels: [u8; NODE_COUNT],
     characters: &mut [u32],
 ) -> [usize; VARIABLE_LIMIT]
-    requires { ⌜ Ready (now ticket) (now model) s × (lengthLimit * s .p ≤ length (now characters)) ⌝ }
+    requires { ⌜ LeafReady (now ticket) (now model) s × (lengthLimit * s .p ≤ length (now characters)) ⌝ }
     requires { ⌜ Within valueLimit (now model) ⌝ }
-    ensures { λ r. ⌜ ((y : ℕ) → y < s .p → entry (now (characters .exit)) r y ≡ fixedAt (asked (now (ticket .entry)) s) labels (now (model .entry)) y) ⌝ }
+    ensures { λ r. ⌜ ((y : ℕ) → y < s .p → stringIn (now (characters .exit)) r y ≡ fixedAt (asked (now (ticket .entry)) s) labels (now (model .entry)) y) ⌝ }
 {
     let mut sizes = [NOT_GIVEN; VARIABLE_LIMIT];
     let mut x = 0;
@@ -283,7 +283,7 @@ pub fn give_strings(
     labels: [u8; NODE_COUNT],
     characters: &mut [u32],
 ) -> [usize; VARIABLE_LIMIT]
-    requires { ⌜ Ready (now ticket) (now model) s × (lengthLimit * s .p ≤ length (now characters)) ⌝ }
+    requires { ⌜ LeafReady (now ticket) (now model) s × (lengthLimit * s .p ≤ length (now characters)) ⌝ }
     requires { ⌜ Within valueLimit (now model) ⌝ }
     requires { ⌜ shortLengths (asked (now ticket) s) (now model) ≡ true ⌝ }
     ensures { λ r. ⌜ ((b : Branch) → labels ≡ calculus.labels b → tableStrings (now (characters .exit)) r (s .p) ≡ strings (asked (now (ticket .entry)) s) b (now (model .entry))) ⌝ }

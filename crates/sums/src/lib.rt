@@ -21,11 +21,11 @@ fn takes(row: &[i64], multiplier: i64) -> bool
     requires { ⌜ length (now row) ≡ rowLength ⌝ }
     ensures { λ r. ⌜ r ≡ fits (summand multiplier (factOf (now (row .entry)))) ⌝ }
 {
-    let kind = rows::tag_of(row);
-    if kind == 0 {
+    let tag = rows::tag_of(row);
+    if tag == 0 {
         return multiplier > 0;
     }
-    if kind == 1 {
+    if tag == 1 {
         return multiplier != 0;
     }
     false

@@ -6,7 +6,7 @@ use native.Mathlib.Nat.{mul-le-mul, pow-suc, pow-zero}
 use native.Mathlib.Numerals.{add-one}
 use native.Mathlib.Omega.{arith}
 use Rattle.calculus.specs.Rules.{leastPower}
-use Rattle.classes.proofs.Laws.{log-done, log-no, log-yes}
+use Rattle.classes.proofs.Laws.{least-power-done, least-power-no, least-power-yes}
 use Rattle.classes.proofs.least_power.Statement.{statement}
 use Rattle.classes.proofs.least_power.Tie as tie
 
@@ -26,7 +26,7 @@ returns : tie.Need-returns Inv-loop μ-loop
 returns c =
     let l = c .before .before .loop in
     let s = c .before .before .before .args in
-    (sym (log-yes (s .n) (s .m) (l .k) (s .m - l .k) (omega (arith, l .inv .1))) ∙ l .inv .2, omega arith)
+    (sym (least-power-yes (s .n) (s .m) (l .k) (s .m - l .k) (omega (arith, l .inv .1))) ∙ l .inv .2, omega arith)
 
 mul-power : tie.Need-mul-power Inv-loop μ-loop
 mul-power c =
@@ -49,14 +49,14 @@ loop-again c =
     let less : s .m - l .k - 1 ≡ s .m - (l .k + 1) = omega arith in (
       omega arith,
       ap (λ (i : ℕ). i * s .n) (l .inv .1) ∙ sym (ap (λ (i : ℕ). s .n ^ i) (add-one (l .k)) ∙ pow-suc (s .n) (l .k)),
-      ap (λ (i : ℕ). leastPower i (s .n) (s .m) (l .k + 1)) (sym less) ∙ sym (log-no (s .n) (s .m) (l .k) (s .m - l .k) (omega arith) (omega (arith, l .inv .1))) ∙ l .inv .2,
+      ap (λ (i : ℕ). leastPower i (s .n) (s .m) (l .k + 1)) (sym less) ∙ sym (least-power-no (s .n) (s .m) (l .k) (s .m - l .k) (omega arith) (omega (arith, l .inv .1))) ∙ l .inv .2,
     )
 
 returns-2 : tie.Need-returns-2 Inv-loop μ-loop
 returns-2 c =
     let l = c .before .loop in
     let s = c .before .before .args in
-    (sym (log-done (s .n) (s .m) (l .k) (s .m - l .k) (omega arith)) ∙ l .inv .2, omega arith)
+    (sym (least-power-done (s .n) (s .m) (l .k) (s .m - l .k) (omega arith)) ∙ l .inv .2, omega arith)
 
 pub least-power-spec : {M : Type 1} → statement M
 least-power-spec =

@@ -5,7 +5,7 @@ use denote.Ref.{now}
 use mathlib.Core.Path.{_∙_, ap₂, sym}
 use Rattle.calculus.specs.Chains.{litNode, varNode}
 use Rattle.calculus.specs.Classes.{mergeNodes}
-use Rattle.classes.proofs.Laws.{row-joins-none, row-literal, row-same}
+use Rattle.classes.proofs.Laws.{row-merges-none, row-literal, row-same}
 use Rattle.classes.proofs.merge_row.Statement.{statement}
 use Rattle.classes.proofs.merge_row.Tie as tie
 
@@ -63,7 +63,7 @@ returns-3 : tie.Need-returns-3
 returns-3 c =
     let s = c .before .before .before in
     let k = c .before .before .tag-of in
-    sym (row-joins-none (now (s .args .row)) (s .args .labels) (k .result) (k .ensures) (c .before .if1 .left) (c .if2 .left))
+    sym (row-merges-none (now (s .args .row)) (s .args .labels) (k .result) (k .ensures) (c .before .if1 .left) (c .if2 .left))
 
 pub merge-row-spec : {M : Type 1} → statement M
 merge-row-spec =

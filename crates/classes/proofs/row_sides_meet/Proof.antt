@@ -5,7 +5,7 @@ use denote.Ref.{now}
 use mathlib.Core.Path.{_∙_, ap₂, sym}
 use Rattle.calculus.specs.Chains.{varNode}
 use Rattle.calculus.specs.Classes.{sameClass}
-use Rattle.classes.proofs.Laws.{row-apart, row-not-apart}
+use Rattle.classes.proofs.Laws.{row-sides, row-no-sides}
 use Rattle.classes.proofs.row_sides_meet.Statement.{statement}
 use Rattle.classes.proofs.row_sides_meet.Tie as tie
 
@@ -32,13 +32,13 @@ returns c =
     let s = c .before .before .before .before .before in
     let k = c .before .before .before .before .tag-of in
     c .same-class .ensures ∙ ap₂ (λ (a b : ℕ). sameClass (s .args .labels) (varNode a) (varNode b)) (c .before .before .operand .ensures .0) (c .before .operand2 .ensures .0)
-    ∙ sym (row-apart (now (s .args .row)) (s .args .labels) (k .result) (k .ensures) (c .before .before .before .if1 .taken))
+    ∙ sym (row-sides (now (s .args .row)) (s .args .labels) (k .result) (k .ensures) (c .before .before .before .if1 .taken))
 
 returns-2 : tie.Need-returns-2
 returns-2 c =
     let s = c .before .before in
     let k = c .before .tag-of in
-    sym (row-not-apart (now (s .args .row)) (s .args .labels) (k .result) (k .ensures) (c .if1 .left))
+    sym (row-no-sides (now (s .args .row)) (s .args .labels) (k .result) (k .ensures) (c .if1 .left))
 
 pub row-sides-meet-spec : {M : Type 1} → statement M
 row-sides-meet-spec =

@@ -9,7 +9,7 @@ use mathlib.Core.List.{List, [], _∷_}
 use mathlib.Core.Path.{_∙_, _≡_, ap, ap₂, refl, sym}
 use native.Mathlib.Omega.{arith}
 use Rattle.calculus.specs.Classes.{sidesMeet}
-use Rattle.classes.proofs.Laws.{apart-snoc}
+use Rattle.classes.proofs.Laws.{sides-snoc}
 use Rattle.rows.proofs.Branches.{branch-more, length-row}
 use Rattle.rows.specs.Rows.{branchOf, factOf, rowAt}
 use Rattle.classes.proofs.sides_meet.Statement.{statement}
@@ -46,7 +46,7 @@ loop-again c =
     let w = now (s .work) in (
       omega arith,
       ap₂ _||_ (l .inv .1) (c .row-sides-meet .ensures ∙ ap (λ (row : List ℤ). sidesMeet (s .labels) (factOf row ∷ [])) (c .before .row-at .ensures))
-          ∙ sym (ap (sidesMeet (s .labels)) (branch-more w (l .k)) ∙ apart-snoc (s .labels) (branchOf w (l .k)) (factOf (rowAt w (l .k)))),
+          ∙ sym (ap (sidesMeet (s .labels)) (branch-more w (l .k)) ∙ sides-snoc (s .labels) (branchOf w (l .k)) (factOf (rowAt w (l .k)))),
     )
 
 returns : tie.Need-returns Inv-loop μ-loop

@@ -11,7 +11,7 @@ use Rattle.calculus.specs.Chains.{varNode}
 use Rattle.calculus.specs.Children.{one}
 use Rattle.calculus.specs.Classes.{labels, sameClass}
 use Rattle.calculus.specs.Facts.{Fact, Question, eq}
-use Rattle.conclusions.proofs.Laws.{s-prop-adds, s-prop-apart, s-prop-fits, s-prop-same}
+use Rattle.conclusions.proofs.Laws.{s-prop-adds, s-prop-other-class, s-prop-fits, s-prop-same}
 use Rattle.conclusions.specs.Made.{madeOf}
 use Rattle.question.specs.Columns.{columnAt}
 use Rattle.format.specs.StepForms.{functionOf}
@@ -44,7 +44,7 @@ returns-2 c =
     let b = branchOf (now (s .args .work)) (s .args .count) in
     let t : sameClass (labels b) (varNode (s .args .x)) (varNode (s .args .y)) ≡ false =
     ap (λ (ls : List ℕ). sameClass ls (varNode (s .args .x)) (varNode (s .args .y))) (sym (c .before .before .labels .ensures)) ∙ sym (c .before .same-class .ensures) ∙ not-true _ (c .if2 .taken) in
-    λ (u : Question) (ep : u .p ≡ s .args .p) (eq : u .q ≡ s .args .q). s-prop-apart u b (functionOf (s .args .function)) (s .args .x) (s .args .y) (c .before .before .before .if1 .left) t
+    λ (u : Question) (ep : u .p ≡ s .args .p) (eq : u .q ≡ s .args .q). s-prop-other-class u b (functionOf (s .args .function)) (s .args .x) (s .args .y) (c .before .before .before .if1 .left) t
 
 column-of-requires : tie.Need-column-of-requires
 column-of-requires c κs = search needs

@@ -13,7 +13,7 @@ use Rattle.format.specs.Fields.{u16}
 use Rattle.format.specs.Places.{literalsFrom, texts, textAt}
 use Rattle.question.proofs.Posed.{literals-to}
 use Rattle.question.specs.Posed.{asked}
-use Rattle.judging.proofs.Constraints.{apart-met, literal-met, same-met, string-ranges, text-is, text-room}
+use Rattle.judging.proofs.Constraints.{not-same-met, literal-met, same-met, string-ranges, text-is, text-room}
 use Rattle.judging.specs.Ready.{valuesOf}
 use Rattle.judging.proofs.string_met.Statement.{statement}
 use Rattle.judging.proofs.string_met.Tie as tie
@@ -119,7 +119,7 @@ returns-3 c =
     let not-two : u16 b (s .args .at) ≡ 2 → ⊥ = λ e. c .before .before .before .if1 .left (c .before .before .before .before .before .before .before .u16-at .ensures .0 ∙ e) in
     let not-zero : u16 b (s .args .at) ≡ 0 → ⊥ = λ e. c .if2 .left (c .before .before .before .before .before .before .before .u16-at .ensures .0 ∙ e) in
     let one : u16 b (s .args .at) ≡ 1 = omega (arith, r .relation) in
-    ap not (strings (c .before)) ∙ apart-met (asked b (s .args .s)) (valuesOf b v (s .args .s)) (u16 b (s .args .at)) (u16 b (s .args .at + 2)) (u16 b (s .args .at + 4)) one
+    ap not (strings (c .before)) ∙ not-same-met (asked b (s .args .s)) (valuesOf b v (s .args .s)) (u16 b (s .args .at)) (u16 b (s .args .at + 2)) (u16 b (s .args .at + 4)) one
 
 pub string-met-spec : {M : Type 1} → statement M
 string-met-spec =

@@ -5,7 +5,7 @@ use lib.IntN.{negsuc}
 use mathlib.Core.Bool.{not}
 use mathlib.Core.Path.{_∙_, ap, sym}
 use native.Mathlib.Omega.{arith}
-use Rattle.leaf.proofs.Laws.{pair-apart, pair-codes, pair-lengths, pair-no-code}
+use Rattle.leaf.proofs.Laws.{pair-other-class, pair-codes, pair-lengths, pair-no-code}
 use Rattle.leaf.proofs.Signed.{equal-read}
 use Rattle.leaf.proofs.pair_by.Statement.{statement}
 use Rattle.leaf.proofs.pair_by.Tie as tie
@@ -46,7 +46,7 @@ returns-4 c =
     let s = c .before .before .before .before in
     let e = equal-read (c .before .before .equal3 .result) (s .args .c) (negsuc 0) (s .fits .c) (record { sfits = omega arith }) (c .before .before .equal3 .ensures) in
     let g = equal-read (c .equal4 .result) (s .args .c) (s .args .d) (s .fits .c) (s .fits .d) (c .equal4 .ensures) in
-    ap not g ∙ sym (pair-apart (s .args .z) (s .args .w) (s .args .c) (s .args .d) (s .args .same) (c .before .before .before .if1 .left) (sym e ∙ c .before .if3 .left))
+    ap not g ∙ sym (pair-other-class (s .args .z) (s .args .w) (s .args .c) (s .args .d) (s .args .same) (c .before .before .before .if1 .left) (sym e ∙ c .before .if3 .left))
 
 pub pair-by-spec : {M : Type 1} → statement M
 pair-by-spec =

@@ -13,7 +13,7 @@ use Rattle.calculus.specs.Model.{modelValue}
 use Rattle.leaf.proofs.Laws.{card-any, fromLiteral, var-card, var-code, var-length, var-literal}
 use Rattle.question.proofs.Posed.{some-character}
 use Rattle.question.specs.Posed.{asked}
-use Rattle.leaf.specs.Values.{codeFits, lengthFits, literalFits}
+use Rattle.leaf.specs.Values.{codeFits, lValidFits, literalFits}
 use Rattle.leaf.proofs.var_fits.Statement.{statement}
 use Rattle.leaf.proofs.var_fits.Tie as tie
 
@@ -35,8 +35,8 @@ literal-test c =
     c .literal-fits .ensures ∙ ap₂ (literalFits u (literalIn u (s .labels) (s .x))) (z-is (c .before .before)) (c-is (c .before))
 
 length-test : (c : tie.After-length-fits) → c .length-fits .result
-    ≡ lengthFits (c .before .before .before .before .before .before .args .labels) (c .before .before .before .before .before .before .args .x) (modelValue (asked (now (c .before .before .before .before .before .before .args .ticket)) (c .before .before .before .before .before .before .args .s)) (now (c .before .before .before .before .before .before .args .model)) len (c .before .before .before .before .before .before .args .x))
-length-test c = c .length-fits .ensures ∙ ap (lengthFits (c .before .before .before .before .before .before .args .labels) (c .before .before .before .before .before .before .args .x)) (z-is (c .before .before .before .before))
+    ≡ lValidFits (c .before .before .before .before .before .before .args .labels) (c .before .before .before .before .before .before .args .x) (modelValue (asked (now (c .before .before .before .before .before .before .args .ticket)) (c .before .before .before .before .before .before .args .s)) (now (c .before .before .before .before .before .before .args .model)) len (c .before .before .before .before .before .before .args .x))
+length-test c = c .length-fits .ensures ∙ ap (lValidFits (c .before .before .before .before .before .before .args .labels) (c .before .before .before .before .before .before .args .x)) (z-is (c .before .before .before .before))
 
 code-test : (c : tie.After-code-fits) → c .code-fits .result
     ≡ codeFits (c .before .before .before .before .before .before .before .before .args .s .n) (modelValue (asked (now (c .before .before .before .before .before .before .before .before .args .ticket)) (c .before .before .before .before .before .before .before .before .args .s)) (now (c .before .before .before .before .before .before .before .before .args .model)) len (c .before .before .before .before .before .before .before .before .args .x)) (modelValue (asked (now (c .before .before .before .before .before .before .before .before .args .ticket)) (c .before .before .before .before .before .before .before .before .args .s)) (now (c .before .before .before .before .before .before .before .before .args .model)) code (c .before .before .before .before .before .before .before .before .args .x))

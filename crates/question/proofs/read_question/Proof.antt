@@ -19,7 +19,7 @@ use Rattle.records.proofs.Finding.{found-nothing, found-cut, found-whole}
 use Rattle.question.specs.declared.Progress.{Progress}
 use Rattle.question.specs.declared.Reading.the-variants.{Stopped, Ended}
 use Rattle.question.specs.Progress.{progressOf, readingOf}
-use Rattle.question.specs.Standing.{Stands}
+use Rattle.question.specs.Standing.{StandsTo}
 use Rattle.format.proofs.RecordFaults.{cut-short}
 use Rattle.question.proofs.Standing.{begun-fresh, begun-stands, advanced-stands}
 use Rattle.question.proofs.read_question.Statement.{statement}
@@ -44,8 +44,8 @@ module _ (b : List ℕ) (s : Progress) (r at : ℕ) (short : length b ≤ ticket
   at-fault k (suc c) e h g ef z = outcome (format.Stopped (suc c) r) (read-stopped questionFault b (progressOf b s) r at c h (rw e at g) (sym ef))
 
   goes-on : (k m : ℕ) (t : Progress) → (k ≡ kind b at) × (m ≡ size b at) × (at + 6 + m ≤ length b) → ending k ≡ false → questionFault b (progressOf b s) at ≡ 0
-      → progressOf b t ≡ questionAdvanced b (progressOf b s) at → Stands b s at
-      → Stands b t (at + 6 + m) × (readOn questionFault b (progressOf b t) (r + 1) (at + 6 + m) ≡ readOn questionFault b unread 0 0)
+      → progressOf b t ≡ questionAdvanced b (progressOf b s) at → StandsTo b s at
+      → StandsTo b t (at + 6 + m) × (readOn questionFault b (progressOf b t) (r + 1) (at + 6 + m) ≡ readOn questionFault b unread 0 0)
   goes-on k m t w g ef e h =
       rw (w .1) (
         advanced-stands b s at h ef t e,
@@ -53,7 +53,7 @@ module _ (b : List ℕ) (s : Progress) (r at : ℕ) (short : length b ≤ ticket
       )
 
 abbrev Inv-loop : tie.InvT-loop
-Inv-loop b s₀ at₀ r₀ s at r = (r ≤ at) × Stands b s at × (readOn questionFault b (progressOf b s) r at ≡ readOn questionFault b unread 0 0)
+Inv-loop b s₀ at₀ r₀ s at r = (r ≤ at) × StandsTo b s at × (readOn questionFault b (progressOf b s) r at ≡ readOn questionFault b unread 0 0)
 
 abbrev μ-loop : tie.MeasureT-loop
 μ-loop b s₀ at₀ r₀ s at r = length b - at

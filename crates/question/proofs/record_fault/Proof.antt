@@ -16,7 +16,7 @@ use Rattle.format.specs.Places.{skip, literalsFrom}
 use Rattle.format.proofs.Places.{length-texts, length-constraints}
 use Rattle.question.specs.declared.Progress.{Progress}
 use Rattle.question.specs.Progress.{progressOf}
-use Rattle.question.specs.Standing.{Stands}
+use Rattle.question.specs.Standing.{StandsTo}
 use Rattle.format.proofs.RecordFaults.{behind-head, out-of-place, ill-formed, by-room}
 use Rattle.question.proofs.Standing.{literals-within}
 use Rattle.question.proofs.record_fault.Statement.{statement}
@@ -39,7 +39,7 @@ module _ (b : List ℕ) (s : Progress) (at k m : ℕ) (w : (k ≡ kind b at) × 
         (ap (λ j. leb k 2 || ltb j factLimit) (length-constraints b (s .constraints) (skip b (s .literals) literalsFrom)) ∙ r)
 
 -- the literals are compared with a further one behind the head only
-literals-there : (b : List ℕ) (s : Progress) (at k : ℕ) → Stands b s at → kindInPlace (s .last) (s .literals) k ≡ true → k ≡ 2 → skip b (s .literals) literalsFrom ≤ length b
+literals-there : (b : List ℕ) (s : Progress) (at k : ℕ) → StandsTo b s at → kindInPlace (s .last) (s .literals) k ≡ true → k ≡ 2 → skip b (s .literals) literalsFrom ≤ length b
 literals-there b s at k h e z = literals-within b s at (s .literals) h (behind-head (s .last) (s .literals) k e (λ y. absurd (omega arith)) .head-read) (omega arith)
 
 in-place-requires : tie.Need-in-place-requires

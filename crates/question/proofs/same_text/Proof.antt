@@ -8,7 +8,7 @@ use lib.Dec.{eqb}
 use lib.ListN.{length}
 use Rattle.calculus.specs.Strings.{eqString}
 use Rattle.format.specs.Fields.{u32s}
-use Rattle.question.proofs.Loops.{same-apart, same-done, same-more, same-lengths, text-char}
+use Rattle.question.proofs.Loops.{same-differs, same-done, same-more, same-lengths, text-char}
 use Rattle.question.proofs.same_text.Statement.{statement}
 use Rattle.question.proofs.same_text.Tie as tie
 
@@ -56,7 +56,7 @@ returns-3 c =
     let s = c .before .before .before .before .before .before .before .args in
     let p = text-char (now (s .a)) (s .x) (s .m) (s .m - 1) (omega arith) in
     let q = text-char (now (s .b)) (s .y) (s .m) (s .m - 1) (omega arith) in
-    sym (same-apart (u32s (now (s .a)) (s .x) (s .m)) (u32s (now (s .b)) (s .y) (s .m)) (s .m - 1)
+    sym (same-differs (u32s (now (s .a)) (s .x) (s .m)) (u32s (now (s .b)) (s .y) (s .m)) (s .m - 1)
     (λ e. c .if3 .taken (c .before .before .u32-at .ensures .0 ∙ sym p ∙ e ∙ q ∙ sym (c .before .u32-at2 .ensures .0))))
     ∙ same-count (c .before .before .before .before)
 

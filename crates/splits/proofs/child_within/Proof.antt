@@ -22,7 +22,7 @@ use Rattle.rows.specs.Work.{tagOf}
 use Rattle.rows.proofs.Small.{fine-at, under-fits, under-is}
 use Rattle.constraints.proofs.Ranges.{form-within}
 use Rattle.steps.proofs.Bodies.{given, four-bytes, branch-left}
-use Rattle.steps.proofs.Offered.{step-fits, number-of, nth-within}
+use Rattle.steps.proofs.Offered.{step-fits, number-of, child-in-within}
 use Rattle.splits.proofs.Forms.{child-one, child-two}
 use Rattle.splits.proofs.Limits as limits
 use Rattle.splits.proofs.Operands.{branch-operands, branch-child, apart-operands, apart-fact, apart-child}
@@ -49,7 +49,7 @@ returns c =
     let s = c .before .before .before in
     let e = c .before .u16-at .ensures .0 in
     let l = c .if1 .taken in
-    sym (nth-within (given (s .pre .0)) (s .args .k) (limits.others-within (s .pre .0) (s .pre .1 .0) (fit s) (omega arith)))
+    sym (child-in-within (given (s .pre .0)) (s .args .k) (limits.others-within (s .pre .0) (s .pre .1 .0) (fit s) (omega arith)))
 
 add-u16-at : tie.Need-add-u16-at
 add-u16-at c = search needs

@@ -9,7 +9,7 @@ use mathlib.Core.Path.{_∙_, _≡_, ap, refl}
 use native.Mathlib.Omega.{arith}
 use Rattle.question.specs.Posed.{asked}
 use Rattle.strings.proofs.Table.{part-stored, stored-passed}
-use Rattle.strings.specs.Filling.{entry, fixedAt}
+use Rattle.strings.specs.Filling.{stringIn, fixedAt}
 use Rattle.strings.proofs.give_fixed.Statement.{statement}
 use Rattle.strings.proofs.give_fixed.Tie as tie
 
@@ -18,7 +18,7 @@ no-number y h = absurd (omega arith)
 
 abbrev Inv-loop : tie.InvT-loop
 Inv-loop ticket model s labels characters₀ sizes₀ x₀ characters sizes x =
-    (x ≤ s .p) × (length characters ≡ length characters₀) × (length sizes ≡ 16) × ((y : ℕ) → y < x → entry characters sizes y ≡ fixedAt (asked ticket s) labels model y)
+    (x ≤ s .p) × (length characters ≡ length characters₀) × (length sizes ≡ 16) × ((y : ℕ) → y < x → stringIn characters sizes y ≡ fixedAt (asked ticket s) labels model y)
 
 abbrev μ-loop : tie.MeasureT-loop
 μ-loop ticket model s labels characters₀ sizes₀ x₀ characters sizes x = s .p - x
@@ -73,7 +73,7 @@ loop-again c =
       omega arith,
       ap length p ∙ length-sets (l .characters) at v ∙ l .inv .1,
       simp length-set (l .inv .2),
-      λ y h. ap (λ (cs : List ℕ). entry cs (set (l .sizes) (l .x) (r .result)) y) p
+      λ y h. ap (λ (cs : List ℕ). stringIn cs (set (l .sizes) (l .x) (r .result)) y) p
           ∙ stored-passed (l .characters) (l .sizes) (l .x) (r .result) v (omega arith) (λ q. omega arith) (omega arith) (omega arith)
           (fixedAt (asked (now (s .ticket)) (s .s)) (s .labels) (now (s .model))) (l .inv .3) (r .ensures) y h,
     )

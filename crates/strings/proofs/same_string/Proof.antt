@@ -8,7 +8,7 @@ use mathlib.Core.Bool.{Bool, _&&_, and-assoc, and-true}
 use mathlib.Core.Path.{_∙_, _≡_, ap, refl, sym}
 use native.Mathlib.Omega.{arith}
 use Rattle.calculus.specs.Strings.{eqString}
-use Rattle.question.proofs.Loops.{same-apart}
+use Rattle.question.proofs.Loops.{same-differs}
 use Rattle.strings.proofs.Words.{same-done, same-lengths, same-more}
 use Rattle.strings.proofs.same_string.Statement.{statement}
 use Rattle.strings.proofs.same_string.Tie as tie
@@ -45,7 +45,7 @@ shared-slice-read-if3-2 c = search needs
 returns-3 : tie.Need-returns-3 Inv-loop μ-loop
 returns-3 c =
     let s = c .before .before .before .before .before .args in
-    sym (same-apart (now (s .s)) (now (s .t)) (length (now (s .s)) - 1) (c .if3 .taken))
+    sym (same-differs (now (s .s)) (now (s .t)) (length (now (s .s)) - 1) (c .if3 .taken))
 
 loop-holds : tie.Need-loop-holds Inv-loop μ-loop
 loop-holds c = (omega arith, refl)
