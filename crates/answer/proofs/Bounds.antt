@@ -1,7 +1,7 @@
 -- The columns' values of an answer of its form and in its ranges lie within ±100,000,000.
 use Prim.Native.Nat.{ℕ, zero, suc, _+_, _*_, _/_, _%_, _≤_}
 use native.Mathlib.Omega.{arith}
-use mathlib.Core.Path.{_≡_, refl, sym, _∙_, ap}
+use mathlib.Core.Path.{_≡_, refl, _∙_, ap}
 use mathlib.Core.Bool.{Bool, true, false, _&&_}
 use mathlib.Core.Option.{Option, none, some}
 use mathlib.Core.List.{List, [], _∷_, _++_, map}
@@ -11,18 +11,17 @@ use lib.IntN.{pos, natAbs}
 use borrow.Author.Tests.{leb-true, ltb-true}
 use Rattle.lists.specs.Lists.{All}
 use Rattle.lists.proofs.Lists.{all-append, all-getD}
+use Rattle.lists.proofs.Tests.{and-both}
 use Rattle.calculus.specs.Limits.{lengthLimit, valueLimit, alphabetLimit, Small}
 use Rattle.calculus.specs.Alphabet.{isCharacter, allCharacters}
 use Rattle.calculus.specs.Facts.{Question, valueOf, len, code, codeOf}
 use Rattle.format.specs.Fields.{allWithin}
 use Rattle.format.specs.Records.{size, kind, next, whole}
 use Rattle.format.specs.Places.{skip, textAt, texts}
-use Rattle.format.specs.Answer.{answerForm, integersAt, outside}
+use Rattle.format.specs.Answer.{stringForm, answerForm, integersAt, outside}
 use Rattle.format.proofs.Fields.{length-u32s}
-use Rattle.format.proofs.Faults.{and-true}
 use Rattle.format.proofs.Limits.{within→}
-use Rattle.answer.specs.Form.{stringForm, columnsAt}
-use Rattle.answer.proofs.Read.{form-split}
+use Rattle.answer.specs.Form.{columnsAt}
 
 -- ---- what is not outside
 
@@ -48,19 +47,19 @@ inside b u (suc p) r at e = go (allCharacters (u .n) (textAt b at)) refl e (λ f
 -- ---- the three stretches of columns
 
 small-lengths : (b : List ℕ) (q p at : ℕ) → answerForm b p q at ≡ true → All (Small valueLimit) (map (valueOf len) (texts b p at))
-unfolding texts
+unfolding answerForm texts
 small-lengths b q zero at e = tt
 small-lengths b q (suc p) at e =
-    let (h, f) = and-true (stringForm b at) (answerForm b p q (next b at)) (sym (form-split b q at p) ∙ e) in
-    let (w, h2) = and-true (whole b at) (eqb (kind b at) 9 && (eqb (size b at % 4) 0 && leb (size b at) (4 * lengthLimit))) h in
-    let (k, h3) = and-true (eqb (kind b at) 9) (eqb (size b at % 4) 0 && leb (size b at) (4 * lengthLimit)) h2 in
-    let short : size b at ≤ 4 * lengthLimit = leb-true (size b at) (4 * lengthLimit) (and-true (eqb (size b at % 4) 0) (leb (size b at) (4 * lengthLimit)) h3 .1) in
+    let (h, f) = and-both (stringForm b at) (answerForm b p q (next b at)) e in
+    let (w, h2) = and-both (whole b at) (eqb (kind b at) 9 && (eqb (size b at % 4) 0 && leb (size b at) (4 * lengthLimit))) h in
+    let (k, h3) = and-both (eqb (kind b at) 9) (eqb (size b at % 4) 0 && leb (size b at) (4 * lengthLimit)) h2 in
+    let short : size b at ≤ 4 * lengthLimit = leb-true (size b at) (4 * lengthLimit) (and-both (eqb (size b at % 4) 0) (leb (size b at) (4 * lengthLimit)) h3 .1) in
     (omega (arith, length-u32s b (at + 6) (size b at / 4)), small-lengths b q p (next b at) f)
 
 small-code : (n : ℕ) (s : List ℕ) → n ≤ alphabetLimit → allCharacters n s ≡ true → Small valueLimit (codeOf s)
 unfolding allCharacters
 small-code n [] h e = omega arith
-small-code n (c ∷ []) h e = let t = ltb-true c n (and-true (isCharacter n c) true e .0) in omega arith
+small-code n (c ∷ []) h e = let t = ltb-true c n (and-both (isCharacter n c) true e .0) in omega arith
 small-code n (c ∷ d ∷ s) h e = omega arith
 
 small-codes : (n : ℕ) (ss : List (List ℕ)) → n ≤ alphabetLimit → All (λ s. allCharacters n s ≡ true) ss → All (Small valueLimit) (map (valueOf code) ss)

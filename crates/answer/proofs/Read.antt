@@ -1,7 +1,7 @@
 -- The answer's records, one after another: what each test says of the form and the ranges.
 use Prim.Native.Nat.{ℕ, zero, suc, _+_, _*_, _-_, _%_, _≤_, _<_}
 use native.Mathlib.Omega.{arith}
-use mathlib.Core.Path.{_≡_, refl, sym, _∙_, ap}
+use mathlib.Core.Path.{_≡_, sym, _∙_, ap}
 use mathlib.Core.Bool.{Bool, true, false, _&&_}
 use mathlib.Core.Option.{Option, none, some}
 use mathlib.Core.List.{List}
@@ -10,20 +10,20 @@ use lib.Seq.{getD-set-same, getD-set-other}
 use native.Mathlib.Decide.{decLt}
 use lib.Dec.{leb, eqb}
 use borrow.Author.Tests.{leb-true, eqb-true, le-leb, lt-leb}
+use Rattle.lists.proofs.Every.{along-done, along-fails, along-on}
+use Rattle.lists.proofs.Lists.{down}
+use Rattle.lists.proofs.Tests.{and-both}
 use Rattle.calculus.specs.Limits.{lengthLimit, valueLimit}
 use Rattle.calculus.specs.Alphabet.{allCharacters}
 use Rattle.calculus.specs.Facts.{Question}
 use Rattle.format.specs.Fields.{i32, i32s, within, allWithin}
 use Rattle.format.specs.Records.{size, kind, next, whole}
 use Rattle.format.specs.Places.{skip, textAt}
-use Rattle.format.specs.Answer.{answerForm, integersAt, outside}
-use Rattle.format.proofs.Faults.{and-true}
+use Rattle.format.specs.Answer.{recordIs, stringForm, answerForm, integersAt, outside}
 use Rattle.format.proofs.Places.{skip-room}
-use Rattle.format.proofs.Fields.{down}
 use Rattle.records.specs.declared.Found.the-variants.{Whole, Cut, Nothing}
 use Rattle.records.specs.Found.{foundAt}
 use Rattle.records.proofs.Finding.{found-nothing, found-cut, found-whole}
-use Rattle.answer.specs.Form.{recordIs, stringForm}
 
 -- ---- what was found at a position
 
@@ -39,71 +39,51 @@ module _ (b : List ℕ) (at : ℕ) where
 
 -- ---- the form, record by record
 
-joined : (a b c d : Bool) → (a && (b && (c && d))) ≡ ((a && (b && c)) && d)
-joined true true c d = refl
-joined true false c d = refl
-joined false b c d = refl
-
-regrouped : (a b c d e : Bool) → (a && (b && (c && (d && e)))) ≡ ((a && (b && (c && d))) && e)
-regrouped true b c d e = joined b c d e
-regrouped false b c d e = refl
-
 module _ (b : List ℕ) (q at : ℕ) where
-  pub form-split : (p : ℕ) → answerForm b (suc p) q at ≡ (stringForm b at && answerForm b p q (next b at))
-  unfolding answerForm
-  form-split p = regrouped (whole b at) (eqb (kind b at) 9) (eqb (size b at % 4) 0) (leb (size b at) (4 * lengthLimit)) (answerForm b p q (next b at))
-
   pub form-yes : (p : ℕ) → 0 < p → stringForm b at ≡ true → answerForm b p q at ≡ answerForm b (p - 1) q (next b at)
+  unfolding answerForm
   form-yes zero h e = absurd (omega arith)
-  form-yes (suc p) h e = form-split p ∙ rw (e, down p)
+  form-yes (suc p) h e = rw (e, down p)
 
   pub form-no : (p : ℕ) → 0 < p → stringForm b at ≡ false → answerForm b p q at ≡ false
-  form-no zero h e = absurd (omega arith)
-  form-no (suc p) h e = form-split p ∙ rw e
-
-  pub tail-split : answerForm b 0 q at ≡ (recordIs b at 10 (4 * q) && (recordIs b (next b at) 8 0 && eqb (next b (next b at)) (length b)))
   unfolding answerForm
-  tail-split =
-      let n : ℕ = next b at in
-      joined (whole b at) (eqb (kind b at) 10) (eqb (size b at) (4 * q)) (whole b n && (eqb (kind b n) 8 && (eqb (size b n) 0 && eqb (next b n) (length b))))
-      ∙ ap (λ (t : Bool). recordIs b at 10 (4 * q) && t) (joined (whole b n) (eqb (kind b n) 8) (eqb (size b n) 0) (eqb (next b n) (length b)))
+  form-no zero h e = absurd (omega arith)
+  form-no (suc p) h e = rw e
 
 -- a record that passed its test is whole and of its size
 pub record-there : (b : List ℕ) (at k m : ℕ) → recordIs b at k m ≡ true → (next b at ≤ length b) × (size b at ≡ m)
 record-there b at k m e =
-    let (w, t) = and-true (whole b at) (eqb (kind b at) k && eqb (size b at) m) e in
-    (leb-true (next b at) (length b) w, eqb-true (size b at) m (and-true (eqb (kind b at) k) (eqb (size b at) m) t .1))
+    let (w, t) = and-both (whole b at) (eqb (kind b at) k && eqb (size b at) m) e in
+    (leb-true (next b at) (length b) w, eqb-true (size b at) m (and-both (eqb (kind b at) k) (eqb (size b at) m) t .1))
 
 pub string-there : (b : List ℕ) (at : ℕ) → stringForm b at ≡ true → next b at ≤ length b
-string-there b at e = leb-true (next b at) (length b) (and-true (whole b at) (eqb (kind b at) 9 && (eqb (size b at % 4) 0 && leb (size b at) (4 * lengthLimit))) e .0)
+string-there b at e = leb-true (next b at) (length b) (and-both (whole b at) (eqb (kind b at) 9 && (eqb (size b at % 4) 0 && leb (size b at) (4 * lengthLimit))) e .0)
 
 -- ---- where the records of a formed answer stand
 
 pub form-tail : (b : List ℕ) (q p at : ℕ) → answerForm b p q at ≡ true → answerForm b 0 q (skip b p at) ≡ true
-unfolding skip
+unfolding answerForm skip
 form-tail b q zero at e = e
-form-tail b q (suc p) at e = form-tail b q p (next b at) (and-true (stringForm b at) (answerForm b p q (next b at)) (sym (form-split b q at p) ∙ e) .1)
+form-tail b q (suc p) at e = form-tail b q p (next b at) (and-both (stringForm b at) (answerForm b p q (next b at)) e .1)
 
 pub tail-there : (b : List ℕ) (q at : ℕ) → answerForm b 0 q at ≡ true → (next b at ≤ length b) × (size b at ≡ 4 * q)
-tail-there b q at e = record-there b at 10 (4 * q) (and-true (recordIs b at 10 (4 * q)) (recordIs b (next b at) 8 0 && eqb (next b (next b at)) (length b)) (sym (tail-split b q at) ∙ e) .0)
+unfolding answerForm
+tail-there b q at e = record-there b at 10 (4 * q) (and-both (recordIs b at 10 (4 * q)) (recordIs b (next b at) 8 0 && eqb (next b (next b at)) (length b)) e .0)
 
 -- ---- the ranges, record by record
 
 module _ (b : List ℕ) (at : ℕ) where
   pub within-done : (k : ℕ) → k ≤ 0 → allWithin valueLimit (i32s b at k) ≡ true
   unfolding allWithin i32s
-  within-done zero h = refl
-  within-done (suc k) h = absurd (omega arith)
+  within-done k h = along-done (within valueLimit) (λ i. i + 4) (i32 b) at k h
 
   pub within-yes : (k : ℕ) → 0 < k → within valueLimit (i32 b at) ≡ true → allWithin valueLimit (i32s b at k) ≡ allWithin valueLimit (i32s b (at + 4) (k - 1))
   unfolding allWithin i32s
-  within-yes zero h e = absurd (omega arith)
-  within-yes (suc k) h e = rw (e, down k)
+  within-yes k h e = along-on (within valueLimit) (λ i. i + 4) (i32 b) at k h e
 
   pub within-no : (k : ℕ) → 0 < k → within valueLimit (i32 b at) ≡ false → allWithin valueLimit (i32s b at k) ≡ false
   unfolding allWithin i32s
-  within-no zero h e = absurd (omega arith)
-  within-no (suc k) h e = rw e
+  within-no k h e = along-fails (within valueLimit) (λ i. i + 4) (i32 b) at k h e
 
 module _ (b : List ℕ) (u : Question) (r at : ℕ) where
   abbrev byStrings : ℕ → Bool → Option ℕ

@@ -6,6 +6,7 @@ use mathlib.Core.Path.{_≡_, refl, _∙_, ap}
 use mathlib.Core.List.{List, _∷_}
 use lib.ListN.{length, getD, set}
 use lib.Seq.{getD-set-same, getD-set-other}
+use Rattle.lists.proofs.Lists.{down}
 use Rattle.branch.specs.declared.Split.{Split}
 use Rattle.branch.specs.declared.Branch.{Branch}
 use Rattle.branch.specs.Stack.{noSplit, lastFirst, stack}
@@ -25,7 +26,7 @@ stack-push n l s h = rw (add-one, getD-set-same l n s noSplit h, stack-set n l n
 pub stack-top : (n : ℕ) (l : List Split) → 0 < n → lastFirst n l ≡ getD l (n - 1) noSplit ∷ lastFirst (n - 1) l
 unfolding lastFirst
 stack-top zero l h = absurd (omega arith)
-stack-top (suc n) l h = let e : suc n - 1 ≡ n = omega arith in rw e
+stack-top (suc n) l h = rw (down n)
 
 -- the top replaced
 pub stack-replace : (n : ℕ) (l : List Split) (s : Split) → 0 < n → n - 1 < length l → lastFirst n (set l (n - 1) s) ≡ s ∷ lastFirst (n - 1) l

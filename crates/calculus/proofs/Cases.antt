@@ -1,4 +1,4 @@
--- Small cases, computed: rounding, multipliers, Card's bound, classes through literals, different variables, S-Conf, and the facts that a sibling starts with.
+-- Small cases, computed: multipliers, Card's bound, classes through literals, different variables, S-Conf, and the facts that a sibling starts with.
 use mathlib.Core.Path.{_≡_, refl}
 use mathlib.Core.Logic.{inl, inr}
 use mathlib.Core.Option.{none, some}
@@ -8,17 +8,12 @@ use Rattle.calculus.specs.LinearForms.{zeros}
 use Rattle.calculus.specs.Facts.{Question, same, notSame, isLiteral, arithmetic, ge}
 use Rattle.calculus.specs.Chains.{here, along, back, OneClass}
 use Rattle.calculus.specs.Steps.{Sum, SConf, CInj}
-use Rattle.calculus.specs.Children.{one}
 use Rattle.calculus.specs.Rules.{leastPower, children}
 use Rattle.calculus.specs.Walk.{working, enter}
 
 -- one integer variable a, two string variables, 2a − 1 ≥ 0
 abbrev small : Question
 small = record { n = 2; p = 2; q = 1; literals = []; constraints = arithmetic ge (negsuc 0 ∷ pos 2 ∷ zeros 47) ∷ [] }
-
--- "2a−1 ≥ 0 over divisor 2 is a−1 ≥ 0"
-rounds-down : children small (small .constraints) (Sum 2 ((0, pos 1) ∷ [])) ≡ some (one (arithmetic ge (negsuc 0 ∷ pos 1 ∷ zeros 47)))
-rounds-down = refl
 
 negative-multiplier : children small (small .constraints) (Sum 1 ((0, negsuc 0) ∷ [])) ≡ none
 negative-multiplier = refl

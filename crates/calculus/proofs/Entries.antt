@@ -9,11 +9,12 @@ use lib.ListN.{length, length-append, length-replicate}
 use lib.Dec.{T, leb, leb→le, le→leb}
 use lib.IntN.{ℤ, pos, negsuc, one, _+ℤ_, _*ℤ_, +ℤ-idl, +ℤ-idr, zero-*ℤ, *ℤ-zero, *ℤ-one}
 use lib.Signed.{_≤ℤ_, _<ℤ_}
-use Rattle.integers.proofs.Laws.{floorZ, floor-low, floor-high, floor-unique, floor-multiple}
+use Rattle.integers.specs.Division.{floorDiv}
+use Rattle.integers.proofs.Laws.{floor-low, floor-high, floor-unique, floor-multiple}
 use Rattle.lists.proofs.Options.{none-some}
 use Rattle.lists.proofs.Tests.{and→, →and}
 use Rattle.calculus.specs.Limits.{columnLimit}
-use Rattle.calculus.specs.LinearForms.{plus, scale, zeros, number, column, minus, above, below, isZero, eqIntegers, allZero, floorDiv, floorDivAll, dot}
+use Rattle.calculus.specs.LinearForms.{plus, scale, zeros, number, column, minus, above, below, isZero, eqIntegers, allZero, floorDivAll, dot}
 use Rattle.calculus.specs.Rules.{divided}
 use Rattle.calculus.specs.Instances.{entry, total}
 use Rattle.calculus.proofs.Tests.{guard→, →guard}
@@ -126,10 +127,6 @@ whole-below a h = whole-above (scale (negsuc 0) a) (whole-scale (negsuc 0) a h)
 
 -- ---- division: "Column sums must divide exactly; the constant is divided rounding down"
 
-pub floor-same : (z : ℤ) (d : ℕ) → floorDiv z d ≡ floorZ z d
-floor-same (pos a) d = refl
-floor-same (negsuc a) d = refl
-
 pub length-floorDivAll : (a : List ℤ) (d : ℕ) → length (floorDivAll a d) ≡ length a
 length-floorDivAll [] d = refl
 length-floorDivAll (x ∷ a) d = ap suc (length-floorDivAll a d)
@@ -138,7 +135,7 @@ div-entries : (a q : List ℤ) (d : ℕ) → 1 ≤ d → length a ≡ length q �
 div-entries [] [] d h l e = refl
 div-entries [] (y ∷ q) d h l e = absurd (omega arith)
 div-entries (x ∷ a) [] d h l e = absurd (omega arith)
-div-entries (x ∷ a) (y ∷ q) d h l e = ap₂ _∷_ (ap (λ z. floorDiv z d) (sym (e 0)) ∙ floor-same (pos d *ℤ y) d ∙ floor-multiple y d h) (div-entries a q d h (omega arith) (λ j. e (suc j)))
+div-entries (x ∷ a) (y ∷ q) d h l e = ap₂ _∷_ (ap (λ z. floorDiv z d) (sym (e 0)) ∙ floor-multiple y d h) (div-entries a q d h (omega arith) (λ j. e (suc j)))
 
 -- the row r divided by d is e, in words
 pub record Divided (d : ℕ) (r e : List ℤ) : Type 0 where
@@ -156,8 +153,8 @@ divided→ d (c ∷ cs) e h =
     subst (Divided d (c ∷ cs)) g (record {
       size = ap suc (length-floorDivAll cs d);
       columns = λ j. sym (entry-scale (pos d) (floorDivAll cs d) j) ∙ ap (λ a. entry a j) exact;
-      floor-low = subst (λ k. (pos d *ℤ k) ≤ℤ c) (sym (floor-same c d)) (floor-low c d (leb→le 1 d s));
-      floor-high = subst (λ k. c <ℤ (pos d *ℤ (k +ℤ pos 1))) (sym (floor-same c d)) (floor-high c d (leb→le 1 d s));
+      floor-low = floor-low c d (leb→le 1 d s);
+      floor-high = floor-high c d (leb→le 1 d s);
     })
 
 pub →divided : (d : ℕ) (r e : List ℤ) → 1 ≤ d → 1 ≤ length r → Divided d r e → divided d r ≡ some e
@@ -166,6 +163,6 @@ pub →divided : (d : ℕ) (r e : List ℤ) → 1 ≤ d → 1 ≤ length r → D
 →divided d (c ∷ cs) (k ∷ ks) h l w =
     let s : suc (length ks) ≡ suc (length cs) = w .size in
     let q : floorDivAll cs d ≡ ks = div-entries cs ks d h (omega arith) (w .columns) in
-    let f : floorDiv c d ≡ k = floor-same c d ∙ floor-unique c d k h (w .floor-low) (w .floor-high) in
+    let f : floorDiv c d ≡ k = floor-unique c d k h (w .floor-low) (w .floor-high) in
     let exact : scale (pos d) (floorDivAll cs d) ≡ cs = ap (scale (pos d)) q ∙ by-entries (scale (pos d) ks) cs (length-scale (pos d) ks ∙ omega arith) (λ j. entry-scale (pos d) ks j ∙ w .columns j) in
     →guard (leb 1 d && eqIntegers (scale (pos d) (floorDivAll cs d)) cs) (→and (leb 1 d) (eqIntegers (scale (pos d) (floorDivAll cs d)) cs) (le→leb 1 d h) (→eqIntegers exact)) (ap₂ _∷_ f q)

@@ -1,13 +1,12 @@
 -- Walking by what checking computes: the steps of claim 1 fit one after another and close every branch exactly when they are one closed tree; the children of claim 2 are taken exactly when the path is proper.
 use Prim.Native.Nat.{ℕ, zero, suc, _-_}
-use native.Mathlib.Omega.{arith}
 use mathlib.Core.Path.{_≡_, refl, sym, _∙_, ap, subst}
 use mathlib.Core.Option.{Option, some}
 use mathlib.Core.List.{List, [], _∷_, _++_, append-nil, append-assoc}
 use lib.ListN.{getElem?}
 use Rattle.lists.specs.Lists.{All}
 use Rattle.lists.proofs.Options.{none-some}
-use Rattle.lists.proofs.Lists.{all-append, all-left, all-right, all-at}
+use Rattle.lists.proofs.Lists.{all-append, all-left, all-right, all-at, down}
 use Rattle.calculus.specs.Facts.{Question, Fact, Branch}
 use Rattle.calculus.specs.Steps.{Step}
 use Rattle.calculus.specs.Children.{childAt}
@@ -143,7 +142,7 @@ childTaken u b t = then (children u b (t .0)) (λ cs. childAt cs (t .1))
 
 pub child-at : {A : Type 0} (cs : List A) (k : ℕ) {c : A} → childAt cs k ≡ some c → getElem? cs (k - 1) ≡ some c
 child-at cs zero e = absurd (none-some e)
-child-at cs (suc k) e = let down : suc k - 1 ≡ k = omega arith in rw down e
+child-at cs (suc k) e = rw (down k) e
 
 -- the steps fit one after another, and with the children taken the branch becomes the leaf
 unfoldable pub Followed : Question → Branch → List (Step × ℕ) → Branch → Type 0

@@ -1,10 +1,11 @@
 -- Forms: an integer form is a list, the constant first, then a coefficient for each of the 48 columns.
-use Prim.Native.Nat.{ℕ, zero, suc, _-_, _/_}
+use Prim.Native.Nat.{ℕ, zero, suc, _-_}
 use mathlib.Core.Bool.{Bool, true, false}
 use mathlib.Core.List.{List, [], _∷_, _++_}
 use lib.ListN.{replicate}
 use lib.Dec.{eqb}
 use lib.IntN.{ℤ, pos, negsuc, _+ℤ_, _*ℤ_}
+use Rattle.integers.specs.Division.{floorDiv}
 use Rattle.lists.specs.Lists.{all, eqList}
 use Rattle.calculus.specs.Limits.{columnLimit}
 
@@ -56,11 +57,7 @@ eqIntegers a b = eqList eqℤ a b
 abbrev pub allZero : List ℤ → Bool
 allZero a = all isZero a
 
--- division by d, rounding down
-abbrev pub floorDiv : ℤ → ℕ → ℤ
-floorDiv (pos a) d = pos (a / d)
-floorDiv (negsuc a) d = negsuc (a / d)
-
+-- each number divided by d, rounding down
 abbrev pub floorDivAll : List ℤ → ℕ → List ℤ
 floorDivAll [] d = []
 floorDivAll (x ∷ a) d = floorDiv x d ∷ floorDivAll a d

@@ -7,9 +7,10 @@ use lib.ListN.{length, getElem?}
 use lib.Dec.{leb, eqb}
 use lib.IntN.{ℤ, pos, negsuc}
 use lib.Signed.{nonNeg}
+use Rattle.integers.specs.Division.{floorDiv}
 use Rattle.lists.specs.Lists.{any}
 use Rattle.calculus.specs.Alphabet.{characterCount}
-use Rattle.calculus.specs.LinearForms.{plus, scale, minus, isZero, eqIntegers, allZero, floorDiv, floorDivAll, column}
+use Rattle.calculus.specs.LinearForms.{plus, scale, minus, isZero, eqIntegers, allZero, floorDivAll, column}
 use Rattle.calculus.specs.Facts.{holds, Fact, Branch, Question, ge, eq, ne, same, notSame, isLiteral, arithmetic, len, code, columnOf, Function}
 use Rattle.calculus.specs.Chains.{varNode}
 use Rattle.calculus.specs.Classes.{labels, sameClass, classLiteral, conflict}

@@ -8,6 +8,7 @@ use mathlib.Core.List.{List, []}
 use lib.ListN.{length}
 use lib.Dec.{leb}
 use borrow.Author.Tests.{leb-true, leb-false, eqb-true, eq-eqb, ne-eqb}
+use Rattle.lists.proofs.Tests.{and-both}
 use Rattle.calculus.specs.Limits.{ticketBytes}
 use Rattle.calculus.specs.Facts.{Fact, Branch}
 use Rattle.calculus.specs.Walk.{working}
@@ -16,7 +17,7 @@ use Rattle.format.specs.Question as format
 use Rattle.format.specs.Question.{questionFault, unread, ending, readOn, question, questionAdvanced}
 use Rattle.format.specs.Reading.{State, proving, taking, Ticket, claimFault, claimAt, begin, readClaim, stepsOn}
 use Rattle.format.specs.Checking.{checker}
-use Rattle.format.proofs.Faults.{none-applies, and-true, clash}
+use Rattle.format.proofs.Faults.{none-applies, clash}
 use Rattle.format.proofs.Turns.{read-none, read-ended, read-stopped, read-more, read-begin}
 use Rattle.format.proofs.StepTurns.{claim-clean}
 use Rattle.question.specs.declared.Progress.{Progress}
@@ -78,7 +79,7 @@ claim-good b s at e =
     let (sized, e6) = none-applies 4 _ _ e5 in
     record {
       whole = leb-true _ _ whole;
-      head = leb-true 1 (s .last) (and-true _ _ placed .0);
+      head = leb-true 1 (s .last) (and-both _ _ placed .0);
       two = eqb-true _ _ sized;
     }
 

@@ -13,23 +13,17 @@ use lib.ListN.{length, getD}
 use lib.IntN.{ℤ, pos}
 use Rattle.lists.specs.Lists.{anyBelow}
 use Rattle.lists.proofs.Options.{some-injective, none-some}
+use Rattle.lists.proofs.Lists.{down}
 use Rattle.calculus.specs.Facts.{Fact, Branch, same, notSame, isLiteral, arithmetic}
 use Rattle.calculus.specs.Chains.{varNode, litNode}
 use Rattle.calculus.specs.Classes.{upFrom, relabel, mergeNodes, mergeFact, labelsFrom, labels, sameClass, lowestLiteral, sidesMeet}
 use Rattle.calculus.specs.Rules.{leastPower}
 use Rattle.calculus.specs.SaturationTest.{lowestFrom}
-use Rattle.format.proofs.Fields.{down}
 use Rattle.rows.specs.Rows.{index, factOf}
 use Rattle.rows.specs.Work.{tagOf}
 use Rattle.rows.proofs.Tags.{row-string}
 
 -- ---- labels
-
--- an element that is there does not depend on the default
-pub getD-any : {A : Type 0} (l : List A) (i : ℕ) (d e : A) → i < length l → getD l i d ≡ getD l i e
-getD-any [] i d e h = absurd (omega arith)
-getD-any (x ∷ l) zero d e h = refl
-getD-any (x ∷ l) (suc i) d e h = getD-any l i d e (omega arith)
 
 pub getD-relabel : (old new : ℕ) (ls : List ℕ) (i d : ℕ) → i < length ls → getD (relabel old new ls) i d ≡ cond (eqb (getD ls i d) old) new (getD ls i d)
 getD-relabel old new [] i d h = absurd (omega arith)
@@ -56,13 +50,10 @@ module _ (ls : List ℕ) (x k : ℕ) where
 
   pub lowest-no : (m : ℕ) → 0 < m → sameClass ls (varNode x) (litNode k) ≡ false → lowestLiteral ls x k m ≡ lowestLiteral ls x (k + 1) (m - 1)
   lowest-no zero h e = absurd (omega arith)
-  lowest-no (suc m) h e = rw (e, lowestLiteral) (ap (λ (i : ℕ). lowestLiteral ls x i m) one ∙ ap (λ (i : ℕ). lowestLiteral ls x (k + 1) i) less)
+  lowest-no (suc m) h e = rw (e, lowestLiteral) (ap (λ (i : ℕ). lowestLiteral ls x i m) one ∙ ap (λ (i : ℕ). lowestLiteral ls x (k + 1) i) (sym (down m)))
     where
       one : suc k ≡ k + 1
       one = omega arith
-
-      less : m ≡ suc m - 1
-      less = omega arith
 
 from-below : (ls : List ℕ) (x m k l : ℕ) → lowestLiteral ls x k m ≡ some l → l < k + m
 from-below ls x zero k l e = absurd (none-some e)
@@ -89,13 +80,10 @@ module _ (ls : List ℕ) (x y : ℕ) where
 
   pub first-no : (d : ℕ) → 0 < d → sameClass ls (varNode x) (varNode y) ≡ false → lowestFrom d ls x y ≡ lowestFrom (d - 1) ls x (y + 1)
   first-no zero h e = absurd (omega arith)
-  first-no (suc m) h e = rw (e, lowestFrom) (ap (λ (i : ℕ). lowestFrom m ls x i) one ∙ ap (λ (i : ℕ). lowestFrom i ls x (y + 1)) less)
+  first-no (suc m) h e = rw (e, lowestFrom) (ap (λ (i : ℕ). lowestFrom m ls x i) one ∙ ap (λ (i : ℕ). lowestFrom i ls x (y + 1)) (sym (down m)))
     where
       one : suc y ≡ y + 1
       one = omega arith
-
-      less : m ≡ suc m - 1
-      less = omega arith
 
 -- ---- some number below a bound
 
@@ -124,13 +112,10 @@ module _ (n m k : ℕ) where
 
   pub least-power-no : (d : ℕ) → 0 < d → n ^ k < m → leastPower d n m k ≡ leastPower (d - 1) n m (k + 1)
   least-power-no zero h l = absurd (omega arith)
-  least-power-no (suc d) h l = rw (lt-leb m (n ^ k) l, leastPower) (ap (λ (i : ℕ). leastPower d n m i) one ∙ ap (λ (i : ℕ). leastPower i n m (k + 1)) less)
+  least-power-no (suc d) h l = rw (lt-leb m (n ^ k) l, leastPower) (ap (λ (i : ℕ). leastPower d n m i) one ∙ ap (λ (i : ℕ). leastPower i n m (k + 1)) (sym (down d)))
     where
       one : suc k ≡ k + 1
       one = omega arith
-
-      less : d ≡ suc d - 1
-      less = omega arith
 
 -- ---- ≉ facts
 

@@ -6,9 +6,9 @@ use mathlib.Core.List.{List, [], _∷_}
 use lib.IntN.{ℤ}
 use lib.Dec.{leb, eqb}
 use borrow.Author.Tests.{leb-true}
+use Rattle.lists.proofs.Tests.{and-both}
 use Rattle.format.specs.Fields.{u16, u32}
 use Rattle.format.specs.StepForms.{sum, formFor, fitsForm, sumPairs, multipliersWithin, operandsInRange}
-use Rattle.format.proofs.Faults.{and-true}
 use Rattle.format.proofs.Decoded.{below→}
 use Rattle.question.specs.declared.Progress.{Progress}
 use Rattle.steps.specs.Ready.{Ready}
@@ -25,12 +25,12 @@ pub record SumBody (b : List ℕ) (at m : ℕ) : Type 0 where
 pub sum-body : (b : List ℕ) (at m p c : ℕ) → fitsForm (formFor sum) m ≡ true → operandsInRange b p c sum at m ≡ true → SumBody b at m
 unfolding operandsInRange
 sum-body b at m p c f h =
-    let (long, strides) = and-true (leb 14 m) _ f in
-    let (least, rest) = and-true (leb 1 (u32 b (at + 4))) _ h in
-    let (most, all) = and-true (leb (u32 b (at + 4)) 2147483647) _ rest in
+    let (long, strides) = and-both (leb 14 m) _ f in
+    let (least, rest) = and-both (leb 1 (u32 b (at + 4))) _ h in
+    let (most, all) = and-both (leb (u32 b (at + 4)) 2147483647) _ rest in
     record {
       some-pair = leb-true 14 m long;
-      few-pairs = leb-true ((m - 14) / 6) 7 (and-true (eqb ((m - 14) % 6) 0) _ strides .1);
+      few-pairs = leb-true ((m - 14) / 6) 7 (and-both (eqb ((m - 14) % 6) 0) _ strides .1);
       some-divisor = leb-true 1 (u32 b (at + 4)) least;
       small-divisor = leb-true (u32 b (at + 4)) 2147483647 most;
       multipliers = all;
@@ -40,5 +40,5 @@ sum-body b at m p c f h =
 pub s-prop-variables : {b : List ℕ} {s : Progress} {at m : ℕ} {w : List ℤ} {count : ℕ} → Ready b s at m w count → 6 ≡ u16 b at → (u16 b (at + 6) < s .p) × (u16 b (at + 8) < s .p)
 unfolding operandsInRange
 s-prop-variables {b} {s} {at} h e =
-    let (x, (y, _)) = below→ (s .p) (u16 b (at + 6) ∷ u16 b (at + 8) ∷ []) (and-true (leb (u16 b (at + 4)) 1) _ (ranged h 6 e) .1) in
+    let (x, (y, _)) = below→ (s .p) (u16 b (at + 6) ∷ u16 b (at + 8) ∷ []) (and-both (leb (u16 b (at + 4)) 1) _ (ranged h 6 e) .1) in
     (x, y)

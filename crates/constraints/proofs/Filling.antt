@@ -9,11 +9,11 @@ use lib.ListN.{length, take, drop, set, length-set, take-append-drop}
 use lib.Seq.{take-set-le, drop-set-add}
 use lib.Dec.{leb, ltb}
 use lib.IntN.{ℤ}
+use Rattle.lists.proofs.Tests.{and-both}
 use Rattle.calculus.specs.Limits.{columnLimit}
 use Rattle.calculus.specs.LinearForms.{zeros}
 use Rattle.format.specs.Fields.{u16, i32, pairsAt}
 use Rattle.format.specs.Question.{coefficientInRange, pairInRange, rising, fillCoefficients}
-use Rattle.format.proofs.Faults.{and-true}
 use Rattle.format.proofs.Sums.{Ranged, ranged}
 use Rattle.format.proofs.Pairs.{next-pair, no-pair, all-pairs}
 
@@ -22,8 +22,8 @@ rising-low : (c low : ℕ) (ts : List (ℕ × ℤ)) → rising c low ts ≡ true
 unfolding rising
 rising-low c low [] e = refl
 rising-low c low (t ∷ ts) e =
-    let (p, q) = and-true (pairInRange c low t) (rising c (t .0 + 1) ts) e in
-    let (l, r) = and-true (leb low (t .0)) (ltb (t .0) c && coefficientInRange (t .1)) p in
+    let (p, q) = and-both (pairInRange c low t) (rising c (t .0 + 1) ts) e in
+    let (l, r) = and-both (leb low (t .0)) (ltb (t .0) c && coefficientInRange (t .1)) p in
     ap₂ _&&_ (ap₂ _&&_ (le-leb 0 (t .0) (omega arith)) r) q
 
 module _ (b : List ℕ) (at n : ℕ) (tag constant : ℤ) where

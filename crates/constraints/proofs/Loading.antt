@@ -3,6 +3,7 @@ use Prim.Native.Nat.{ℕ, zero, suc, _+_, _-_, _≤_, _<_}
 use native.Mathlib.Omega.{arith}
 use mathlib.Core.Path.{_≡_}
 use mathlib.Core.List.{List, [], _∷_, _++_, append-assoc, append-nil}
+use Rattle.lists.proofs.Lists.{down}
 use Rattle.calculus.specs.Facts.{Branch}
 use Rattle.format.specs.Records.{size, kind, next}
 use Rattle.format.specs.Question.{constraintOf}
@@ -12,7 +13,7 @@ pub loaded-more : (b : List ℕ) (at left : ℕ) (br : Branch) → 0 < left
     → (br ++ (constraintOf b (kind b at) (at + 6) (size b at) ∷ [])) ++ constraintsAt b (left - 1) (next b at) ≡ br ++ constraintsAt b left at
 unfolding constraintsAt
 loaded-more b at zero br h = absurd (omega arith)
-loaded-more b at (suc left) br h = let e : suc left - 1 ≡ left = omega arith in rw (append-assoc, e)
+loaded-more b at (suc left) br h = rw (append-assoc, down left)
 
 pub loaded-all : (b : List ℕ) (at left : ℕ) (br : Branch) → left ≤ 0 → br ++ constraintsAt b left at ≡ br
 unfolding constraintsAt

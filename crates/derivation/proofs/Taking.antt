@@ -11,6 +11,7 @@ use lib.Dec.{leb, ltb}
 use lib.IntN.{ℤ}
 use borrow.Author.Tests.{ltb-true, lt-leb}
 use Rattle.lists.proofs.Options.{some-none}
+use Rattle.lists.proofs.Tests.{and-both}
 use Rattle.calculus.specs.Limits.{pendingLimit}
 use Rattle.calculus.specs.Facts.{Question, Fact, Branch}
 use Rattle.calculus.specs.Steps.{shape}
@@ -18,7 +19,7 @@ use Rattle.calculus.proofs.Shapes.{children-shape}
 use Rattle.format.specs.Records.{size}
 use Rattle.format.specs.StepForms.{rule, lengthFits, stepAt}
 use Rattle.format.specs.Checking.{fits, orNone, childrenWithin, roomForAll, roomToPend, allTried, takenTried, childIn}
-use Rattle.format.proofs.Faults.{none-applies, and-true, not-both}
+use Rattle.format.proofs.Faults.{none-applies, not-both}
 use Rattle.rows.specs.Rows.{branchOf}
 use Rattle.rows.specs.Work.{Fine}
 use Rattle.steps.specs.Forms.{Formed}
@@ -81,7 +82,7 @@ module _ (b : List ℕ) (u : Question) (br : Branch) (at m pending : ℕ) (em : 
       let z : allTried br pending (some cs) ≡ 0 = ap (λ (o : Option (List (List Fact))). allTried br pending o) (sym q) ∙ e in
       let (within, later) = none-applies 8 (childrenWithin cs) _ z in
       let (rooms, _) = none-applies 9 _ 0 later in
-      let (room, pend) = and-true (roomForAll (length br) cs) (roomToPend pending cs) rooms in
+      let (room, pend) = and-both (roomForAll (length br) cs) (roomToPend pending cs) rooms in
       (within, room, pend)
 
   splits-by : (cs : List (List Fact)) → its ≡ some cs → Splits b u br at (length cs)

@@ -10,6 +10,7 @@ use lib.Dec.{eqb}
 use lib.IntN.{ℤ}
 use borrow.Author.Tests.{eqb-true}
 use Rattle.lists.specs.Lists.{All}
+use Rattle.lists.proofs.Tests.{and-both}
 use Rattle.calculus.specs.Facts.{Question, columnCount}
 use Rattle.calculus.specs.Steps.{Step}
 use Rattle.calculus.specs.Instances.{StepInRange}
@@ -20,7 +21,7 @@ use Rattle.format.specs.StepForms.{rule, childField, lengthFits, operand
 use Rattle.format.specs.Reading.{State, proving, taking, modelled, Method, stepFault, modelAt, modelFault, bodyFault, lastFault, fault, advanced, Ticket, Faulty, Done, readSteps}
 use Rattle.format.specs.ProperForm.{stepsAt}
 use Rattle.format.specs.Fields.{allWithin}
-use Rattle.format.proofs.Faults.{none-applies, passed, and-true}
+use Rattle.format.proofs.Faults.{none-applies, passed}
 use Rattle.format.proofs.Decoded.{step-in-range}
 
 -- ---- the forms of the records
@@ -176,7 +177,7 @@ module _ {B C : Type 0} (w : Method B C) (b : List ℕ) (u : Question) where
       let childFits : Bool = ok (stepAt b (at + 6) (size b at)) (childField b (at + 6)) in
       let a5 = none-applies 4 (lengthFits b (at + 6) (size b at)) (need 6 (inRange && childFits) later) e in
       let a6 = none-applies 5 (inRange && childFits) later (a5 .1) in
-      let a = and-true inRange childFits (a6 .0) in
+      let a = and-both inRange childFits (a6 .0) in
       (record { is-whole = h; is-step = eqb-true _ _ k; fits = a5 .0; operands = a .0; child-ok = a .1; holds = refl }, a6 .1)
 
   model→ : (at later : ℕ) → whole b at ≡ true → need 4 (eqb (kind b at) 7) (modelFault b u later (at + 6) (size b at)) ≡ 0 → ModelAt b u at (modelAt b u (at + 6)) × (later ≡ 0)

@@ -9,6 +9,7 @@ use lib.ListN.{length}
 use lib.Dec.{leb, eqb}
 use lib.IntN.{ℤ}
 use borrow.Author.Tests.{leb-true, le-leb}
+use Rattle.lists.proofs.Tests.{and-both}
 use Rattle.calculus.specs.Limits.{factLimit}
 use Rattle.calculus.specs.Facts.{Question}
 use Rattle.calculus.specs.Steps.{Step}
@@ -17,7 +18,7 @@ use Rattle.format.specs.Records.{size, kind, next, whole, records, need}
 use Rattle.format.specs.Question.{Reading, Stopped, Ended, question, questionForm, questionIn}
 use Rattle.format.specs.Reading.{State, proving, taking, Method, Done, readSteps, claimAt, claimFault, begin, readBehind}
 use Rattle.format.specs.ProperForm.{stepsAt, stepsBehind, stepsWithChild}
-use Rattle.format.proofs.Faults.{none-applies, and-true}
+use Rattle.format.proofs.Faults.{none-applies}
 use Rattle.format.proofs.StepTurns.{atClaim, claim-clean}
 use Rattle.format.proofs.Entries.{QuestionInRange}
 use Rattle.format.proofs.Asked.{headed-asked, asked-in-range, question→form, form→question}
@@ -55,7 +56,7 @@ claimed-steps {b} c = ap (stepsBehind b) (c .ended)
 claim-headed : (b : List ℕ) (last at later : ℕ) → need 3 (whole b at) (need 4 (leb 1 last && eqb (kind b at) 5) later) ≡ 0 → 1 ≤ last
 claim-headed b last at later e =
     let placed : Bool = leb 1 last && eqb (kind b at) 5 in
-    leb-true 1 last (and-true (leb 1 last) (eqb (kind b at) 5) (none-applies 3 placed later (none-applies 2 (whole b at) (need 4 placed later) e .1) .0) .0)
+    leb-true 1 last (and-both (leb 1 last) (eqb (kind b at) 5) (none-applies 3 placed later (none-applies 2 (whole b at) (need 4 placed later) e .1) .0) .0)
 
 -- the claim stands behind a head
 pub claimed-headed : {b : List ℕ} {g : Reading} {u : Question} (c : Claimed b g u) → 1 ≤ c .last

@@ -9,19 +9,20 @@ use lib.ListN.{length, length-append}
 use lib.Dec.{T-not, ltb, leb, eqb}
 use borrow.Author.Tests.{ltb-true, leb-true, eqb-true, eqb-false}
 use Rattle.lists.specs.Lists.{All, Distinct}
-use Rattle.lists.proofs.Tests.{true→}
+use Rattle.lists.proofs.Tests.{true→, and-both}
 use Rattle.lists.proofs.Lists.{all-map, all-append, In, distinct-snoc}
-use Rattle.calculus.specs.Limits.{alphabetLimit, variableLimit, literalLimit, lengthLimit}
+use Rattle.calculus.specs.Limits.{alphabetLimit, literalLimit, lengthLimit}
 use Rattle.calculus.specs.Alphabet.{Over, allCharacters}
 use Rattle.calculus.specs.Facts.{Question, Fact, same, notSame, isLiteral, arithmetic, columnCount}
 use Rattle.calculus.specs.Strings.{given}
 use Rattle.calculus.proofs.InRange.{HeadInRange, FactInRange, FactsInRange}
 use Rattle.calculus.proofs.Words.{over→, →given}
-use Rattle.format.specs.Fields.{u16, u32, u32s}
+use Rattle.format.specs.Fields.{u16, u32s}
 use Rattle.format.specs.Records.{size, kind, whole, need}
-use Rattle.format.specs.Question.{Progress, withLiteral, withFact, headRange, headFault, headOf, textOf, literalFault, stringRange, stringFact, stringFault, formOf, relationOf, arithmeticFault, inPlace, questionBodyFault, formFault, questionAdvanced}
-use Rattle.format.proofs.Faults.{none-applies, and-true}
+use Rattle.format.specs.Question.{Progress, withLiteral, withFact, headFault, headOf, textOf, literalFault, stringFact, stringFault, formOf, relationOf, arithmeticFault, inPlace, questionBodyFault, formFault, questionAdvanced}
+use Rattle.format.proofs.Faults.{none-applies}
 use Rattle.format.proofs.Fields.{length-u32s, length-form}
+use Rattle.format.proofs.RecordFaults.{head-formed, StringConstraint, string-constraint-formed}
 
 not-empty : (b : List ℕ) (at k : ℕ) → 1 ≤ k → [] ≢ u32s b at k
 not-empty b at k h e = omega (arith, ap length e, length-u32s b at k)
@@ -38,18 +39,15 @@ pub record QuestionInRange (u : Question) : Type 0 where
 
 head-in-range : (b : List ℕ) (at m : ℕ) → headFault b at m ≡ 0 → QuestionInRange (headOf b at)
 head-in-range b at m e =
-    let t6 = none-applies _ _ _ (none-applies 4 (eqb m 8) (need 6 (headRange b at) 0) e .1) .0 in
-    let (n, rest) = and-true (leb 1 (u32 b at)) (leb (u32 b at) alphabetLimit && (leb (u16 b (at + 4)) variableLimit && leb (u16 b (at + 6)) variableLimit)) t6 in
-    let (c, few) = and-true (leb (u32 b at) alphabetLimit) (leb (u16 b (at + 4)) variableLimit && leb (u16 b (at + 6)) variableLimit) rest in
-    let (p, q) = and-true (leb (u16 b (at + 4)) variableLimit) (leb (u16 b (at + 6)) variableLimit) few in
+    let h = head-formed b at m e in
     record {
       head = record {
-        alphabet = leb-true _ _ n;
-        strings = leb-true _ _ p;
-        integers = leb-true _ _ q;
+        alphabet = h .some-character;
+        strings = h .few-strings;
+        integers = h .few-integers;
         literals = omega arith;
       };
-      characters = leb-true _ _ c;
+      characters = h .few-characters;
       constraints = tt;
       literals-differ = (tt, tt);
       literals-over = tt;
@@ -68,7 +66,7 @@ literal-in-range b u at m d few e =
     let a5 = none-applies 4 (leb 4 m && (leb m (4 * lengthLimit) && eqb (m % 4) 0)) (need 6 (allCharacters (u .n) s) (need 7 (not (given s (u .literals))) 0)) e in
     let a6 = none-applies 5 (allCharacters (u .n) s) (need 7 (not (given s (u .literals))) 0) (a5 .1) in
     let a7 = none-applies 6 (not (given s (u .literals))) 0 (a6 .1) in
-    let four : 4 ≤ m = leb-true _ _ (and-true _ _ (a5 .0) .0) in
+    let four : 4 ≤ m = leb-true _ _ (and-both _ _ (a5 .0) .0) in
     let one : 1 ≤ m / 4 = omega arith in
     record {
       head = record {
@@ -108,11 +106,11 @@ fact-in-range u f d h = record {
   literals-over = d .literals-over;
 }
 
-string-in-range : (u : Question) (r x y : ℕ) → stringRange (u .p) (length (u .literals)) r x y ≡ true → FactInRange u (stringFact r x y)
-string-in-range u zero x y e = let (h, g) = and-true _ _ e in (ltb-true x (u .p) h, ltb-true y (u .p) g)
-string-in-range u (suc zero) x y e = let (h, g) = and-true _ _ e in (ltb-true x (u .p) h, ltb-true y (u .p) g)
-string-in-range u (suc (suc zero)) x y e = let (h, g) = and-true _ _ e in (ltb-true x (u .p) h, leb-true y (length (u .literals)) g)
-string-in-range u (suc (suc (suc r))) x y e = let g : suc (suc (suc r)) ≤ 2 = leb-true _ _ (and-true _ _ e .0) in absurd (omega arith)
+string-in-range : (u : Question) (m r x y : ℕ) → StringConstraint (u .p) (length (u .literals)) m r x y → FactInRange u (stringFact r x y)
+string-in-range u m zero x y c = (c .first, c .second (λ e. omega arith))
+string-in-range u m (suc zero) x y c = (c .first, c .second (λ e. omega arith))
+string-in-range u m (suc (suc zero)) x y c = (c .first, c .literal refl)
+string-in-range u m (suc (suc (suc r))) x y c = absurd (omega (arith, c .relation))
 
 -- ---- one record
 
@@ -135,9 +133,9 @@ module _ (b : List ℕ) (s : Progress) (at : ℕ) where
 
   behind : (y : Bool) → behindHead y ≡ true → (1 ≤ s .last) × (2 ≤ kind b at) × (few y ≡ true)
   behind y e =
-      let a1 = and-true (leb 1 (s .last)) (leb 2 (kind b at) && (leb (s .last) (kind b at) && (leb (kind b at) 4 && few y))) e in
-      let a2 = and-true (leb 2 (kind b at)) (leb (s .last) (kind b at) && (leb (kind b at) 4 && few y)) (a1 .1) in
-      let a4 = and-true (leb (kind b at) 4) (few y) (and-true (leb (s .last) (kind b at)) (leb (kind b at) 4 && few y) (a2 .1) .1) in
+      let a1 = and-both (leb 1 (s .last)) (leb 2 (kind b at) && (leb (s .last) (kind b at) && (leb (kind b at) 4 && few y))) e in
+      let a2 = and-both (leb 2 (kind b at)) (leb (s .last) (kind b at) && (leb (kind b at) 4 && few y)) (a1 .1) in
+      let a4 = and-both (leb (kind b at) 4) (few y) (and-both (leb (s .last) (kind b at)) (leb (kind b at) 4 && few y) (a2 .1) .1) in
       (leb-true 1 (s .last) (a1 .0), leb-true 2 (kind b at) (a2 .0), a4 .1)
 
   three : (y : Bool) → eqb (kind b at) 2 ≡ false → behindHead y ≡ true → (1 ≤ s .last) × (3 ≤ kind b at)
@@ -158,8 +156,8 @@ module _ (b : List ℕ) (s : Progress) (at : ℕ) where
   by-kind false false true p q t e =
       let (l, k) = three false q t in
       let f : Fact = stringFact (u16 b (at + 6)) (u16 b (at + 6 + 2)) (u16 b (at + 6 + 4)) in
-      let a5 = none-applies 4 (eqb (size b at) 6) (need 6 (stringRange (u .p) (length (u .literals)) (u16 b (at + 6)) (u16 b (at + 6 + 2)) (u16 b (at + 6 + 4))) 0) e in
-      constraint k l (more f) (λ d. fact-in-range u f d (string-in-range u (u16 b (at + 6)) (u16 b (at + 6 + 2)) (u16 b (at + 6 + 4)) (none-applies _ _ _ (a5 .1) .0)))
+      let c = string-constraint-formed b (u .p) (length (u .literals)) (at + 6) (size b at) e in
+      constraint k l (more f) (λ d. fact-in-range u f d (string-in-range u (size b at) (u16 b (at + 6)) (u16 b (at + 6 + 2)) (u16 b (at + 6 + 4)) c))
   by-kind false false false p q t e =
       let (l, k) = three false q t in
       let f : Fact = arithmetic (relationOf (u16 b (at + 6))) (formOf b (at + 6 + 2) (size b at / 6 - 1)) in

@@ -2,7 +2,7 @@
 use Prim.Native.Nat.{ℕ, suc}
 use native.Mathlib.Omega.{arith}
 use mathlib.Core.Path.{_≡_, refl, sym, _∙_, ap}
-use mathlib.Core.Bool.{Bool, true, false, _&&_, true≢false, false≢true}
+use mathlib.Core.Bool.{Bool, true, false, true≢false}
 use Rattle.format.specs.Records.{need}
 
 pub none-applies : (c : ℕ) (t : Bool) (later : ℕ) → need (suc c) t later ≡ 0 → (t ≡ true) × (later ≡ 0)
@@ -11,10 +11,6 @@ none-applies c false later e = absurd (omega arith)
 
 pub passed : (c : ℕ) (t : Bool) (later : ℕ) → t ≡ true → need c t later ≡ later
 passed c t later e = ap (λ x. need c x later) e
-
-pub and-true : (a b : Bool) → (a && b) ≡ true → (a ≡ true) × (b ≡ true)
-and-true true b e = (refl, e)
-and-true false b e = absurd (false≢true e)
 
 pub not-both : (b : Bool) → b ≡ true → b ≡ false → ⊥
 not-both b e f = true≢false (sym e ∙ f)

@@ -1,6 +1,5 @@
 -- The numbers of 32 bits, and the lengths of what is read: as many numbers as were asked for, and forms with a constant and 48 coefficients.
 use Prim.Native.Nat.{ℕ, suc, _+_, _-_, _≤_, _<_, _*_}
-use native.Mathlib.Omega.{arith}
 use mathlib.Core.Path.{_≡_, refl, _∙_, ap}
 use mathlib.Core.List.{List, [], _∷_}
 use lib.ListN.{length, set, length-set, getD}
@@ -19,10 +18,6 @@ signed-low v h = simp (lt-ltb v 2147483648 h)
 pub signed-high : (v : ℕ) → 2147483648 ≤ v → signed v ≡ negsuc (4294967295 - v)
 unfolding signed
 signed-high v h = simp (le-ltb v 2147483648 h)
-
--- one field fewer is left
-pub down : (k : ℕ) → suc k - 1 ≡ k
-down k = omega arith
 
 pub length-u16s : (b : List ℕ) (at k : ℕ) → length (u16s b at k) ≡ k
 unfolding u16s

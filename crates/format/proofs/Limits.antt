@@ -11,13 +11,14 @@ use lib.IntN.{ℤ, natAbs}
 use borrow.Author.Tests.{leb-true, ltb-true, le-leb, lt-ltb, leb-false}
 use Rattle.lists.proofs.Lists.{→all-true, all-true→}
 use Rattle.lists.specs.Lists.{All}
+use Rattle.lists.proofs.Tests.{and-both}
 use Rattle.calculus.specs.Limits.{Small, numberLimit, factLimit, pendingLimit}
 use Rattle.calculus.specs.Facts.{Fact, same, notSame, isLiteral, arithmetic, Branch}
 use Rattle.calculus.specs.Derivations.{SmallFact, ChildLimits, SplitLimits}
 use Rattle.format.specs.Records.{need}
 use Rattle.format.specs.Checking.{factWithin, factsWithin, childrenWithin, room, roomForAll, roomToPend, allTried, takenTried}
 use Rattle.format.specs.Fields.{allWithin, within}
-use Rattle.format.proofs.Faults.{none-applies, passed, and-true}
+use Rattle.format.proofs.Faults.{none-applies, passed}
 
 -- ---- where the limits hold, the tests are passed
 
@@ -81,8 +82,8 @@ children-limits→ : (b : Branch) (cs : List (List Fact)) → childrenWithin cs 
 unfolding childrenWithin roomForAll
 children-limits→ b [] s t = tt
 children-limits→ b (c ∷ cs) s t =
-    let (n, ns) = and-true (factsWithin c) (childrenWithin cs) s in
-    let (r, rs) = and-true (room (length b) c) (roomForAll (length b) cs) t in
+    let (n, ns) = and-both (factsWithin c) (childrenWithin cs) s in
+    let (r, rs) = and-both (room (length b) c) (roomForAll (length b) cs) t in
     (child-limits→ b c n r, children-limits→ b cs ns rs)
 
 room-to-pend→ : (k : ℕ) (cs : List (List Fact)) → roomToPend k cs ≡ true → 2 ≤ length cs → k < pendingLimit
@@ -95,7 +96,7 @@ room-to-pend→ k cs t h = go (leb (length cs) 1) refl t
 pub tried→limits : (b : Branch) (k : ℕ) (cs : List (List Fact)) → allTried b k (some cs) ≡ 0 → SplitLimits b k cs
 tried→limits b k cs e =
     let a9 = none-applies 8 (childrenWithin cs) (need 10 (roomForAll (length b) cs && roomToPend k cs) 0) e in
-    let (r, p) = and-true (roomForAll (length b) cs) (roomToPend k cs) (none-applies 9 (roomForAll (length b) cs && roomToPend k cs) 0 (a9 .1) .0) in
+    let (r, p) = and-both (roomForAll (length b) cs) (roomToPend k cs) (none-applies 9 (roomForAll (length b) cs && roomToPend k cs) 0 (a9 .1) .0) in
     record { children = children-limits→ b cs (a9 .0) r; splits = room-to-pend→ k cs p }
 
 pub taken→limits : (b : Branch) (c : List Fact) → takenTried b (some c) ≡ 0 → ChildLimits b c

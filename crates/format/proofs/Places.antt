@@ -7,7 +7,7 @@ use mathlib.Core.Bool.{false, cond}
 use mathlib.Core.List.{List, [], _∷_, _++_}
 use lib.ListN.{length, getD}
 use lib.Dec.{eqb}
-use Rattle.lists.proofs.Lists.{placeAfter-suc, length-valuesAlong, getD-valuesAlong, valuesAlong-snoc}
+use Rattle.lists.proofs.Lists.{placeAfter-suc, length-valuesAlong, getD-valuesAlong, valuesAlong-snoc, down}
 use Rattle.format.specs.Fields.{u16, u32}
 use Rattle.format.specs.Records.{size, kind, next}
 use Rattle.format.specs.Question.{Progress, withLiteral, withFact, headOf, textOf, constraintOf, extended, questionAdvanced}
@@ -28,7 +28,7 @@ skip-done b (suc k) at h = absurd (omega arith)
 pub skip-one : (b : List ℕ) (k at : ℕ) → 0 < k → skip b k at ≡ skip b (k - 1) (next b at)
 unfolding skip
 skip-one b zero at h = absurd (omega arith)
-skip-one b (suc k) at h = let e : suc k - 1 ≡ k = omega arith in rw e
+skip-one b (suc k) at h = rw (down k)
 
 pub skip-snoc : (b : List ℕ) (k at : ℕ) → skip b (suc k) at ≡ next b (skip b k at)
 unfolding skip

@@ -13,7 +13,7 @@ use borrow.Author.Tests.{leb-true, le-leb, eq-eqb}
 use lib.Dec.{leb}
 use Rattle.lists.specs.Lists.{All}
 use Rattle.lists.proofs.Lists.{getD-all}
-use Rattle.lists.proofs.Tests.{→true}
+use Rattle.lists.proofs.Tests.{→true, and-both}
 use Rattle.lists.proofs.Options.{none-some, some-injective}
 use Rattle.calculus.specs.Limits.{alphabetLimit, variableLimit, lengthLimit, valueLimit}
 use Rattle.calculus.specs.Alphabet.{Over, allCharacters}
@@ -27,7 +27,6 @@ use Rattle.format.specs.Places.{skip, textAt, texts}
 use Rattle.format.specs.Answer.{recordBytes, characterBytes, integerBytes, stringRecords, encode, answerForm, integersAt, assignmentOf, outside}
 use Rattle.format.specs.Judging.{Judging, Refused, Judged, judgeAnswer, judgeBehind, judging}
 use Rattle.format.specs.Demands.{TH-3-all}
-use Rattle.format.proofs.Faults.{and-true}
 use Rattle.format.proofs.Entries.{QuestionInRange}
 use Rattle.format.proofs.Encoded.{length-bytes, length-characters, length-integers, length-record}
 use Rattle.format.proofs.Fields.{signed-low, signed-high}
@@ -77,7 +76,7 @@ integers-back : (b : List ℕ) (at : ℕ) (zs : List ℤ) (rest : List ℕ) → 
 unfolding i32s integerBytes allWithin flatMap
 integers-back b at [] rest h e = refl
 integers-back b at (z ∷ zs) rest h e =
-    let (w, ws) = and-true (within valueLimit z) (allWithin valueLimit zs) h in
+    let (w, ws) = and-both (within valueLimit z) (allWithin valueLimit zs) h in
     let f : drop at b ≡ bytesOf 4 (unsigned z) ++ (integerBytes zs ++ rest) = e ∙ append-assoc (bytesOf 4 (unsigned z)) (integerBytes zs) rest in
     ap₂ _∷_ (ap signed (u32-back b at (unsigned z) (integerBytes zs ++ rest) (unsigned-small z w) f) ∙ signed-back z w)
     (integers-back b (at + 4) zs rest ws (behind b at 4 (bytesOf 4 (unsigned z)) (integerBytes zs ++ rest) (length-bytes 4 (unsigned z)) f))
@@ -136,9 +135,9 @@ module _ (b : List ℕ) (u : Question) (zs : List ℤ) (characters : u .n ≤ al
       let read : integersAt b (length zs) at ≡ zs = integers-back b (at + 6) zs (recordBytes 8 []) values (k .body-stands) in
       record {
         form =
-            ap₂ _&&_ (k .is-whole) (ap₂ _&&_ (eq-eqb (kind b at) 10 (k .is-kind)) (ap₂ _&&_ (eq-eqb (size b at) (4 * length zs) (k .is-size ∙ length-integers zs))
-            (ap₂ _&&_ (l .is-whole) (ap₂ _&&_ (eq-eqb (kind b (next b at)) 8 (l .is-kind)) (ap₂ _&&_ (eq-eqb (size b (next b at)) 0 (l .is-size))
-            (eq-eqb (next b (next b at)) (length b) (omega (arith, l .ends))))))));
+            ap₂ _&&_ (ap₂ _&&_ (k .is-whole) (ap₂ _&&_ (eq-eqb (kind b at) 10 (k .is-kind)) (eq-eqb (size b at) (4 * length zs) (k .is-size ∙ length-integers zs))))
+            (ap₂ _&&_ (ap₂ _&&_ (l .is-whole) (ap₂ _&&_ (eq-eqb (kind b (next b at)) 8 (l .is-kind)) (eq-eqb (size b (next b at)) 0 (l .is-size))))
+            (eq-eqb (next b (next b at)) (length b) (omega (arith, l .ends))));
         inside = ap (λ x. elim x as (λ _. Option ℕ) [ true ↦ none | false ↦ some r ]) (ap (λ q. allWithin valueLimit (integersAt b q at)) (sym count) ∙ ap (allWithin valueLimit) read ∙ values);
         strings = refl;
         integers = read;
@@ -157,8 +156,8 @@ module _ (b : List ℕ) (u : Question) (zs : List ℤ) (characters : u .n ≤ al
       let later = strings-back ss (suc r) (next b at) hs os (k .rest-stands) in
       record {
         form =
-            ap₂ _&&_ (k .is-whole) (ap₂ _&&_ (eq-eqb (kind b at) 9 (k .is-kind)) (ap₂ _&&_ (eq-eqb (size b at % 4) 0 (omega arith))
-            (ap₂ _&&_ (le-leb (size b at) (4 * lengthLimit) (omega arith)) (later .form))));
+            ap₂ _&&_ (ap₂ _&&_ (k .is-whole) (ap₂ _&&_ (eq-eqb (kind b at) 9 (k .is-kind)) (ap₂ _&&_ (eq-eqb (size b at % 4) 0 (omega arith))
+            (le-leb (size b at) (4 * lengthLimit) (omega arith))))) (later .form);
         inside = inside-more b u (length ss) r at over (later .inside);
         strings = ap₂ _∷_ read (later .strings);
         integers = later .integers;

@@ -9,14 +9,14 @@ use lib.Seq.{getD-set-other}
 use lib.Dec.{ltb, leb}
 use lib.IntN.{ℤ, pos, natAbs, _+ℤ_, _*ℤ_, +ℤ-idl, +ℤ-idr, +ℤ-assoc, *ℤ-zero, zero-*ℤ}
 use borrow.Author.Tests.{ltb-true, leb-true}
+use Rattle.lists.proofs.Lists.{down}
+use Rattle.lists.proofs.Tests.{and-both}
 use Rattle.integers.proofs.Ring.{v, _⊕_, ring}
 use Rattle.calculus.specs.Limits.{columnLimit, numberLimit}
 use Rattle.calculus.specs.LinearForms.{zeros, dot}
 use Rattle.calculus.proofs.LinearForms.{dot-number}
 use Rattle.format.specs.Fields.{u16, i32, pairsAt, within}
 use Rattle.format.specs.Question.{coefficientInRange, pairInRange, rising, formRange, fillCoefficients, formOf}
-use Rattle.format.proofs.Faults.{and-true}
-use Rattle.format.proofs.Fields.{down}
 
 -- over the values of the columns
 unfoldable pub pairSum : List ℤ → List (ℕ × ℤ) → ℤ
@@ -47,13 +47,13 @@ pub record Ranged (c low : ℕ) (t : ℕ × ℤ) (ts : List (ℕ × ℤ)) : Type
 pub ranged : (c low : ℕ) (t : ℕ × ℤ) (ts : List (ℕ × ℤ)) → rising c low (t ∷ ts) ≡ true → Ranged c low t ts
 unfolding rising
 ranged c low t ts e =
-    let (p, rest) = and-true (pairInRange c low t) (rising c (t .0 + 1) ts) e in
-    let (l, p') = and-true (leb low (t .0)) (ltb (t .0) c && coefficientInRange (t .1)) p in
-    let (h, k) = and-true (ltb (t .0) c) (coefficientInRange (t .1)) p' in
+    let (p, rest) = and-both (pairInRange c low t) (rising c (t .0 + 1) ts) e in
+    let (l, p') = and-both (leb low (t .0)) (ltb (t .0) c && coefficientInRange (t .1)) p in
+    let (h, k) = and-both (ltb (t .0) c) (coefficientInRange (t .1)) p' in
     record {
       low-enough = leb-true low (t .0) l;
       column = ltb-true (t .0) c h;
-      coefficient = leb-true (natAbs (t .1)) numberLimit (and-true (ltb 0 (natAbs (t .1))) (within numberLimit (t .1)) k .1);
+      coefficient = leb-true (natAbs (t .1)) numberLimit (and-both (ltb 0 (natAbs (t .1))) (within numberLimit (t .1)) k .1);
       rest = rest;
     }
 
@@ -80,7 +80,7 @@ pub form-value : (b : List ℕ) (c at count : ℕ) (vs : List ℤ) → c ≤ col
     → dot (formOf b at count) (pos 1 ∷ vs) ≡ i32 b at +ℤ pairSum vs (pairsAt b (at + 4) count)
 form-value b c at count vs h e =
     let ts = pairsAt b (at + 4) count in
-    let rises = and-true (within numberLimit (i32 b at)) (rising c 0 (pairsAt b (at + 4) count)) e .1 in
+    let rises = and-both (within numberLimit (i32 b at)) (rising c 0 (pairsAt b (at + 4) count)) e .1 in
     ap (λ (y : ℤ). (i32 b at *ℤ pos 1) +ℤ y) (dot-fill ts (zeros columnLimit) vs c 0 rises h (λ i g. zeros-at columnLimit i))
     ∙ sym (+ℤ-assoc (i32 b at *ℤ pos 1) (dot (zeros columnLimit) vs) (pairSum vs ts))
     ∙ ap (λ (y : ℤ). y +ℤ pairSum vs ts) (dot-number vs (i32 b at))

@@ -33,13 +33,18 @@ encode a = stringRecords (a .strs) ++ (recordBytes 10 (integerBytes (a .ints)) +
 
 -- ---- bytes as strings and integers
 
+-- a whole record of kind k and size m stands at a position
+abbrev pub recordIs : List ℕ → ℕ → ℕ → ℕ → Bool
+recordIs b at k m = whole b at && (eqb (kind b at) k && eqb (size b at) m)
+
+-- a string's record: "its characters, u32 each, 0 to 64"
+abbrev pub stringForm : List ℕ → ℕ → Bool
+stringForm b at = whole b at && (eqb (kind b at) 9 && (eqb (size b at % 4) 0 && leb (size b at) (4 * lengthLimit)))
+
 -- p records of strings from a position on, then one of q integers, then the end record, and nothing behind
 unfoldable pub answerForm : List ℕ → ℕ → ℕ → ℕ → Bool
-answerForm b zero q at =
-    whole b at && (eqb (kind b at) 10 && (eqb (size b at) (4 * q)
-    && (whole b (next b at) && (eqb (kind b (next b at)) 8 && (eqb (size b (next b at)) 0 && eqb (next b (next b at)) (length b))))))
-answerForm b (suc p) q at =
-    whole b at && (eqb (kind b at) 9 && (eqb (size b at % 4) 0 && (leb (size b at) (4 * lengthLimit) && answerForm b p q (next b at))))
+answerForm b zero q at = recordIs b at 10 (4 * q) && (recordIs b (next b at) 8 0 && eqb (next b (next b at)) (length b))
+answerForm b (suc p) q at = stringForm b at && answerForm b p q (next b at)
 
 abbrev pub integersAt : List ℕ → ℕ → ℕ → List ℤ
 integersAt b q at = i32s b (at + 6) q

@@ -8,6 +8,7 @@ use lib.IntN.{ℤ, pos, negsuc, negℤ, natAbs, _+ℤ_, _-ℤ_, _*ℤ_}
 use lib.Signed.{mag, _≤ℤ_, _<ℤ_, ≤ℤ-refl, yes-nonNeg, pos-natAbs}
 use mir.Syntax.{Width}
 use mir.Val.{SFits, hbits}
+use Rattle.integers.specs.Division.{floorDiv}
 use Rattle.integers.proofs.Ring.{up, dn, inj, up-le, up-lt, le-up, lt-up, up-neg, dn-neg, Expr, v, _⊕_, _⊖_, _⊗_, ⊝, ev, ups, dns, sound, ring, le-by, lt-by, le-of, lt-of, eq-of}
 
 -- ---- sums and products
@@ -162,23 +163,19 @@ sfits-abs z h = record { sfits = lt-of-le-of-lt (mag-abs z) h }
 
 -- ---- division by a natural d, rounding down: the greatest q with d q ≤ z
 
-abbrev pub floorZ : ℤ → ℕ → ℤ
-floorZ (pos a) d = pos (a / d)
-floorZ (negsuc a) d = negsuc (a / d)
-
-pub floor-low : (z : ℤ) (d : ℕ) → 0 < d → (pos d *ℤ floorZ z d) ≤ℤ z
+pub floor-low : (z : ℤ) (d : ℕ) → 0 < d → (pos d *ℤ floorDiv z d) ≤ℤ z
 floor-low (pos a) d h = le-by (v (pos d) ⊗ v (pos (a / d))) (v (pos a)) (omega (arith, div-add-mod a d))
 floor-low (negsuc a) d h = le-by (v (pos d) ⊗ v (negsuc (a / d))) (v (negsuc a)) (omega (arith, div-add-mod a d, mod-lt a h))
 
-pub floor-high : (z : ℤ) (d : ℕ) → 0 < d → z <ℤ (pos d *ℤ (floorZ z d +ℤ pos 1))
+pub floor-high : (z : ℤ) (d : ℕ) → 0 < d → z <ℤ (pos d *ℤ (floorDiv z d +ℤ pos 1))
 floor-high (pos a) d h = lt-by (v (pos a)) (v (pos d) ⊗ (v (pos (a / d)) ⊕ v (pos 1))) (omega (arith, div-add-mod a d, mod-lt a h))
 floor-high (negsuc a) d h = lt-by (v (negsuc a)) (v (pos d) ⊗ (v (negsuc (a / d)) ⊕ v (pos 1))) (omega (arith, div-add-mod a d))
 
 -- d q ≤ z < d (q + 1) for one q only
-pub floor-unique : (z : ℤ) (d : ℕ) (q : ℤ) → 0 < d → (pos d *ℤ q) ≤ℤ z → z <ℤ (pos d *ℤ (q +ℤ pos 1)) → floorZ z d ≡ q
+pub floor-unique : (z : ℤ) (d : ℕ) (q : ℤ) → 0 < d → (pos d *ℤ q) ≤ℤ z → z <ℤ (pos d *ℤ (q +ℤ pos 1)) → floorDiv z d ≡ q
 floor-unique z d q h low high = ≤ℤ-antisym (lt-suc (*ℤ-pos-lt d (≤ℤ-<ℤ-trans (floor-low z d h) high))) (lt-suc (*ℤ-pos-lt d (≤ℤ-<ℤ-trans low (floor-high z d h))))
 
-pub floor-multiple : (z : ℤ) (d : ℕ) → 0 < d → floorZ (pos d *ℤ z) d ≡ z
+pub floor-multiple : (z : ℤ) (d : ℕ) → 0 < d → floorDiv (pos d *ℤ z) d ≡ z
 floor-multiple z d h = floor-unique (pos d *ℤ z) d z h (≤ℤ-refl (pos d *ℤ z)) (lt-by (v (pos d) ⊗ v z) (v (pos d) ⊗ (v z ⊕ v (pos 1))) (omega arith))
 
 -- a bound is tightened to the next integer

@@ -4,16 +4,17 @@ use native.Mathlib.Omega.{arith}
 use native.Mathlib.Nat.{div-le-self, div-mul-le-self, mul-div-cancel-left, mul-pos}
 use mathlib.Core.Path.{_≡_, refl, sym, _∙_, ap, subst}
 use mathlib.Core.Bool.{Bool, true, false, not}
-use lib.Dec.{T, eqb, leb→le, lt→ltb, nleb→lt}
-use lib.IntN.{ℤ, pos, negsuc, negℤ, natAbs, _+ℤ_, _-ℤ_, _*ℤ_, +ℤ-idl}
+use lib.Dec.{T, leb→le, lt→ltb, nleb→lt}
+use lib.IntN.{ℤ, pos, negsuc, negℤ, natAbs, _-ℤ_, _*ℤ_, +ℤ-idl}
 use lib.Signed.{mag, _≤ℤ_, _<ℤ_, leZ, ltZ, quotZ, leZ-yes, ltZ-yes, ltZ-no}
 use mir.Syntax.{Width, w32, w64}
 use mir.Val.{SFits, hbits, bits, toZ, ofZ}
 use mir.Facts.{toZ-ofZ}
 use mir.ValLaws.{sfits-le}
-use borrow.Author.Tests.{ne-eqb, lt-ltb, le-ltb}
-use Rattle.integers.proofs.Ring.{v, _⊕_, _⊖_, ring, lt-up}
-use Rattle.integers.proofs.Laws.{abs-neg, sfits-abs, floorZ}
+use borrow.Author.Tests.{lt-ltb, le-ltb}
+use Rattle.integers.specs.Division.{floorDiv}
+use Rattle.integers.proofs.Ring.{v, _⊖_, ring, lt-up}
+use Rattle.integers.proofs.Laws.{abs-neg, sfits-abs}
 
 -- ---- division by a positive number
 mag-neg : (n a : ℕ) → n ≤ suc a → mag (negℤ (pos n)) ≤ a
@@ -38,7 +39,7 @@ pub div-need : (w : Width) (x d : ℤ) → SFits w x → SFits w d → pos 1 ≤
 div-need w x d fx fd h = (bits-pos w d h, rw (toZ-ofZ fx, toZ-ofZ fd) (quot-fits x d fx h))
 
 -- ---- floor division from division toward zero
-pub floor-up : (x d : ℤ) → pos 0 ≤ℤ x → pos 1 ≤ℤ d → quotZ x d ≡ floorZ x (natAbs d)
+pub floor-up : (x d : ℤ) → pos 0 ≤ℤ x → pos 1 ≤ℤ d → quotZ x d ≡ floorDiv x (natAbs d)
 floor-up (pos a) (pos b) h k = refl
 floor-up (pos a) (negsuc b) h k = absurd (k .le)
 floor-up (negsuc a) d h k = absurd (h .le)
@@ -59,7 +60,7 @@ turned-mag (negsuc n) = omega arith
 pub flip-fits : {w : Width} (z : ℤ) → SFits w z → SFits w (negsuc 0 -ℤ z)
 flip-fits z f = rw flip (sfits-le (turned-mag z) f)
 
-pub floor-down : (x d : ℤ) → x <ℤ pos 0 → pos 1 ≤ℤ d → negsuc 0 -ℤ quotZ (negsuc 0 -ℤ x) d ≡ floorZ x (natAbs d)
+pub floor-down : (x d : ℤ) → x <ℤ pos 0 → pos 1 ≤ℤ d → negsuc 0 -ℤ quotZ (negsuc 0 -ℤ x) d ≡ floorDiv x (natAbs d)
 floor-down (pos a) d h k = absurd (omega (arith, lt-up h))
 floor-down (negsuc a) (pos b) h k =
     ap (λ (z : ℤ). negsuc 0 -ℤ quotZ z (pos b)) (flip (negsuc a))
@@ -107,20 +108,6 @@ signed-of u h k =
     ap (λ (z : ℤ). z -ℤ pos 4294967296) (toZ-low w64 u (omega arith))
     ∙ ring (v (pos u) ⊖ v (pos 4294967296)) (v (negsuc (4294967296 - suc u))) (omega arith)
     ∙ sym (toZ-high w32 u h)
-
--- and back: a negative i32 with 2³² added is its bits
-pub bits-of : (x : ℤ) → SFits w32 x → x <ℤ pos 0 → x +ℤ pos 4294967296 ≡ pos (ofZ w32 x)
-bits-of (pos n) f h = absurd (omega (arith, lt-up h))
-bits-of (negsuc n) f h = ring (v (negsuc n) ⊕ v (pos 4294967296)) (v (pos (4294967296 - suc n))) (omega (arith, f .sfits))
-
--- ---- `==` of a signed number and a literal tests the bits
-abbrev pub isZ : ℤ → ℕ → Bool
-isZ (pos a) n = eqb a n
-isZ (negsuc a) n = false
-
-pub is-bits : (x : ℤ) (n : ℕ) → SFits w64 x → n < 9223372036854775808 → eqb (ofZ w64 x) n ≡ isZ x n
-is-bits (pos a) n f h = refl
-is-bits (negsuc a) n f h = ne-eqb (2 ^ 64 - suc a) n (omega (arith, f .sfits))
 
 -- ---- exact division by way of the quotient: x / d × d is x just where d divides x
 neg-product : (k n a : ℕ) → k * n ≤ suc a → mag (negℤ (pos k) *ℤ pos n) ≤ a

@@ -10,12 +10,12 @@ use borrow.Author.Tests.{leb-true}
 use mir.Syntax.{w64}
 use mir.Val.{SFits, toZ, ofZ}
 use mir.Facts.{toZ-ofZ}
+use Rattle.lists.proofs.Tests.{and-both}
 use Rattle.integers.proofs.Laws.{abs-*-le, abs-+-le, sfits-abs}
 use Rattle.calculus.specs.Limits.{numberLimit}
 use Rattle.calculus.specs.LinearForms.{dot}
 use Rattle.format.specs.Fields.{u16, i32, pairsAt, within}
 use Rattle.format.specs.Question.{rising, formOf}
-use Rattle.format.proofs.Faults.{and-true}
 use Rattle.format.proofs.Sums.{pairSum, form-value, sum-done, sum-more, pair-ranged}
 use Rattle.judging.specs.Ready.{FormIn}
 
@@ -35,7 +35,7 @@ module _ (b : List ℕ) (at count : ℕ) (values : List ℤ) where
 
   pub begin : FormIn b at count values → Summing (i32 b at) (at + 4) count
   begin f =
-      let (c, r) = and-true (within numberLimit (i32 b at)) (rising (length values) 0 (pairsAt b (at + 4) count)) (f .in-range) in
+      let (c, r) = and-both (within numberLimit (i32 b at)) (rising (length values) 0 (pairsAt b (at + 4) count)) (f .in-range) in
       record {
         low = 0;
         rises = r;

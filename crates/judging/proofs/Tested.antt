@@ -5,24 +5,22 @@ use mathlib.Core.Path.{_≡_, refl, sym, _∙_, ap, subst}
 use mathlib.Core.Bool.{Bool, true, cond}
 use mathlib.Core.List.{List, _∷_}
 use lib.ListN.{length}
-use lib.Dec.{eqb}
 use lib.IntN.{ℤ, pos}
-use borrow.Author.Tests.{eqb-true, eq-eqb, ne-eqb}
+use borrow.Author.Tests.{eq-eqb, ne-eqb}
 use Rattle.calculus.specs.LinearForms.{dot, valueIn}
 use Rattle.calculus.specs.Facts.{Question, holds, arithmetic}
 use Rattle.calculus.specs.Meaning.{Assignment, columns}
 use Rattle.format.specs.Fields.{u16}
-use Rattle.format.specs.Records.{size, kind, need}
-use Rattle.format.specs.Question.{stringRange, stringFact, stringFault, formRange, formOf, relationOf, constraintOf}
+use Rattle.format.specs.Records.{size, kind}
+use Rattle.format.specs.Question.{stringFact, stringFault, formRange, formOf, relationOf, constraintOf}
 use Rattle.format.specs.Judging.{meets}
-use Rattle.format.proofs.Faults.{none-applies}
+use Rattle.format.proofs.RecordFaults.{string-constraint-formed, ArithmeticConstraint, arithmetic-constraint-formed}
 use Rattle.question.specs.declared.Progress.{Progress}
 use Rattle.question.specs.Standing.{ConstraintAt}
 use Rattle.question.specs.Posed.{asked}
 use Rattle.answer.specs.Form.{columnsAt}
 use Rattle.answer.proofs.Columns.{length-columns}
 use Rattle.judging.specs.Ready.{valuesOf, FormIn, Judgeable}
-use Rattle.judging.proofs.Constraints.{ArithmeticRanges, arithmetic-ranges}
 
 -- the columns of the answer are the values that were found
 columns-are : (b v : List ℕ) (s : Progress) → columns (valuesOf b v s) ≡ columnsAt v (s .p) (s .q)
@@ -42,7 +40,7 @@ module _ (b v : List ℕ) (s : Progress) (places : List ℕ) (values : List ℤ)
   -- ---- a string constraint
 
   six : kind b at ≡ 3 → m ≡ 6
-  six e = eqb-true m 6 (none-applies 4 (eqb m 6) (need 6 (stringRange (s .p) (s .literals) (u16 b (at + 6)) (u16 b (at + 6 + 2)) (u16 b (at + 6 + 4))) 0) (c .string-formed e) .0)
+  six e = string-constraint-formed b (s .p) (s .literals) (at + 6) m (c .string-formed e) .six
 
   pub string-there : kind b at ≡ 3 → at + 6 + 6 ≤ length b
   string-there e = omega (arith, c .whole, six e)
@@ -57,8 +55,8 @@ module _ (b v : List ℕ) (s : Progress) (places : List ℕ) (values : List ℤ)
 
   -- ---- an arithmetic constraint
 
-  ranges : (kind b at ≡ 3 → ⊥) → ArithmeticRanges b (s .q + (s .p + s .p)) (at + 6) m
-  ranges h = arithmetic-ranges b (s .q + (s .p + s .p)) (at + 6) m (c .arithmetic-formed (omega (arith, c .at-least, c .at-most)))
+  ranges : (kind b at ≡ 3 → ⊥) → ArithmeticConstraint b (s .q + (s .p + s .p)) (at + 6) m
+  ranges h = arithmetic-constraint-formed b (s .q + (s .p + s .p)) (at + 6) m (c .arithmetic-formed (omega (arith, c .at-least, c .at-most)))
 
   length-values : length values ≡ s .q + (s .p + s .p)
   length-values = ap length (r .columns) ∙ length-columns v (s .p) (s .q)
@@ -69,7 +67,7 @@ module _ (b v : List ℕ) (s : Progress) (places : List ℕ) (values : List ℤ)
       let stands = r .texts .posed .stands in (
         g .at-least,
         record {
-          few = omega (arith, g .few);
+          few = omega (arith, g .few-pairs);
           there = omega (arith, c .whole, g .at-least, g .pairs-whole);
           few-columns = omega (arith, length-values, stands .few-strings, stands .few-integers);
           in-range = subst (λ (k : ℕ). formRange b k (at + 6 + 2) (m / 6 - 1) ≡ true) (sym length-values) (g .in-range);

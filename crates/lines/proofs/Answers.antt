@@ -1,5 +1,5 @@
 -- The lines of an answer depend on the answer's bytes alone, whatever stands behind them in the buffer.
-use Prim.Native.Nat.{ℕ, zero, suc, _+_, _*_, _/_, _%_, _≤_, _<_}
+use Prim.Native.Nat.{ℕ, zero, suc, _+_, _*_, _/_, _≤_, _<_}
 use native.Mathlib.Omega.{arith}
 use mathlib.Core.Path.{_≡_, refl, sym, _∙_, ap, ap₂}
 use mathlib.Core.Bool.{Bool, true, false}
@@ -8,16 +8,16 @@ use mathlib.Core.List.{List, _∷_, _++_}
 use lib.ListN.{length, getD, List·getD-append, length-append}
 use lib.Dec.{leb, eqb}
 use borrow.Author.Tests.{leb-true, eqb-true}
+use Rattle.lists.proofs.Tests.{and-both}
 use Rattle.calculus.specs.Facts.{Question}
-use Rattle.calculus.specs.Limits.{lengthLimit}
 use Rattle.calculus.specs.Meaning.{Assignment}
 use Rattle.format.specs.Fields.{u16, u32, u32s, i32s, signed}
 use Rattle.format.specs.Records.{size, kind, next, whole, records}
 use Rattle.format.specs.Question.{Reading, Stopped, Ended, question}
-use Rattle.format.specs.Answer.{answerForm, outside, assignmentOf}
+use Rattle.format.specs.Answer.{recordIs, stringForm, answerForm, outside, assignmentOf}
 use Rattle.format.specs.Judging.{Judging, Refused, Judged, judgeAnswer, judgeBehind, judging}
 use Rattle.format.specs.Checking.{Strings, verdict}
-use Rattle.format.proofs.Faults.{and-true, clash}
+use Rattle.format.proofs.Faults.{clash}
 use Rattle.format.proofs.Demands.{th-5}
 use Rattle.lines.specs.Lines.{stringLine, integerLines, endLine, recordLines}
 use Rattle.lines.proofs.Lines.{lines-string, lines-integers}
@@ -59,8 +59,8 @@ module _ (s t : List ℕ) where
   lines-kept : (p q k at : ℕ) → answerForm s p q at ≡ true → recordLines (s ++ t) k (records (s ++ t) at) ≡ recordLines s k (records s at)
   unfolding answerForm
   lines-kept zero q k at e =
-      let (there, e₁) = and-true (whole s at) _ e in
-      let (ten, e₂) = and-true (eqb (kind s at) 10) _ e₁ in
+      let (there, f) = and-both (whole s at) _ (and-both (recordIs s at 10 (4 * q)) _ e .0) in
+      let (ten, f₁) = and-both (eqb (kind s at) 10) _ f in
       let h : next s at ≤ length s = leb-true _ _ there in
       let is : kind s at ≡ 10 = eqb-true _ _ ten in
       let other : (kind s at ≡ 9 → ⊥) = λ z. omega arith in
@@ -68,10 +68,9 @@ module _ (s t : List ℕ) where
       ∙ ap (λ zs. integerLines 0 zs ++ endLine) (i32s-kept (size s at / 4) (at + 6) (omega arith))
       ∙ lines-integers s k at (kind s at) (size s at) (refl, refl, h) other
   lines-kept (suc p) q k at e =
-      let (there, e₁) = and-true (whole s at) _ e in
-      let (nine, e₂) = and-true (eqb (kind s at) 9) _ e₁ in
-      let (fours, e₃) = and-true (eqb (size s at % 4) 0) _ e₂ in
-      let (short, later) = and-true (leb (size s at) (4 * lengthLimit)) _ e₃ in
+      let (here, later) = and-both (stringForm s at) _ e in
+      let (there, f) = and-both (whole s at) _ here in
+      let (nine, f₁) = and-both (eqb (kind s at) 9) _ f in
       let h : next s at ≤ length s = leb-true _ _ there in
       let is : kind s at ≡ 9 = eqb-true _ _ nine in
       sym (lines-string (s ++ t) k at (kind s at) (size s at) (kind-kept at h, size-kept at h, longer at h) is)

@@ -8,6 +8,7 @@ use mathlib.Core.List.{List, [], _∷_, _++_}
 use lib.ListN.{length}
 use lib.Dec.{leb, eqb}
 use borrow.Author.Tests.{lt-ltb, le-ltb, le-leb, lt-leb, leb-true, leb-false, eq-eqb, ne-eqb}
+use Rattle.lists.proofs.Lists.{down}
 use Rattle.format.specs.Fields.{u32, u32s, i32s, i32, signed}
 use Rattle.format.specs.Records.{size, kind, next, whole, records}
 use Rattle.format.proofs.Fields.{length-u32s}
@@ -33,10 +34,7 @@ digits-one (suc k) n h l = ap (byDigit k n) (lt-ltb n 10 l)
 pub digits-more : (k n : ℕ) → 0 < k → 10 ≤ n → digits k n ≡ digits (k - 1) (n / 10) ++ ((48 + n % 10) ∷ [])
 unfolding digits
 digits-more zero n h l = absurd (omega arith)
-digits-more (suc k) n h l = ap (byDigit k n) (le-ltb n 10 l) ∙ ap (λ j. digits j (n / 10) ++ ((48 + n % 10) ∷ [])) less
-  where
-    less : k ≡ suc k - 1
-    less = omega arith
+digits-more (suc k) n h l = ap (byDigit k n) (le-ltb n 10 l) ∙ ap (λ j. digits j (n / 10) ++ ((48 + n % 10) ∷ [])) (sym (down k))
 
 pub integer-positive : (v : ℕ) → v < 2147483648 → decimal v ≡ integer (signed v)
 unfolding signed
@@ -59,10 +57,7 @@ spaced-done b at (suc k) h = absurd (omega arith)
 pub spaced-more : (b : List ℕ) (at k : ℕ) → 0 < k → (32 ∷ decimal (u32 b at)) ++ spaced (u32s b (at + 4) (k - 1)) ≡ spaced (u32s b at k)
 unfolding spaced u32s
 spaced-more b at zero h = absurd (omega arith)
-spaced-more b at (suc k) h = ap (λ j. (32 ∷ decimal (u32 b at)) ++ spaced (u32s b (at + 4) j)) less
-  where
-    less : suc k - 1 ≡ k
-    less = omega arith
+spaced-more b at (suc k) h = ap (λ j. (32 ∷ decimal (u32 b at)) ++ spaced (u32s b (at + 4) j)) (down k)
 
 pub integers-done : (b : List ℕ) (j at k : ℕ) → k ≤ 0 → integerLines j (i32s b at k) ≡ []
 unfolding integerLines i32s
@@ -72,10 +67,7 @@ integers-done b j at (suc k) h = absurd (omega arith)
 pub integers-more : (b : List ℕ) (j at k : ℕ) → 0 < k → integerLine j (i32 b at) ++ integerLines (j + 1) (i32s b (at + 4) (k - 1)) ≡ integerLines j (i32s b at k)
 unfolding integerLines i32s
 integers-more b j at zero h = absurd (omega arith)
-integers-more b j at (suc k) h = rw (add-one j) (ap (λ m. integerLine j (i32 b at) ++ integerLines (suc j) (i32s b (at + 4) m)) less)
-  where
-    less : suc k - 1 ≡ k
-    less = omega arith
+integers-more b j at (suc k) h = rw (add-one j) (ap (λ m. integerLine j (i32 b at) ++ integerLines (suc j) (i32s b (at + 4) m)) (down k))
 
 -- ---- a string's line
 

@@ -1,5 +1,7 @@
--- A test of every element of a list, as a loop from the front takes it (none is left, the next one fails, the next one passes), of parts of the list, and of some element.
-use Prim.Native.Nat.{ℕ, zero, suc, _+_, _<_, _≤_}
+-- A test of every element of a list, as a loop from the front takes it (none is left, the next one fails, the next one passes), also where the list is read place by place;
+-- of parts of the list, and of some element.
+use Prim.Native.Nat.{ℕ, zero, suc, _+_, _-_, _<_, _≤_}
+use native.Mathlib.Omega.{arith}
 use native.Mathlib.Numerals.{add-one}
 use mathlib.Core.Path.{_≡_, refl, sym, _∙_, ap, ap₂}
 use mathlib.Core.Bool.{Bool, true, false, _&&_, _||_, and-true, and-assoc, and-false, or-true, or-false, or-assoc}
@@ -7,11 +9,12 @@ use mathlib.Core.Option.{some}
 use mathlib.Core.List.{List, [], _∷_, _++_}
 use lib.ListN.{length, getD, take, drop, getElem?, drop-of-length-le}
 use lib.Seq.{drop-cons}
-use Rattle.lists.specs.Lists.{all, any}
+use Rattle.lists.specs.Lists.{all, any, valuesAlong}
 use Rattle.lists.proofs.Tests.{→true, true→, and→}
 use Rattle.lists.proofs.Options.{some-injective, none-some}
+use Rattle.lists.proofs.Lists.{down}
 
-take-zero : {A : Type 0} (l : List A) → take 0 l ≡ []
+pub take-zero : {A : Type 0} (l : List A) → take 0 l ≡ []
 take-zero [] = refl
 take-zero (x ∷ l) = refl
 
@@ -67,3 +70,18 @@ module _ {A : Type 0} (test : A → Bool) where
   some-at [] k x h e = absurd (none-some h)
   some-at (y ∷ l) zero x h e = ap (λ t. t || any test l) (ap test (some-injective h) ∙ e)
   some-at (y ∷ l) (suc k) x h e = ap (λ t. test y || t) (some-at l k x h e) ∙ or-true (test y)
+
+-- ---- a test of what is read at each of k places
+
+module _ {A B : Type 0} (test : B → Bool) (go : A → A) (f : A → B) (a : A) where
+  pub along-done : (k : ℕ) → k ≤ 0 → all test (valuesAlong go f a k) ≡ true
+  along-done zero h = refl
+  along-done (suc k) h = absurd (omega arith)
+
+  pub along-fails : (k : ℕ) → 0 < k → test (f a) ≡ false → all test (valuesAlong go f a k) ≡ false
+  along-fails zero h e = absurd (omega arith)
+  along-fails (suc k) h e = rw e
+
+  pub along-on : (k : ℕ) → 0 < k → test (f a) ≡ true → all test (valuesAlong go f a k) ≡ all test (valuesAlong go f (go a) (k - 1))
+  along-on zero h e = absurd (omega arith)
+  along-on (suc k) h e = rw (e, down k)

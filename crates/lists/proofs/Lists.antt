@@ -1,13 +1,15 @@
 -- Lists: properties of all elements and of some element, membership, lists without repeats, counting, and lists read place by place.
-use Prim.Native.Nat.{ℕ, zero, suc, _+_, _*_, _<_, _≤_}
+use Prim.Native.Nat.{ℕ, zero, suc, _+_, _*_, _-_, _<_, _≤_}
 use native.Mathlib.Nat.{mul-suc}
+use native.Mathlib.Numerals.{add-one}
 use native.Mathlib.Omega.{arith}
 use mathlib.Core.Path.{_≡_, refl, sym, _∙_, ap, ap₂, subst}
 use mathlib.Core.Logic.{_≢_, _⊎_, inl, inr}
-use mathlib.Core.Bool.{Bool, true}
-use mathlib.Core.Option.{some}
+use mathlib.Core.Bool.{Bool, true, false, _&&_, and-false}
+use mathlib.Core.Option.{none, some}
 use mathlib.Core.List.{List, [], _∷_, _++_, map, flatMap, append-nil, append-assoc}
-use lib.ListN.{length, getD, getElem?, replicate, length-append}
+use lib.ListN.{length, getD, drop, getElem?, replicate, length-append, drop-of-length-le}
+use lib.Seq.{drop-cons}
 use lib.Dec.{T}
 use Rattle.lists.specs.Lists.{All, NotIn, Distinct, all, any, eqList, placeAfter, valuesAlong}
 use Rattle.lists.proofs.Tests.{→true, true→, and→, →and, or→, →or-left, →or-right}
@@ -89,6 +91,21 @@ module _ {A : Type 0} (t : A → A → Bool) where
   pub eq-list-refl : ((x : A) → T (t x x)) → (xs : List A) → T (eqList t xs xs)
   eq-list-refl f [] = tt
   eq-list-refl f (x ∷ xs) = →and (t x x) (eqList t xs xs) (f x) (eq-list-refl f xs)
+
+  -- from place j on
+  pub eq-list-step : (xs ys : List A) (j : ℕ) (d : A) → j < length xs → j < length ys
+      → eqList t (drop j xs) (drop j ys) ≡ (t (getD xs j d) (getD ys j d) && eqList t (drop (j + 1) xs) (drop (j + 1) ys))
+  eq-list-step xs ys j d h k = rw (drop-cons xs j d h, drop-cons ys j d k, add-one)
+
+  pub eq-list-done : (xs ys : List A) (j : ℕ) → length xs ≤ j → length ys ≤ j → eqList t (drop j xs) (drop j ys) ≡ true
+  eq-list-done xs ys j h k = rw (drop-of-length-le xs h, drop-of-length-le ys k)
+
+  -- lists of different lengths differ
+  pub eq-list-lengths : (xs ys : List A) → (length xs ≡ length ys → ⊥) → eqList t xs ys ≡ false
+  eq-list-lengths [] [] h = absurd (h refl)
+  eq-list-lengths [] (y ∷ ys) h = refl
+  eq-list-lengths (x ∷ xs) [] h = refl
+  eq-list-lengths (x ∷ xs) (y ∷ ys) h = ap (λ (a : Bool). t x y && a) (eq-list-lengths xs ys (λ e. h (ap suc e))) ∙ and-false (t x y)
 
 -- ---- membership
 
@@ -196,6 +213,26 @@ pub map-same : {A : Type 0} (f : A → A) (xs : List A) → All (λ x. f x ≡ x
 map-same f [] h = refl
 map-same f (x ∷ xs) (h, hs) = ap₂ _∷_ h (map-same f xs hs)
 
+-- an element that is there does not depend on the default
+pub getD-any : {A : Type 0} (l : List A) (i : ℕ) (d e : A) → i < length l → getD l i d ≡ getD l i e
+getD-any [] i d e h = absurd (omega arith)
+getD-any (x ∷ l) zero d e h = refl
+getD-any (x ∷ l) (suc i) d e h = getD-any l i d e (omega arith)
+
+pub element-append : {A : Type 0} (xs ys : List A) (j : ℕ) → j < length xs → getElem? (xs ++ ys) j ≡ getElem? xs j
+element-append [] ys j h = absurd (omega arith)
+element-append (x ∷ xs) ys zero h = refl
+element-append (x ∷ xs) ys (suc j) h = element-append xs ys j (omega arith)
+
+pub element-last : {A : Type 0} (xs : List A) (y : A) → getElem? (xs ++ (y ∷ [])) (length xs) ≡ some y
+element-last [] y = refl
+element-last (x ∷ xs) y = element-last xs y
+
+pub element-none : {A : Type 0} (xs : List A) (j : ℕ) → length xs ≤ j → getElem? xs j ≡ none
+element-none [] j h = refl
+element-none (x ∷ xs) zero h = absurd (omega arith)
+element-none (x ∷ xs) (suc j) h = element-none xs j (omega arith)
+
 pub getD-map : {A B : Type 0} (f : A → B) (xs : List A) (i : ℕ) (d : A) (e : B) → i < length xs → getD (map f xs) i e ≡ f (getD xs i d)
 getD-map f [] i d e h = absurd (omega arith)
 getD-map f (x ∷ xs) zero d e h = refl
@@ -211,6 +248,10 @@ getD-all P [] d h = tt
 getD-all P (x ∷ xs) d h = (h 0 (omega arith), getD-all P xs d (λ i g. h (suc i) (omega arith)))
 
 -- ---- lists read place by place
+
+-- one place fewer is left
+pub down : (k : ℕ) → suc k - 1 ≡ k
+down k = omega arith
 
 pub placeAfter-suc : {A : Type 0} (go : A → A) (a : A) (k : ℕ) → placeAfter go a (suc k) ≡ go (placeAfter go a k)
 placeAfter-suc go a zero = refl

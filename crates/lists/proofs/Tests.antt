@@ -1,7 +1,7 @@
 -- Tests: what a test that is passed says of the tests it is made of, and the other way round.
 use mathlib.Core.Path.{_≡_, refl, sym, subst}
 use mathlib.Core.Logic.{_⊎_, inl, inr}
-use mathlib.Core.Bool.{Bool, true, false, not, _&&_, _||_}
+use mathlib.Core.Bool.{Bool, true, false, not, _&&_, _||_, false≢true}
 use lib.Dec.{T}
 
 pub →true : (a : Bool) → T a → a ≡ true
@@ -14,6 +14,11 @@ true→ e = subst T (sym e) tt
 pub and→ : (a b : Bool) → T (a && b) → T a × T b
 and→ true b t = (tt, t)
 and→ false b t = absurd t
+
+-- the same as equations
+pub and-both : (a b : Bool) → (a && b) ≡ true → (a ≡ true) × (b ≡ true)
+and-both true b e = (refl, e)
+and-both false b e = absurd (false≢true e)
 
 pub →and : (a b : Bool) → T a → T b → T (a && b)
 →and true b s t = t

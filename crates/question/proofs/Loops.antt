@@ -7,13 +7,15 @@ use native.Mathlib.Omega.{arith}
 use lib.Dec.{eqb}
 use lib.ListN.{getD}
 use borrow.Author.Tests.{lt-ltb, le-ltb, eq-eqb, ne-eqb, le-leb, lt-leb}
-use Rattle.calculus.specs.Alphabet.{allCharacters}
+use Rattle.lists.proofs.Every.{along-done, along-fails, along-on}
+use Rattle.lists.proofs.Lists.{down, eq-list-lengths}
+use Rattle.calculus.specs.Alphabet.{isCharacter, allCharacters}
 use Rattle.calculus.specs.Strings.{eqString, given}
 use Rattle.format.specs.Fields.{u16, u32, i32, u32s, pairsAt}
 use Rattle.format.specs.Records.{size, next}
 use Rattle.format.specs.Question.{textOf, pairInRange, rising}
 use Rattle.format.specs.Places.{texts}
-use Rattle.format.proofs.Fields.{down, field-at}
+use Rattle.format.proofs.Fields.{field-at, length-u32s}
 
 -- the tests of a definition, each from a fact in scope
 pub ruleset tests = (eq-eqb, ne-eqb, le-leb, lt-leb, le-ltb)
@@ -23,18 +25,15 @@ pub ruleset tests = (eq-eqb, ne-eqb, le-leb, lt-leb, le-ltb)
 module _ (b : List ℕ) (n at : ℕ) where
   pub characters-done : (k : ℕ) → k ≤ 0 → allCharacters n (u32s b at k) ≡ true
   unfolding allCharacters u32s
-  characters-done zero h = refl
-  characters-done (suc k) h = absurd (omega arith)
+  characters-done k h = along-done (isCharacter n) (λ i. i + 4) (u32 b) at k h
 
   pub characters-yes : (k : ℕ) → 0 < k → u32 b at < n → allCharacters n (u32s b at k) ≡ allCharacters n (u32s b (at + 4) (k - 1))
   unfolding allCharacters u32s
-  characters-yes zero h g = absurd (omega arith)
-  characters-yes (suc k) h g = rw (lt-ltb (u32 b at) n g, down k)
+  characters-yes k h g = along-on (isCharacter n) (λ i. i + 4) (u32 b) at k h (lt-ltb (u32 b at) n g)
 
   pub characters-no : (k : ℕ) → 0 < k → n ≤ u32 b at → allCharacters n (u32s b at k) ≡ false
   unfolding allCharacters u32s
-  characters-no zero h g = absurd (omega arith)
-  characters-no (suc k) h g = rw (le-ltb (u32 b at) n g)
+  characters-no k h g = along-fails (isCharacter n) (λ i. i + 4) (u32 b) at k h (le-ltb (u32 b at) n g)
 
 -- ---- two texts
 
@@ -64,11 +63,7 @@ text-char b at k i h = field-at 4 (u32 b) at k i 0 h
 
 -- texts of different lengths differ
 pub same-lengths : (a b : List ℕ) (m k x y : ℕ) → (m ≡ k → ⊥) → eqString (u32s a x m) (u32s b y k) ≡ false
-unfolding u32s
-same-lengths a b zero zero x y h = absurd (h refl)
-same-lengths a b zero (suc k) x y h = refl
-same-lengths a b (suc m) zero x y h = refl
-same-lengths a b (suc m) (suc k) x y h = rw (same-lengths a b m k (x + 4) (y + 4) (λ e. h (ap suc e))) (and-false (eqb (u32 a x) (u32 b y)))
+same-lengths a b m k x y h = eq-list-lengths eqb (u32s a x m) (u32s b y k) (λ e. h (sym (length-u32s a x m) ∙ e ∙ length-u32s b y k))
 
 -- ---- literals one after another
 

@@ -11,6 +11,7 @@ use lib.Seq.{take-append-le, take-all, take-at, drop-at, drop-drop, take-take, l
 use lib.IntN.{ℤ}
 use Rattle.calculus.specs.Facts.{Fact}
 use Rattle.lists.proofs.Filled.{drop-take}
+use Rattle.lists.proofs.Lists.{element-append, element-last, element-none}
 use Rattle.rows.specs.Rows.{rowLength, factOf, rowAt, branchOf}
 
 -- ---- one row
@@ -43,20 +44,6 @@ branch-same w v (suc k) e =
     ap₂ (λ (b : List Fact) (r : List ℤ). b ++ (factOf r ∷ [])) (branch-same w v k before) row
 
 -- fact number j
-element-append : {A : Type 0} (xs ys : List A) (j : ℕ) → j < length xs → getElem? (xs ++ ys) j ≡ getElem? xs j
-element-append [] ys j h = absurd (omega arith)
-element-append (x ∷ xs) ys zero h = refl
-element-append (x ∷ xs) ys (suc j) h = element-append xs ys j (omega arith)
-
-element-last : {A : Type 0} (xs : List A) (y : A) → getElem? (xs ++ (y ∷ [])) (length xs) ≡ some y
-element-last [] y = refl
-element-last (x ∷ xs) y = element-last xs y
-
-element-none : {A : Type 0} (xs : List A) (j : ℕ) → length xs ≤ j → getElem? xs j ≡ none
-element-none [] j h = refl
-element-none (x ∷ xs) zero h = absurd (omega arith)
-element-none (x ∷ xs) (suc j) h = element-none xs j (omega arith)
-
 pub branch-at : (w : List ℤ) (k j : ℕ) → j < k → getElem? (branchOf w k) j ≡ some (factOf (rowAt w j))
 unfolding branchOf
 branch-at w zero j h = absurd (omega arith)

@@ -39,32 +39,25 @@ string-fact (suc zero) a b l h g k = ap₂ notSame (index-of a g) (index-of b k)
 string-fact (suc (suc zero)) a b l h g k = ap₂ isLiteral (index-of a g) (index-of b k)
 string-fact (suc (suc (suc r))) a b l h g k = absurd (omega arith)
 
--- ---- the tag of a row
+-- ---- the tag from a row's first number
 
 module _ (row : List ℤ) where
-  tag-kind : (z : ℤ) → getD row 0 (pos 0) ≡ z → tagOf (factOf row) ≡ tagOf (tagged z (index (getD row 1 (pos 0))) (index (getD row 2 (pos 0))) (drop 1 row))
+  tag-from : (z : ℤ) → getD row 0 (pos 0) ≡ z → tagOf (factOf row) ≡ tagOf (tagged z (index (getD row 1 (pos 0))) (index (getD row 2 (pos 0))) (drop 1 row))
   unfolding factOf
-  tag-kind z e = ap (λ t. tagOf (tagged t (index (getD row 1 (pos 0))) (index (getD row 2 (pos 0))) (drop 1 row))) e
+  tag-from z e = ap (λ t. tagOf (tagged t (index (getD row 1 (pos 0))) (index (getD row 2 (pos 0))) (drop 1 row))) e
 
-  pub kind-ge : getD row 0 (pos 0) ≡ pos 0 → tagOf (factOf row) ≡ 0
+  known : (k a b : ℕ) (e : List ℤ) → k ≤ 5 → tagOf (tagged (pos k) a b e) ≡ k
   unfolding tagged tagOf
-  kind-ge e = tag-kind (pos 0) e
+  known zero a b e h = refl
+  known (suc zero) a b e h = refl
+  known (suc (suc zero)) a b e h = refl
+  known (suc (suc (suc zero))) a b e h = refl
+  known (suc (suc (suc (suc zero)))) a b e h = refl
+  known (suc (suc (suc (suc (suc zero))))) a b e h = refl
+  known (suc (suc (suc (suc (suc (suc k)))))) a b e h = absurd (omega arith)
 
-  pub kind-eq : getD row 0 (pos 0) ≡ pos 1 → tagOf (factOf row) ≡ 1
-  unfolding tagged tagOf
-  kind-eq e = tag-kind (pos 1) e
-
-  pub kind-same : getD row 0 (pos 0) ≡ pos 3 → tagOf (factOf row) ≡ 3
-  unfolding tagged tagOf
-  kind-same e = tag-kind (pos 3) e
-
-  pub kind-not-same : getD row 0 (pos 0) ≡ pos 4 → tagOf (factOf row) ≡ 4
-  unfolding tagged tagOf
-  kind-not-same e = tag-kind (pos 4) e
-
-  pub kind-literal : getD row 0 (pos 0) ≡ pos 5 → tagOf (factOf row) ≡ 5
-  unfolding tagged tagOf
-  kind-literal e = tag-kind (pos 5) e
+  pub tag-known : (k : ℕ) → k ≤ 5 → getD row 0 (pos 0) ≡ pos k → tagOf (factOf row) ≡ k
+  tag-known k h e = tag-from (pos k) e ∙ known k (index (getD row 1 (pos 0))) (index (getD row 2 (pos 0))) (drop 1 row) h
 
   other : (z : ℤ) (a b : ℕ) (e : List ℤ) → (ofZ w64 z ≡ 0 → ⊥) → (ofZ w64 z ≡ 1 → ⊥) → (ofZ w64 z ≡ 3 → ⊥) → (ofZ w64 z ≡ 4 → ⊥) → (ofZ w64 z ≡ 5 → ⊥)
       → tagOf (tagged z a b e) ≡ 2
@@ -78,47 +71,47 @@ module _ (row : List ℤ) where
   other (pos (suc (suc (suc (suc (suc (suc k))))))) a b e h0 h1 h3 h4 h5 = refl
   other (negsuc k) a b e h0 h1 h3 h4 h5 = refl
 
-  -- any other tag is ≠
-  pub kind-ne : (z : ℤ) → getD row 0 (pos 0) ≡ z → (ofZ w64 z ≡ 0 → ⊥) → (ofZ w64 z ≡ 1 → ⊥) → (ofZ w64 z ≡ 3 → ⊥) → (ofZ w64 z ≡ 4 → ⊥) → (ofZ w64 z ≡ 5 → ⊥)
+  -- any other number is the tag of ≠
+  pub tag-other : (z : ℤ) → getD row 0 (pos 0) ≡ z → (ofZ w64 z ≡ 0 → ⊥) → (ofZ w64 z ≡ 1 → ⊥) → (ofZ w64 z ≡ 3 → ⊥) → (ofZ w64 z ≡ 4 → ⊥) → (ofZ w64 z ≡ 5 → ⊥)
       → tagOf (factOf row) ≡ 2
-  kind-ne z e h0 h1 h3 h4 h5 = tag-kind z e ∙ other z (index (getD row 1 (pos 0))) (index (getD row 2 (pos 0))) (drop 1 row) h0 h1 h3 h4 h5
+  tag-other z e h0 h1 h3 h4 h5 = tag-from z e ∙ other z (index (getD row 1 (pos 0))) (index (getD row 2 (pos 0))) (drop 1 row) h0 h1 h3 h4 h5
 
--- ---- the fact from the kind
+-- ---- the fact from the tag
 
-kind-relation : (z : ℤ) (a b : ℕ) (e : List ℤ) → tagOf (tagged z a b e) ≤ 2 → tagged z a b e ≡ arithmetic (relationOf (tagOf (tagged z a b e))) e
+tag-relation : (z : ℤ) (a b : ℕ) (e : List ℤ) → tagOf (tagged z a b e) ≤ 2 → tagged z a b e ≡ arithmetic (relationOf (tagOf (tagged z a b e))) e
 unfolding tagged tagOf
-kind-relation (pos zero) a b e h = refl
-kind-relation (pos (suc zero)) a b e h = refl
-kind-relation (pos (suc (suc zero))) a b e h = refl
-kind-relation (pos (suc (suc (suc zero)))) a b e h = absurd (omega arith)
-kind-relation (pos (suc (suc (suc (suc zero))))) a b e h = absurd (omega arith)
-kind-relation (pos (suc (suc (suc (suc (suc zero)))))) a b e h = absurd (omega arith)
-kind-relation (pos (suc (suc (suc (suc (suc (suc n))))))) a b e h = refl
-kind-relation (negsuc n) a b e h = refl
+tag-relation (pos zero) a b e h = refl
+tag-relation (pos (suc zero)) a b e h = refl
+tag-relation (pos (suc (suc zero))) a b e h = refl
+tag-relation (pos (suc (suc (suc zero)))) a b e h = absurd (omega arith)
+tag-relation (pos (suc (suc (suc (suc zero))))) a b e h = absurd (omega arith)
+tag-relation (pos (suc (suc (suc (suc (suc zero)))))) a b e h = absurd (omega arith)
+tag-relation (pos (suc (suc (suc (suc (suc (suc n))))))) a b e h = refl
+tag-relation (negsuc n) a b e h = refl
 
--- a row of kind 0, 1 or 2 is ≥, = or ≠ of the form behind its tag
+-- a row of tag 0, 1 or 2 is ≥, = or ≠ of the form behind its tag
 pub row-relation : (row : List ℤ) (k : ℕ) → k ≡ tagOf (factOf row) → k ≤ 2 → factOf row ≡ arithmetic (relationOf k) (drop 1 row)
 unfolding factOf
 row-relation row k e h =
-    kind-relation (getD row 0 (pos 0)) (index (getD row 1 (pos 0))) (index (getD row 2 (pos 0))) (drop 1 row) (subst (λ n. n ≤ 2) e h)
+    tag-relation (getD row 0 (pos 0)) (index (getD row 1 (pos 0))) (index (getD row 2 (pos 0))) (drop 1 row) (subst (λ n. n ≤ 2) e h)
     ∙ ap (λ n. arithmetic (relationOf n) (drop 1 row)) (sym e)
 
-kind-string : (z : ℤ) (a b : ℕ) (e : List ℤ) → 2 < tagOf (tagged z a b e) → tagged z a b e ≡ stringFact (tagOf (tagged z a b e) - 3) a b
+tag-string : (z : ℤ) (a b : ℕ) (e : List ℤ) → 2 < tagOf (tagged z a b e) → tagged z a b e ≡ stringFact (tagOf (tagged z a b e) - 3) a b
 unfolding tagged tagOf
-kind-string (pos zero) a b e h = absurd (omega arith)
-kind-string (pos (suc zero)) a b e h = absurd (omega arith)
-kind-string (pos (suc (suc zero))) a b e h = absurd (omega arith)
-kind-string (pos (suc (suc (suc zero)))) a b e h = refl
-kind-string (pos (suc (suc (suc (suc zero))))) a b e h = refl
-kind-string (pos (suc (suc (suc (suc (suc zero)))))) a b e h = refl
-kind-string (pos (suc (suc (suc (suc (suc (suc n))))))) a b e h = absurd (omega arith)
-kind-string (negsuc n) a b e h = absurd (omega arith)
+tag-string (pos zero) a b e h = absurd (omega arith)
+tag-string (pos (suc zero)) a b e h = absurd (omega arith)
+tag-string (pos (suc (suc zero))) a b e h = absurd (omega arith)
+tag-string (pos (suc (suc (suc zero)))) a b e h = refl
+tag-string (pos (suc (suc (suc (suc zero))))) a b e h = refl
+tag-string (pos (suc (suc (suc (suc (suc zero)))))) a b e h = refl
+tag-string (pos (suc (suc (suc (suc (suc (suc n))))))) a b e h = absurd (omega arith)
+tag-string (negsuc n) a b e h = absurd (omega arith)
 
--- a row of kind 3, 4 or 5 is ≈, ≉ or ≈ literal of the operands in numbers 1 and 2
+-- a row of tag 3, 4 or 5 is ≈, ≉ or ≈ literal of the operands in numbers 1 and 2
 pub row-string : (row : List ℤ) (k : ℕ) → k ≡ tagOf (factOf row) → 2 < k → factOf row ≡ stringFact (k - 3) (index (getD row 1 (pos 0))) (index (getD row 2 (pos 0)))
 unfolding factOf
 row-string row k e h =
-    kind-string (getD row 0 (pos 0)) (index (getD row 1 (pos 0))) (index (getD row 2 (pos 0))) (drop 1 row) (subst (λ n. 2 < n) e h)
+    tag-string (getD row 0 (pos 0)) (index (getD row 1 (pos 0))) (index (getD row 2 (pos 0))) (drop 1 row) (subst (λ n. 2 < n) e h)
     ∙ ap (λ n. stringFact (n - 3) (index (getD row 1 (pos 0))) (index (getD row 2 (pos 0)))) (sym e)
 
 -- ---- a row's number as an index

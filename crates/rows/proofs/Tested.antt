@@ -1,6 +1,5 @@
 -- Tests on facts and rows: what each kind of fact passes, and the loops over a row's numbers.
 use Prim.Native.Nat.{ℕ, zero, suc, _+_, _≤_, _<_}
-use native.Mathlib.Numerals.{add-one}
 use native.Mathlib.Omega.{arith}
 use native.Mathlib.Decide.{ℕ-discrete}
 use mathlib.Core.Path.{_≡_, refl, sym, _∙_, ap, ap₂, subst}
@@ -8,8 +7,7 @@ use mathlib.Core.Bool.{Bool, true, false, not, _&&_}
 use mathlib.Core.Option.{Option, none, some}
 use mathlib.Core.List.{List, [], _∷_}
 use borrow.Author.Tests.{eq-eqb, ne-eqb}
-use lib.ListN.{length, getD, drop, drop-of-length-le}
-use lib.Seq.{drop-cons}
+use lib.ListN.{length, getD, drop}
 use lib.Dec.{T, eqb}
 use lib.IntN.{ℤ, pos, negsuc}
 use mir.Syntax.{w64}
@@ -17,6 +15,7 @@ use mir.Val.{SFits, toZ, ofZ}
 use mir.Facts.{toZ-ofZ}
 use Rattle.lists.proofs.Options.{some-none}
 use Rattle.lists.proofs.Tests.{true→}
+use Rattle.lists.proofs.Lists.{eq-list-step, eq-list-done}
 use Rattle.calculus.specs.LinearForms.{scale, isZero, eqℤ, eqIntegers, allZero}
 use Rattle.calculus.specs.Facts.{Fact, same, notSame, isLiteral, arithmetic, Relation, ge, eq, ne, holds}
 use Rattle.calculus.specs.Rules.{guard, isFalse, joinOf, statesZero}
@@ -112,19 +111,15 @@ joined-second e (arithmetic ne g) h = refl
 
 -- ---- two rows, from place j on
 
-eqRow-step : (a b : List ℤ) (j : ℕ) → j < length a → j < length b
-    → eqIntegers (drop j a) (drop j b) ≡ (eqℤ (getD a j (pos 0)) (getD b j (pos 0)) && eqIntegers (drop (j + 1) a) (drop (j + 1) b))
-eqRow-step a b j h k = rw (drop-cons a j (pos 0) h, drop-cons b j (pos 0) k, add-one)
-
 pub eqIntegers-fails : (a b : List ℤ) (j : ℕ) → j < length a → j < length b → eqℤ (getD a j (pos 0)) (getD b j (pos 0)) ≡ false → eqIntegers (drop j a) (drop j b) ≡ false
-eqIntegers-fails a b j h k e = eqRow-step a b j h k ∙ rw e
+eqIntegers-fails a b j h k e = eq-list-step eqℤ a b j (pos 0) h k ∙ rw e
 
 pub eqIntegers-on : (a b : List ℤ) (j : ℕ) → j < length a → j < length b → eqℤ (getD a j (pos 0)) (getD b j (pos 0)) ≡ true
     → eqIntegers (drop (j + 1) a) (drop (j + 1) b) ≡ eqIntegers (drop j a) (drop j b)
-eqIntegers-on a b j h k e = sym (eqRow-step a b j h k ∙ rw e)
+eqIntegers-on a b j h k e = sym (eq-list-step eqℤ a b j (pos 0) h k ∙ rw e)
 
 pub eqIntegers-done : (a b : List ℤ) (j : ℕ) → length a ≤ j → length b ≤ j → eqIntegers (drop j a) (drop j b) ≡ true
-eqIntegers-done a b j h k = rw (drop-of-length-le a h, drop-of-length-le b k)
+eqIntegers-done a b j h k = eq-list-done eqℤ a b j h k
 
 pub scale-behind : (k : ℤ) (a : List ℤ) → drop 1 (scale k a) ≡ scale k (drop 1 a)
 scale-behind k [] = refl

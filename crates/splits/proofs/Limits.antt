@@ -3,13 +3,14 @@ use Prim.Native.Nat.{ℕ, zero, suc, _+_, _-_, _/_, _^_, _≤_, _<_}
 use native.Mathlib.Omega.{arith}
 use native.Mathlib.Decide.{ℕ-discrete, decLt}
 use mathlib.Core.Path.{_≡_, refl, sym, _∙_, ap, ap₂, subst}
-use mathlib.Core.Bool.{Bool, true, false, _&&_}
+use mathlib.Core.Bool.{Bool, true, false, _&&_, and-true}
 use mathlib.Core.Option.{Option, some}
 use mathlib.Core.List.{List, [], _∷_, _++_}
 use lib.ListN.{length, getD, length-append}
 use lib.Dec.{leb}
 use lib.IntN.{ℤ, pos, negsuc, negℤ, natAbs, _+ℤ_, _*ℤ_}
 use Rattle.lists.proofs.Every.{every-append}
+use Rattle.lists.proofs.Tests.{and-both}
 use Rattle.integers.proofs.Laws.{abs-neg, minus-one-*ℤ}
 use Rattle.calculus.specs.Limits.{numberLimit, factLimit}
 use Rattle.calculus.specs.LinearForms.{scale, above, below}
@@ -19,7 +20,6 @@ use Rattle.calculus.specs.Rules.{leastPower, lastChild}
 use Rattle.format.specs.Fields.{u16, u16s, within, allWithin}
 use Rattle.format.specs.StepForms.{rule}
 use Rattle.format.specs.Checking.{fits, orNone, childIn, factWithin, factsWithin, childrenWithin}
-use Rattle.format.proofs.Faults.{and-true}
 use Rattle.rows.specs.Rows.{branchOf}
 use Rattle.rows.specs.Work.{Fine}
 use Rattle.rows.proofs.Branches.{length-branch}
@@ -37,19 +37,15 @@ use Rattle.splits.proofs.Operands.{c-inj-operands, card-operands, branc
 
 -- ---- one child of all
 
-and-one : (t : Bool) → t ≡ (t && true)
-and-one true = refl
-and-one false = refl
-
 pub one-within : (f : Fact) → factWithin f ≡ factsWithin (f ∷ [])
 unfolding factsWithin
-one-within f = and-one (factWithin f)
+one-within f = sym (and-true (factWithin f))
 
 pub two-within : (o : Option (List (List Fact))) (c d : List Fact) → o ≡ some (c ∷ d ∷ []) → childrenWithin (orNone o) ≡ (factsWithin (orNone (childIn o 1)) && factsWithin (orNone (childIn o 2)))
 unfolding childrenWithin
 two-within o c d e =
     subst (λ (p : Option (List (List Fact))). childrenWithin (orNone p) ≡ (factsWithin (orNone (childIn p 1)) && factsWithin (orNone (childIn p 2)))) (sym e)
-    (ap (λ t. factsWithin c && t) (sym (and-one (factsWithin d))))
+    (ap (λ t. factsWithin c && t) (and-true (factsWithin d)))
 
 -- ---- Branch and Apart: only the constant of e − 1 and of −e − 1 can pass the limit
 
@@ -60,20 +56,20 @@ scale-within (z ∷ e) = ap₂ (λ (n : ℕ) (t : Bool). leb n numberLimit && t)
 
 first-within : (v : ℤ) (cs : List ℤ) → allWithin numberLimit cs ≡ true → within numberLimit v ≡ factsWithin (arithmetic ge (v ∷ cs) ∷ [])
 unfolding factsWithin allWithin
-first-within v cs h = and-one (within numberLimit v) ∙ ap (λ t. within numberLimit v && t) (sym h) ∙ and-one (within numberLimit v && allWithin numberLimit cs)
+first-within v cs h = sym (and-true (within numberLimit v)) ∙ ap (λ t. within numberLimit v && t) (sym h) ∙ sym (and-true (within numberLimit v && allWithin numberLimit cs))
 
 pub above-within : (e : List ℤ) (v : ℤ) → length e ≡ 49 → allWithin numberLimit e ≡ true → v ≡ getD e 0 (pos 0) +ℤ negsuc 0 → within numberLimit v ≡ factsWithin (arithmetic ge (above e) ∷ [])
 unfolding allWithin
 above-within [] v l h q = absurd (omega arith)
 above-within (c ∷ cs) v l h q =
-    first-within v cs (and-true (within numberLimit c) (allWithin numberLimit cs) h .1)
+    first-within v cs (and-both (within numberLimit c) (allWithin numberLimit cs) h .1)
     ∙ ap (λ (r : List ℤ). factsWithin (arithmetic ge r ∷ [])) (ap (λ (z : ℤ). z ∷ cs) q ∙ sym (above-form c cs (omega arith)))
 
 pub below-within : (e : List ℤ) (v : ℤ) → length e ≡ 49 → allWithin numberLimit e ≡ true → v ≡ (negsuc 0 *ℤ getD e 0 (pos 0)) +ℤ negsuc 0 → within numberLimit v ≡ factsWithin (arithmetic ge (below e) ∷ [])
 unfolding allWithin
 below-within [] v l h q = absurd (omega arith)
 below-within (c ∷ cs) v l h q =
-    first-within v (scale (negsuc 0) cs) (scale-within cs ∙ and-true (within numberLimit c) (allWithin numberLimit cs) h .1)
+    first-within v (scale (negsuc 0) cs) (scale-within cs ∙ and-both (within numberLimit c) (allWithin numberLimit cs) h .1)
     ∙ ap (λ (r : List ℤ). factsWithin (arithmetic ge r ∷ [])) (ap (λ (z : ℤ). z ∷ scale (negsuc 0) cs) q ∙ sym (below-form c cs (omega arith)))
 
 -- ---- the children of each rule

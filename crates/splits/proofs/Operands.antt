@@ -9,6 +9,7 @@ use borrow.Author.Tests.{eqb-false, not-true}
 use lib.ListN.{length, drop}
 use lib.Dec.{eqb}
 use lib.IntN.{ℤ}
+use Rattle.lists.proofs.Tests.{and-both}
 use Rattle.calculus.specs.Limits.{columnLimit, numberLimit}
 use Rattle.calculus.specs.Facts.{Branch}
 use Rattle.calculus.specs.Children.{branchChildren, apartChildren, lValidChildren, cValidChildren, cInjChildren, pairChildren}
@@ -17,7 +18,6 @@ use Rattle.format.specs.Fields.{u16, u16s, i32, pairsAt, within}
 use Rattle.format.specs.Question.{rising, formRange, formOf}
 use Rattle.format.specs.Checking.{fits}
 use Rattle.format.specs.StepForms.{ruleOf, formFor, areVariables, operandsInRange, stepOf}
-use Rattle.format.proofs.Faults.{and-true}
 use Rattle.format.proofs.Decoded.{below→}
 use Rattle.constraints.proofs.Ranges.{form-rises}
 use Rattle.question.specs.declared.Progress.{Progress}
@@ -62,7 +62,7 @@ module _ {b : List ℕ} {s : Progress} {at m : ℕ} {w : List ℤ} {count : ℕ}
       let few = h .posed .stands .few-strings in
       let fewer = h .posed .stands .few-integers in
       let form = ranged h 2 e in
-      (l, omega arith, ap₂ _&&_ (and-true (within numberLimit (i32 b (at + 4))) (rising (s .q + (s .p + s .p)) 0 (pairsAt b (at + 4 + 4) ((m - 8) / 6))) form .0) (form-rises b (s .q + (s .p + s .p)) (at + 4) ((m - 8) / 6) (omega arith) form))
+      (l, omega arith, ap₂ _&&_ (and-both (within numberLimit (i32 b (at + 4))) (rising (s .q + (s .p + s .p)) 0 (pairsAt b (at + 4 + 4) ((m - 8) / 6))) form .0) (form-rises b (s .q + (s .p + s .p)) (at + 4) ((m - 8) / 6) (omega arith) form))
 
   -- Apart: the fact
   pub apart-operands : 3 ≡ u16 b at → at + 4 + 2 ≤ length b

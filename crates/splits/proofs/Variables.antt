@@ -3,24 +3,26 @@ use Prim.Native.Nat.{ℕ, zero, suc, _+_, _*_, _-_, _≤_, _<_}
 use native.Mathlib.Numerals.{add-one}
 use native.Mathlib.Omega.{arith}
 use mathlib.Core.Path.{_≡_, refl, sym, _∙_, ap, subst}
-use mathlib.Core.Bool.{Bool, true, false, not, _&&_, _||_}
+use mathlib.Core.Bool.{true, false, not, _&&_, _||_}
 use mathlib.Core.List.{List, [], _∷_}
-use borrow.Author.Tests.{eq-eqb, ne-eqb, ltb-true}
+use borrow.Author.Tests.{eq-eqb, ne-eqb, ltb-true, not-true}
 use lib.ListN.{getD}
 use lib.Dec.{ltb}
+use Rattle.lists.proofs.Lists.{down}
+use Rattle.lists.proofs.Tests.{and-both}
 use Rattle.calculus.specs.Facts.{Question, Branch}
 use Rattle.calculus.specs.Children.{pairChildren}
 use Rattle.calculus.specs.Rules.{guard, among, distinct, neighbours, sameLength, lastChild, cardChildren, statesEqual}
 use Rattle.format.specs.Fields.{u16, u16s}
 use Rattle.format.specs.StepForms.{areVariables}
-use Rattle.format.proofs.Faults.{and-true, not-both}
+use Rattle.format.proofs.Faults.{not-both}
 use Rattle.format.proofs.Fields.{field-at, length-u16s}
 
 -- the first of them and the others
 pub u16s-more : (b : List ℕ) (i left : ℕ) → 0 < left → u16s b i left ≡ u16 b i ∷ u16s b (i + 2) (left - 1)
 unfolding u16s
 u16s-more b i zero h = absurd (omega arith)
-u16s-more b i (suc n) h = let e : suc n - 1 ≡ n = omega arith in rw e
+u16s-more b i (suc n) h = rw (down n)
 
 pub u16s-done : (b : List ℕ) (i left : ℕ) → left ≤ 0 → u16s b i left ≡ []
 unfolding u16s
@@ -51,13 +53,9 @@ distinct-no b i left h e = ap distinct (u16s-more b i left h) ∙ ap (λ t. not 
 pub distinct-yes : (b : List ℕ) (i left : ℕ) → 0 < left → among (u16 b i) (u16s b (i + 2) (left - 1)) ≡ false → distinct (u16s b i left) ≡ distinct (u16s b (i + 2) (left - 1))
 distinct-yes b i left h e = ap distinct (u16s-more b i left h) ∙ ap (λ t. not t && distinct (u16s b (i + 2) (left - 1))) e
 
-not-true : (t : Bool) → not t ≡ true → t ≡ false
-not-true true e = sym e
-not-true false e = refl
-
 distinct-parts : (b : List ℕ) (i others : ℕ) → distinct (u16s b i (others + 1)) ≡ true → (among (u16 b i) (u16s b (i + 2) others) ≡ false) × (distinct (u16s b (i + 2) others) ≡ true)
 distinct-parts b i others e =
-    let (p, q) = and-true (not (among (u16 b i) (u16s b (i + 2) others))) (distinct (u16s b (i + 2) others)) (sym (ap distinct (u16s-one-more b i others)) ∙ e) in
+    let (p, q) = and-both (not (among (u16 b i) (u16s b (i + 2) others))) (distinct (u16s b (i + 2) others)) (sym (ap distinct (u16s-one-more b i others)) ∙ e) in
     (not-true _ p, q)
 
 recount : (others : ℕ) → 0 < others → others - 1 + 1 ≡ others
@@ -74,17 +72,16 @@ neighbours-differ b i others h e q =
 -- ---- variables below p
 
 pub below-first : (b : List ℕ) (p i left : ℕ) → 0 < left → areVariables p (u16s b i left) ≡ true → u16 b i < p
-below-first b p i left h e = ltb-true (u16 b i) p (and-true (ltb (u16 b i) p) (areVariables p (u16s b (i + 2) (left - 1))) (sym (ap (areVariables p) (u16s-more b i left h)) ∙ e) .0)
+below-first b p i left h e = ltb-true (u16 b i) p (and-both (ltb (u16 b i) p) (areVariables p (u16s b (i + 2) (left - 1))) (sym (ap (areVariables p) (u16s-more b i left h)) ∙ e) .0)
 
 pub below-others : (b : List ℕ) (p i left : ℕ) → 0 < left → areVariables p (u16s b i left) ≡ true → areVariables p (u16s b (i + 2) (left - 1)) ≡ true
-below-others b p i left h e = and-true (ltb (u16 b i) p) (areVariables p (u16s b (i + 2) (left - 1))) (sym (ap (areVariables p) (u16s-more b i left h)) ∙ e) .1
+below-others b p i left h e = and-both (ltb (u16 b i) p) (areVariables p (u16s b (i + 2) (left - 1))) (sym (ap (areVariables p) (u16s-more b i left h)) ∙ e) .1
 
 pub below-at : (b : List ℕ) (p i n j : ℕ) → j < n → areVariables p (u16s b i n) ≡ true → u16 b (i + 2 * j) < p
 below-at b p i zero j h e = absurd (omega arith)
 below-at b p i (suc n) zero h e = let q : i + 2 * 0 ≡ i = omega arith in rw q (below-first b p i (suc n) (omega arith) e)
 below-at b p i (suc n) (suc j) h e =
-    let r : suc n - 1 ≡ n = omega arith in
-    let q : i + 2 * suc j ≡ i + 2 + 2 * j = omega arith in rw q (below-at b p (i + 2) n j (omega arith) (subst (λ l. areVariables p (u16s b (i + 2) l) ≡ true) r (below-others b p i (suc n) (omega arith) e)))
+    let q : i + 2 * suc j ≡ i + 2 + 2 * j = omega arith in rw q (below-at b p (i + 2) n j (omega arith) (subst (λ l. areVariables p (u16s b (i + 2) l) ≡ true) (down n) (below-others b p i (suc n) (omega arith) e)))
 
 pub below-later : (b : List ℕ) (p i others j : ℕ) → j < others → areVariables p (u16s b i (others + 1)) ≡ true → u16 b (i + 2 + 2 * j) < p
 below-later b p i others j h e =

@@ -11,6 +11,7 @@ use lib.ListN.{length, getD, replicate, length-replicate}
 use lib.Dec.{leb, eqb}
 use borrow.Author.Tests.{le-leb, lt-leb, ne-eqb}
 use Rattle.lists.specs.Lists.{All}
+use Rattle.lists.proofs.Lists.{down}
 use Rattle.calculus.specs.Alphabet.{characterCount}
 use Rattle.calculus.specs.Steps.{pairCount, lastCount, shape}
 use Rattle.format.specs.Fields.{u16}
@@ -33,7 +34,7 @@ pairs-few m h = mul-le-mul {n₂ = 16} {m₂ = 15} h (omega arith)
 -- the number of pairs among m
 pub pairs-halved : (m : ℕ) → m * (m - 1) / 2 ≡ pairCount m
 pairs-halved zero = refl
-pairs-halved (suc m) = let e : suc m - 1 ≡ m = omega arith in rw e (div-eq-of-eq-mul-right {n = 2} (omega arith) (sym (twice m)))
+pairs-halved (suc m) = rw (down m) (div-eq-of-eq-mul-right {n = 2} (omega arith) (sym (twice m)))
 
 pub last-left-out : (n : ℕ) → n < 2 → lastCount n ≡ 0
 last-left-out zero h = refl

@@ -9,11 +9,11 @@ use lib.ListN.{length}
 use lib.Dec.{T, leb, eqb}
 use borrow.Author.Tests.{leb-true, eqb-true, ne-eqb}
 use Rattle.lists.specs.Lists.{allBelow}
-use Rattle.lists.proofs.Tests.{→true}
+use Rattle.lists.proofs.Tests.{→true, and-both}
 use Rattle.lists.proofs.Below.{all-below→}
 use Rattle.calculus.specs.Steps.{shape, pairCount}
 use Rattle.format.specs.StepForms.{Rule, sum, branch, apart, aConf, sConf, sProp, lIntro, lValid, cCollapse, cValid, cInj, card, join, unknown, ruleOf, formFor, fitsForm, rule, lengthFits, operandsInRange, stepOf, stepAt, isChild}
-use Rattle.format.proofs.Faults.{and-true, not-both}
+use Rattle.format.proofs.Faults.{not-both}
 use Rattle.format.proofs.Decoded.{at-least}
 use Rattle.steps.specs.Conclusions.{conclusionsOf}
 use Rattle.steps.specs.declared.Conclusions.{Conclusions}
@@ -143,7 +143,7 @@ module _ (b : List ℕ) (n at m : ℕ) where
 pub child-between : (sh : List ℕ) (k : ℕ) → 1 ≤ length sh → isChild sh k ≡ true → (1 ≤ k) × (k ≤ length sh)
 child-between [] k h e = absurd (omega arith)
 child-between (c ∷ sh) k h e =
-    let (l, g) = and-true (leb 1 k) (leb k (suc (length sh))) e in (leb-true 1 k l, leb-true k (suc (length sh)) g)
+    let (l, g) = and-both (leb 1 k) (leb k (suc (length sh))) e in (leb-true 1 k l, leb-true k (suc (length sh)) g)
 
 -- "it is 1 for a rule with one conclusion or none"
 pub only-child : (b : List ℕ) (n at m k : ℕ) → lengthFits b at m ≡ true → conclusionsOf (rule b at) ≡ One → isChild (shape n (stepAt b at m)) k ≡ true → k ≡ 1

@@ -8,7 +8,8 @@ use mathlib.Core.List.{List, [], _∷_, map}
 use lib.ListN.{length, getD, getElem?, length-map}
 use lib.IntN.{ℤ}
 use borrow.Author.Tests.{leb-true}
-use Rattle.lists.proofs.Lists.{getD-map}
+use Rattle.lists.proofs.Lists.{getD-map, down}
+use Rattle.lists.proofs.Tests.{and-both}
 use Rattle.calculus.specs.Limits.{factLimit}
 use Rattle.calculus.specs.Facts.{Question, Fact, Branch}
 use Rattle.calculus.specs.Children.{childAt}
@@ -19,7 +20,7 @@ use Rattle.format.specs.Fields.{u16}
 use Rattle.format.specs.Records.{need}
 use Rattle.format.specs.StepForms.{ruleOf, stepOf, stepAt}
 use Rattle.format.specs.Checking.{fits, orNone, factsWithin, childrenWithin, room, takenTried, childIn}
-use Rattle.format.proofs.Faults.{none-applies, and-true, not-both}
+use Rattle.format.proofs.Faults.{none-applies, not-both}
 use Rattle.question.specs.declared.Progress.{Progress}
 use Rattle.question.specs.Posed.{asked}
 use Rattle.steps.specs.Offered.{offered}
@@ -53,7 +54,7 @@ child-number cs (suc j) e = let l = below cs j e in (omega arith, omega arith)
 
 pub child-at : {A : Type 0} (cs : List (List A)) (k : ℕ) → 1 ≤ k → orNone (childAt cs k) ≡ getD cs (k - 1) []
 child-at cs zero h = absurd (omega arith)
-child-at cs (suc j) h = let e : suc j - 1 ≡ j = omega arith in element cs j ∙ ap (λ i. getD cs i []) (sym e)
+child-at cs (suc j) h = element cs j ∙ ap (λ i. getD cs i []) (sym (down j))
 
 -- ---- of a step's children
 
@@ -98,8 +99,8 @@ unfolding childrenWithin factsWithin
 child-in-within none k e = refl
 child-in-within (some cs) zero e = refl
 child-in-within (some []) (suc j) e = refl
-child-in-within (some (c ∷ cs)) (suc zero) e = and-true (factsWithin c) (childrenWithin cs) e .0
-child-in-within (some (c ∷ cs)) (suc (suc j)) e = child-in-within (some cs) (suc j) (and-true (factsWithin c) (childrenWithin cs) e .1)
+child-in-within (some (c ∷ cs)) (suc zero) e = and-both (factsWithin c) (childrenWithin cs) e .0
+child-in-within (some (c ∷ cs)) (suc (suc j)) e = child-in-within (some cs) (suc j) (and-both (factsWithin c) (childrenWithin cs) e .1)
 
 pub its-shape : {b : List ℕ} {s : Progress} {at m : ℕ} {w : List ℤ} {count : ℕ} (h : Ready b s at m w count) → fits (given h) ≡ true → map length (orNone (given h)) ≡ shape (s .n) (stepAt b at m)
 unfolding asked offered

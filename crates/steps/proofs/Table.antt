@@ -9,10 +9,10 @@ use lib.ListN.{getD, List·getD-eq-default}
 use lib.Dec.{leb, eqb}
 use borrow.Author.Tests.{leb-true}
 use Rattle.lists.proofs.Lists.{getD-map}
+use Rattle.lists.proofs.Tests.{and-both}
 use Rattle.format.specs.Fields.{u16}
 use Rattle.format.specs.StepForms as format
 use Rattle.format.specs.StepForms.{Rule, sum, branch, apart, aConf, sConf, sProp, lIntro, lValid, cCollapse, cValid, cInj, card, join, unknown, ruleNames, ruleOf, formFor, fitsForm, lengthFits}
-use Rattle.format.proofs.Faults.{and-true}
 use Rattle.steps.specs.Forms.{stepForm}
 use Rattle.steps.specs.declared.Form.{Form}
 
@@ -25,7 +25,7 @@ entry-right k d h = ap stepForm (getD-map entryOf ruleNames k unknown d h)
 
 -- a length that fits is at least the least, and at most so many strides more
 pub at-most : (f : format.Form) (m : ℕ) → fitsForm f m ≡ true → (m - f .least) / f .stride ≤ f .greatest
-at-most f m e = leb-true _ (f .greatest) (and-true (eqb ((m - f .least) % f .stride) 0) _ (and-true (leb (f .least) m) _ e .1) .1)
+at-most f m e = leb-true _ (f .greatest) (and-both (eqb ((m - f .least) % f .stride) 0) _ (and-both (leb (f .least) m) _ e .1) .1)
 
 -- the form by the rule's number
 pub fits-by : (b : List ℕ) (at m k : ℕ) → k ≡ u16 b at → lengthFits b at m ≡ true → fitsForm (formFor (ruleOf k)) m ≡ true

@@ -1,15 +1,16 @@
 -- Words filled from the right, strings compared from the front, and the first that is not given: one turn of each loop.
 use Prim.Native.Nat.{ℕ, zero, suc, _+_, _*_, _-_, _/_, _%_, _^_, _≤_, _<_}
 use native.Mathlib.Nat.{pow-zero, pow-suc, pow-succ', one-le-pow, mod-lt, div-one, mul-one, div-div-eq-div-mul, zero-div, zero-mod}
-use native.Mathlib.Numerals.{add-one}
 use native.Mathlib.Omega.{arith}
 use mathlib.Core.Path.{_≡_, refl, sym, _∙_, ap, ap₂}
-use mathlib.Core.Bool.{Bool, true, false, _&&_, and-false}
+use mathlib.Core.Bool.{Bool, true, false, _&&_}
 use mathlib.Core.List.{List, [], _∷_, _++_, append-assoc, append-nil}
 use lib.Arith.{mod-mul, digits-div, digits-mod}
 use lib.Dec.{eqb}
 use lib.ListN.{length, getD, take, drop, set, replicate, length-set, drop-of-length-le, take-append-drop}
 use lib.Seq.{take-set-lt, take-set-le, take-take, drop-cons, getD-set-same, drop-set-lt, length-take-le}
+use Rattle.lists.proofs.Lists.{down, eq-list-step, eq-list-done, eq-list-lengths}
+use Rattle.lists.proofs.Every.{take-zero}
 use Rattle.calculus.specs.Strings.{word, eqString, given, freshFrom}
 
 -- ---- the last character of a word is the remainder by n
@@ -59,8 +60,7 @@ pub digit : (n m k i rest : ℕ) (out : List ℕ) → 1 ≤ n → 1 < i → i �
 digit n m k zero rest out p z h r e = absurd (omega arith)
 digit n m k (suc zero) rest out p z h r e = absurd (omega arith)
 digit n m k (suc (suc j)) rest out p z h r e =
-    let down : suc (suc j) - 1 ≡ suc j = omega arith in
-    ap (λ (i : ℕ). word n i (rest / n) ++ drop i (take m (set out i (rest % n)))) down
+    ap (λ (i : ℕ). word n i (rest / n) ++ drop i (take m (set out i (rest % n)))) (down (suc j))
     ∙ ap (λ (l : List ℕ). word n (suc j) (rest / n) ++ l) (filled-left out m (suc j) (rest % n) (omega arith) r)
     ∙ sym (ap (λ (l : List ℕ). l ++ drop (suc (suc j)) (take m out)) (word-snoc n p j rest) ∙ append-assoc (word n (suc j) (rest / n)) (rest % n ∷ []) (drop (suc (suc j)) (take m out)))
     ∙ e
@@ -76,12 +76,11 @@ digits-done n m k (suc zero) rest out g h l r e =
 digits-done n m k (suc (suc i)) rest out g h l r e = absurd (omega arith)
 
 pub none-taken : (l : List ℕ) → take 0 l ≡ []
-none-taken [] = refl
-none-taken (x ∷ l) = refl
+none-taken l = take-zero l
 
 -- the front is zeros
 pub zeros : (i k : ℕ) → i ≤ k → take {A = ℕ} i (replicate k 0) ≡ replicate i 0
-zeros zero k h = none-taken (replicate k 0)
+zeros zero k h = take-zero (replicate k 0)
 zeros (suc i) zero h = absurd (omega arith)
 zeros (suc i) (suc k) h = ap (λ (l : List ℕ). 0 ∷ l) (zeros i k (omega arith))
 
@@ -103,25 +102,20 @@ digits-over n m k i rest out z h f e =
     ∙ e
 
 pub no-digits : (n m k : ℕ) (out : List ℕ) → m ≡ 0 → take m out ≡ word n m k
-no-digits n m k out e = ap (λ (i : ℕ). take i out) e ∙ none-taken out ∙ sym (ap (λ (i : ℕ). word n i k) e)
+no-digits n m k out e = ap (λ (i : ℕ). take i out) e ∙ take-zero out ∙ sym (ap (λ (i : ℕ). word n i k) e)
 
 -- ---- strings, character by character
 
 module _ (a b : List ℕ) (i : ℕ) (h : i < length a) (k : i < length b) where
   pub same-more : eqString (drop i a) (drop i b) ≡ (eqb (getD a i 0) (getD b i 0) && eqString (drop (i + 1) a) (drop (i + 1) b))
-  same-more =
-      ap₂ eqString (drop-cons a i 0 h) (drop-cons b i 0 k)
-      ∙ ap (λ (j : ℕ). eqb (getD a i 0) (getD b i 0) && eqString (drop j a) (drop j b)) (sym (add-one i))
+  same-more = eq-list-step eqb a b i 0 h k
 
 pub same-done : (a b : List ℕ) (i : ℕ) → length a ≤ i → length b ≤ i → eqString (drop i a) (drop i b) ≡ true
-same-done a b i h k = ap₂ eqString (drop-of-length-le a h) (drop-of-length-le b k)
+same-done a b i h k = eq-list-done eqb a b i h k
 
 -- strings of different lengths differ
 pub same-lengths : (s t : List ℕ) → (length s ≡ length t → ⊥) → eqString s t ≡ false
-same-lengths [] [] h = absurd (h refl)
-same-lengths [] (d ∷ t) h = refl
-same-lengths (c ∷ s) [] h = refl
-same-lengths (c ∷ s) (d ∷ t) h = ap (λ (a : Bool). eqb c d && a) (same-lengths s t (λ e. h (ap suc e))) ∙ and-false (eqb c d)
+same-lengths s t h = eq-list-lengths eqb s t h
 
 -- ---- the first that is not given
 
@@ -139,13 +133,10 @@ module _ (n m : ℕ) (ts : List (List ℕ)) (k : ℕ) where
 
   pub fresh-no : (d : ℕ) → 0 < d → given (word n m k) ts ≡ true → freshFrom d n m ts k ≡ freshFrom (d - 1) n m ts (k + 1)
   fresh-no zero h e = absurd (omega arith)
-  fresh-no (suc d) h e = ap (onward d) e ∙ ap₂ (λ (a i : ℕ). freshFrom a n m ts i) less one
+  fresh-no (suc d) h e = ap (onward d) e ∙ ap₂ (λ (a i : ℕ). freshFrom a n m ts i) (sym (down d)) one
     where
       one : suc k ≡ k + 1
       one = omega arith
-
-      less : d ≡ suc d - 1
-      less = omega arith
 
 -- it depends on which strings are given only
 pub fresh-same : (n m d : ℕ) (ts ss : List (List ℕ)) (k : ℕ) → ((w : List ℕ) → given w ts ≡ given w ss) → freshFrom d n m ts k ≡ freshFrom d n m ss k

@@ -14,11 +14,12 @@ use Rattle.integers.proofs.Ring.{v, _⊕_, _⊗_, le-by, lt-by}
 use Rattle.integers.proofs.Laws.{one-*ℤ, pos-≤ℤ, ≤ℤ-trans, abs-nonneg, ≤ℤ-abs, floor-multiple}
 use Rattle.integers.proofs.Machine.{quot-multiple}
 use Rattle.lists.proofs.Options.{some-injective, none-some, some-none}
-use Rattle.calculus.specs.LinearForms.{scale, eqIntegers, floorDiv, floorDivAll}
+use Rattle.integers.specs.Division.{floorDiv}
+use Rattle.calculus.specs.LinearForms.{scale, eqIntegers, floorDivAll}
 use Rattle.calculus.specs.Facts.{arithmetic, ge}
 use Rattle.calculus.specs.Rules.{guard, then, divided}
 use Rattle.calculus.specs.Instances.{entry}
-use Rattle.calculus.proofs.Entries.{entry-scale, length-scale, floor-same, length-floorDivAll, →divided}
+use Rattle.calculus.proofs.Entries.{entry-scale, length-scale, length-floorDivAll, →divided}
 use Rattle.rows.specs.Rows.{factOf}
 use Rattle.rows.proofs.Tags.{relation-fact}
 use Rattle.sums.specs.Sums.{geRow, rowIn, factIn}
@@ -33,7 +34,7 @@ positive-is d h = (abs-nonneg d (≤ℤ-trans (pos-≤ℤ (omega arith)) h), ≤
 pub exact-yes : (x : ℤ) (n : ℕ) → 1 ≤ n → quotZ x (pos n) *ℤ pos n ≡ x → (pos n *ℤ floorDiv x n ≡ x) × (quotZ x (pos n) ≡ floorDiv x n)
 exact-yes x n h e =
     let back : pos n *ℤ quotZ x (pos n) ≡ x = *ℤ-comm (pos n) (quotZ x (pos n)) ∙ e in
-    let same : floorDiv x n ≡ quotZ x (pos n) = ap (λ z. floorDiv z n) (sym back) ∙ floor-same (pos n *ℤ quotZ x (pos n)) n ∙ floor-multiple (quotZ x (pos n)) n h in
+    let same : floorDiv x n ≡ quotZ x (pos n) = ap (λ z. floorDiv z n) (sym back) ∙ floor-multiple (quotZ x (pos n)) n h in
     (ap (λ z. pos n *ℤ z) same ∙ back, sym same)
 
 pub exact-no : (x : ℤ) (n : ℕ) → 1 ≤ n → (quotZ x (pos n) *ℤ pos n ≡ x → ⊥) → pos n *ℤ floorDiv x n ≡ x → ⊥

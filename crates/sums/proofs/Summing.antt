@@ -8,13 +8,13 @@ use mathlib.Core.List.{List, _∷_}
 use borrow.Author.Tests.{leb-true}
 use lib.ListN.{length, getD, drop}
 use lib.IntN.{ℤ, pos, natAbs}
+use Rattle.lists.proofs.Tests.{and-both}
 use Rattle.calculus.specs.Limits.{numberLimit}
 use Rattle.calculus.specs.LinearForms.{zeros}
 use Rattle.calculus.specs.Rules.{summand, sumOf}
 use Rattle.format.specs.Fields.{u16, i32, pairsAt, within, allWithin}
 use Rattle.format.specs.StepForms.{multipliersWithin}
 use Rattle.format.specs.Checking.{fits}
-use Rattle.format.proofs.Faults.{and-true}
 use Rattle.format.proofs.Pairs.{next-pair, no-pair, all-pairs}
 use Rattle.rows.specs.Rows.{factOf, rowAt, branchOf}
 use Rattle.rows.specs.Work.{Within, Fine}
@@ -63,7 +63,7 @@ module _ (w : List ℤ) (count : ℕ) (b : List ℕ) (at n : ℕ) where
 
     split : (within numberLimit multiplier ≡ true) × (multipliersWithin (pairsAt b (at + 6 * (i + 1)) (n - (i + 1))) ≡ true)
     unfolding multipliersWithin
-    split = and-true (within numberLimit multiplier) (multipliersWithin (pairsAt b (at + 6 * (i + 1)) (n - (i + 1)))) (ap multipliersWithin (sym (next-pair b at n i h)) ∙ s .multipliers)
+    split = and-both (within numberLimit multiplier) (multipliersWithin (pairsAt b (at + 6 * (i + 1)) (n - (i + 1)))) (ap multipliersWithin (sym (next-pair b at n i h)) ∙ s .multipliers)
 
     pub multiplier-small : natAbs multiplier ≤ numberLimit
     multiplier-small = leb-true (natAbs multiplier) numberLimit (split .0)

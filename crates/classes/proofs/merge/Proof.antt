@@ -4,8 +4,8 @@ use borrow.Author.Needs.{needs}
 use lib.ListN.{length}
 use mathlib.Core.Path.{_∙_, _≡_, ap₂}
 use native.Mathlib.Omega.{arith}
+use Rattle.lists.proofs.Lists.{getD-any}
 use Rattle.calculus.specs.Classes.{relabel}
-use Rattle.classes.proofs.Laws.{getD-any}
 use Rattle.classes.proofs.merge.Statement.{statement}
 use Rattle.classes.proofs.merge.Tie as tie
 

@@ -4,7 +4,7 @@ use lib.Dec.{eqb}
 use lib.ListN.{length}
 use mathlib.Core.Path.{_≡_, ap₂}
 use native.Mathlib.Omega.{arith}
-use Rattle.classes.proofs.Laws.{getD-any}
+use Rattle.lists.proofs.Lists.{getD-any}
 use Rattle.classes.proofs.same_class.Statement.{statement}
 use Rattle.classes.proofs.same_class.Tie as tie
 

@@ -11,9 +11,10 @@ use Rattle.calculus.specs.Meaning.{str}
 use Rattle.calculus.specs.Strings.{eqString}
 use Rattle.format.specs.Fields.{u16}
 use Rattle.format.specs.Places.{literalsFrom, texts, textAt}
+use Rattle.format.proofs.RecordFaults.{string-constraint-formed}
 use Rattle.question.proofs.Posed.{literals-to}
 use Rattle.question.specs.Posed.{asked}
-use Rattle.judging.proofs.Constraints.{not-same-met, literal-met, same-met, string-ranges, text-is, text-room}
+use Rattle.judging.proofs.Constraints.{not-same-met, literal-met, same-met, text-is, text-room}
 use Rattle.judging.specs.Ready.{valuesOf}
 use Rattle.judging.proofs.string_met.Statement.{statement}
 use Rattle.judging.proofs.string_met.Tie as tie
@@ -39,13 +40,13 @@ mul-i c = search needs
 shared-slice-read-i : tie.Need-shared-slice-read-i
 shared-slice-read-i c =
     let s = c .before .before .before .before .before .before .before in
-    let x = string-ranges (now (s .args .b)) (s .args .s .p) (s .args .s .literals) (s .args .at) (s .pre .2) .first in
+    let x = string-constraint-formed (now (s .args .b)) (s .args .s .p) (s .args .s .literals) (s .args .at) 6 (s .pre .2) .first in
     omega (arith, c .before .before .u16-at2 .ensures .0, s .pre .0 .enough)
 
 is-literal-requires : tie.Need-is-literal-requires
 is-literal-requires c κs =
     let s = c .before .before .before .before .before .before .before .before in
-    let r = string-ranges (now (s .args .b)) (s .args .s .p) (s .args .s .literals) (s .args .at) (s .pre .2) in
+    let r = string-constraint-formed (now (s .args .b)) (s .args .s .p) (s .args .s .literals) (s .args .at) 6 (s .pre .2) in
     let two : u16 (now (s .args .b)) (s .args .at) ≡ 2 = sym (c .before .before .before .before .u16-at .ensures .0) ∙ c .if1 .taken in
     rw (c .before .before .before .u16-at2 .ensures .0, c .before .before .u16-at3 .ensures .0) (
       text-room (now (s .args .b)) (now (s .args .v)) (s .args .s) (now (s .args .places)) (s .pre .0) (u16 (now (s .args .b)) (s .args .at + 2)) (r .first),
@@ -59,7 +60,7 @@ returns c =
     let b = now (s .args .b) in
     let v = now (s .args .v) in
     let k = s .args .s .literals in
-    let r = string-ranges b (s .args .s .p) k (s .args .at) (s .pre .2) in
+    let r = string-constraint-formed b (s .args .s .p) k (s .args .at) 6 (s .pre .2) in
     let two : u16 b (s .args .at) ≡ 2 = sym (c .before .before .before .before .before .u16-at .ensures .0) ∙ c .before .if1 .taken in
     let few : c .before .before .before .u16-at3 .result ≤ k = omega (arith, c .before .before .before .u16-at3 .ensures .0, r .literal two) in
     c .is-literal .ensures k few
@@ -73,14 +74,14 @@ mul-same-strings c = search needs
 shared-slice-read-same-strings : tie.Need-shared-slice-read-same-strings
 shared-slice-read-same-strings c =
     let s = c .before .before .before .before .before .before .before .before .before in
-    let r = string-ranges (now (s .args .b)) (s .args .s .p) (s .args .s .literals) (s .args .at) (s .pre .2) in
+    let r = string-constraint-formed (now (s .args .b)) (s .args .s .p) (s .args .s .literals) (s .args .at) 6 (s .pre .2) in
     let y = r .second (λ e. c .before .if1 .left (c .before .before .before .before .before .u16-at .ensures .0 ∙ e)) in
     omega (arith, c .before .before .before .u16-at3 .ensures .0, s .pre .0 .enough)
 
 same-strings-requires : tie.Need-same-strings-requires
 same-strings-requires c κs =
     let s = c .before .before .before .before .before .before .before .before .before in
-    let r = string-ranges (now (s .args .b)) (s .args .s .p) (s .args .s .literals) (s .args .at) (s .pre .2) in
+    let r = string-constraint-formed (now (s .args .b)) (s .args .s .p) (s .args .s .literals) (s .args .at) 6 (s .pre .2) in
     let y = r .second (λ e. c .before .if1 .left (c .before .before .before .before .before .u16-at .ensures .0 ∙ e)) in
     rw (c .before .before .before .before .u16-at2 .ensures .0, c .before .before .before .u16-at3 .ensures .0) (
       text-room (now (s .args .b)) (now (s .args .v)) (s .args .s) (now (s .args .places)) (s .pre .0) (u16 (now (s .args .b)) (s .args .at + 2)) (r .first),
@@ -96,7 +97,7 @@ strings c =
     let s = c .before .before .before .before .before .before .before .before .before .before in
     let b = now (s .args .b) in
     let v = now (s .args .v) in
-    let r = string-ranges b (s .args .s .p) (s .args .s .literals) (s .args .at) (s .pre .2) in
+    let r = string-constraint-formed b (s .args .s .p) (s .args .s .literals) (s .args .at) 6 (s .pre .2) in
     let y = r .second (λ e. c .before .before .if1 .left (c .before .before .before .before .before .before .u16-at .ensures .0 ∙ e)) in
     c .same-strings .ensures
     ∙ ap₂ (λ (x y : ℕ). eqString (textAt v (getD (now (s .args .places)) x 0)) (textAt v (getD (now (s .args .places)) y 0))) (c .before .before .before .before .before .u16-at2 .ensures .0) (c .before .before .before .before .u16-at3 .ensures .0)
@@ -115,7 +116,7 @@ returns-3 c =
     let s = c .before .before .before .before .before .before .before .before .before .before .before in
     let b = now (s .args .b) in
     let v = now (s .args .v) in
-    let r = string-ranges b (s .args .s .p) (s .args .s .literals) (s .args .at) (s .pre .2) in
+    let r = string-constraint-formed b (s .args .s .p) (s .args .s .literals) (s .args .at) 6 (s .pre .2) in
     let not-two : u16 b (s .args .at) ≡ 2 → ⊥ = λ e. c .before .before .before .if1 .left (c .before .before .before .before .before .before .before .u16-at .ensures .0 ∙ e) in
     let not-zero : u16 b (s .args .at) ≡ 0 → ⊥ = λ e. c .if2 .left (c .before .before .before .before .before .before .before .u16-at .ensures .0 ∙ e) in
     let one : u16 b (s .args .at) ≡ 1 = omega (arith, r .relation) in

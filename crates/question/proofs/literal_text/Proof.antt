@@ -6,6 +6,7 @@ use Prim.Native.Nat.{ℕ, zero, suc, _+_, _-_, _/_, _≤_}
 use native.Mathlib.Omega.{arith}
 use denote.Ref.{now}
 use lib.ListN.{length, getD}
+use Rattle.lists.proofs.Lists.{down}
 use Rattle.format.specs.Fields.{u32s}
 use Rattle.format.specs.Records.{size, next}
 use Rattle.format.specs.Places.{skip, texts, literalsFrom}
@@ -20,10 +21,7 @@ empty b l k e = rw e
 -- the text of a written literal, at the position and of the size that were read
 written : (b : List ℕ) (l k at m : ℕ) → (l ≡ 0 → ⊥) → l ≤ k → at ≡ skip b (l - 1) literalsFrom → m ≡ size b at → u32s b (at + 6) (m / 4) ≡ getD ([] ∷ texts b k literalsFrom) l []
 written b zero k at m x h ea em = absurd (x refl)
-written b (suc l) k at m x h ea em = rw (em, ea, down) (sym (text-at b l k literalsFrom (omega arith)))
-  where
-    down : suc l - 1 ≡ l
-    down = omega arith
+written b (suc l) k at m x h ea em = rw (em, ea, down l) (sym (text-at b l k literalsFrom (omega arith)))
 
 -- it lies within the bytes
 body-there : (b : List ℕ) (l at : ℕ) → (l ≡ 0 → ⊥) → at ≡ skip b (l - 1) literalsFrom → skip b l literalsFrom ≤ length b → next b at ≤ length b

@@ -8,7 +8,7 @@ use mathlib.Core.Path.{_≡_, refl, sym}
 use mir.Syntax.{w64}
 use mir.Val.{ofZ}
 use native.Mathlib.Omega.{arith}
-use Rattle.rows.proofs.Tags.{from-bits, kind-not-same, kind-eq, kind-ge, kind-literal, kind-ne, kind-same}
+use Rattle.rows.proofs.Tags.{from-bits, tag-known, tag-other}
 use Rattle.rows.proofs.tag_of.Statement.{statement}
 use Rattle.rows.proofs.tag_of.Tie as tie
 
@@ -20,22 +20,22 @@ shared-slice-copy-out-tag : tie.Need-shared-slice-copy-out-tag
 shared-slice-copy-out-tag c = search needs
 
 returns : tie.Need-returns
-returns c = sym (kind-ge _ (tag-is (c .before) 0 (c .if1 .taken) (omega arith)))
+returns c = sym (tag-known _ 0 (omega arith) (tag-is (c .before) 0 (c .if1 .taken) (omega arith)))
 
 returns-2 : tie.Need-returns-2
-returns-2 c = sym (kind-eq _ (tag-is (c .before .before) 1 (c .if2 .taken) (omega arith)))
+returns-2 c = sym (tag-known _ 1 (omega arith) (tag-is (c .before .before) 1 (c .if2 .taken) (omega arith)))
 
 returns-3 : tie.Need-returns-3
-returns-3 c = sym (kind-same _ (tag-is (c .before .before .before) 3 (c .if3 .taken) (omega arith)))
+returns-3 c = sym (tag-known _ 3 (omega arith) (tag-is (c .before .before .before) 3 (c .if3 .taken) (omega arith)))
 
 returns-4 : tie.Need-returns-4
-returns-4 c = sym (kind-not-same _ (tag-is (c .before .before .before .before) 4 (c .if4 .taken) (omega arith)))
+returns-4 c = sym (tag-known _ 4 (omega arith) (tag-is (c .before .before .before .before) 4 (c .if4 .taken) (omega arith)))
 
 returns-5 : tie.Need-returns-5
-returns-5 c = sym (kind-literal _ (tag-is (c .before .before .before .before .before) 5 (c .if5 .taken) (omega arith)))
+returns-5 c = sym (tag-known _ 5 (omega arith) (tag-is (c .before .before .before .before .before) 5 (c .if5 .taken) (omega arith)))
 
 returns-6 : tie.Need-returns-6
-returns-6 c = sym (kind-ne _ _ refl (c .before .before .before .before .if1 .left) (c .before .before .before .if2 .left) (c .before .before .if3 .left) (c .before .if4 .left) (c .if5 .left))
+returns-6 c = sym (tag-other _ _ refl (c .before .before .before .before .if1 .left) (c .before .before .before .if2 .left) (c .before .before .if3 .left) (c .before .if4 .left) (c .if5 .left))
 
 pub tag-of-spec : {M : Type 1} → statement M
 tag-of-spec =

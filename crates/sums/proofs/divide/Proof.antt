@@ -13,7 +13,8 @@ use mir.Facts.{toZ-ofZ}
 use mir.Syntax.{w64}
 use mir.Val.{SFits, ofZ, toZ}
 use native.Mathlib.Omega.{arith}
-use Rattle.calculus.specs.LinearForms.{eqIntegers, floorDiv}
+use Rattle.integers.specs.Division.{floorDiv}
+use Rattle.calculus.specs.LinearForms.{eqIntegers}
 use Rattle.calculus.specs.Rules.{divided}
 use Rattle.integers.proofs.Machine.{back-fits, div-need}
 use Rattle.lists.proofs.Filled.{filled-all, filled-more, kept-at, kept-more}

@@ -1,11 +1,10 @@
 -- `sums::floor_div` meets its contract.
-use lib.IntN.{_-ℤ_, natAbs, negsuc, pos, ℤ}
+use lib.IntN.{_-ℤ_, negsuc, pos, ℤ}
 use lib.Signed.{quotZ}
-use mathlib.Core.Path.{_∙_, _≡_, ap, sym}
+use mathlib.Core.Path.{_∙_, _≡_, ap}
 use mir.Facts.{sfits-lit, toZ-ofZ}
 use mir.Syntax.{w64}
 use mir.Val.{SFits, ofZ, toZ}
-use Rattle.calculus.proofs.Entries.{floor-same}
 use Rattle.integers.proofs.Machine.{div-need, flip-fits, floor-down, floor-up, le-false, le-true, quot-fits}
 use Rattle.sums.proofs.floor_div.Statement.{statement}
 use Rattle.sums.proofs.floor_div.Tie as tie
@@ -38,14 +37,12 @@ returns c = let s = c .before in
     toZ-ofZ (div-result c .1)
     ∙ (rw (toZ-ofZ (s .fits .c), toZ-ofZ (s .fits .d))
     (floor-up (s .args .c) (s .args .d) (le-true {x = pos 0} (sfits-lit tt) (s .fits .c) (c .if1 .taken)) (s .pre)))
-    ∙ sym (floor-same (s .args .c) (natAbs (s .args .d)))
 
 returns-2 : tie.Need-returns-2
 returns-2 c = let s = c .before in
     toZ-ofZ (sub-result-2 c)
     ∙ (rw (plain c, toZ-ofZ (s .fits .d), toZ-ofZ (quotient c))
     (floor-down (s .args .c) (s .args .d) (le-false {x = pos 0} (sfits-lit tt) (s .fits .c) (c .if1 .left)) (s .pre)))
-    ∙ sym (floor-same (s .args .c) (natAbs (s .args .d)))
 
 pub floor-div-spec : {M : Type 1} → statement M
 floor-div-spec =
