@@ -1,4 +1,4 @@
--- The alphabet: "an alphabet of n characters numbered 0 to n−1". Nothing else compares a character with n.
+-- The alphabet: "an alphabet of n characters numbered 0 to n−1". Characters and their number are spoken of by these names alone.
 use Prim.Native.Nat.{ℕ, _-_, _<_}
 use mathlib.Core.Bool.{Bool}
 use mathlib.Core.List.{List}

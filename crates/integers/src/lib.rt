@@ -1,1 +1,1 @@
-// Laws of the integers, for other crates: see proofs/.
+// Division of the integers and their laws, for other crates: see specs/ and proofs/.
