@@ -1,5 +1,5 @@
 -- The stores that write the answer.
-use mathlib.Core.Path.{_≡_, refl, sym, _∙_, ap}
+use mathlib.Core.Path.{_≡_, sym, _∙_, ap}
 use mathlib.Core.List.{List, [], _∷_, _++_, append-assoc, flatMap}
 use Prim.Native.Nat.{ℕ, zero, suc, _+_, _*_, _≤_, _<_}
 use native.Mathlib.Numerals.{add-one}
@@ -11,7 +11,7 @@ use lib.IntN.{ℤ, pos}
 use Rattle.lists.specs.Lists.{All}
 use Rattle.lists.proofs.Stores.{sets-sets, sets-front}
 use Rattle.calculus.specs.Limits.{variableLimit, lengthLimit, answerBytes}
-use Rattle.lists.proofs.Lists.{all-append, length-flatMap, flatMap-snoc}
+use Rattle.lists.proofs.Lists.{all-append, length-flatMap, flatMap-snoc, length-upTo}
 use Rattle.format.specs.Fields.{bytesOf, unsigned}
 use Rattle.format.specs.Answer.{recordBytes, characterBytes, integerBytes, stringRecords, encode}
 use Rattle.format.proofs.Encoded.{length-bytes, length-integers, length-record, records-snoc, encode-short}
@@ -69,10 +69,9 @@ module _ (characters sizes : List ℕ) where
       let r : List ℕ = recordBytes 9 (characterBytes (row characters x (getD sizes x 0))) in
       ap (λ (k : ℕ). sets (sets b 0 w) k r) (sym (zero-add (length w))) ∙ sets-sets w r b 0 ∙ ap (sets b 0) (sym (strings-more x))
 
-  length-tables : (x : ℕ) → length (tableStrings characters sizes x) ≡ x
+  pub length-tables : (x : ℕ) → length (tableStrings characters sizes x) ≡ x
   unfolding tableStrings
-  length-tables zero = refl
-  length-tables (suc x) = length-append (tableStrings characters sizes x) (row characters x (getD sizes x 0) ∷ []) ∙ omega (arith, length-tables x)
+  length-tables x = length-upTo (λ y. row characters y (getD sizes y 0)) x
 
   short-strings : (p : ℕ) → Table characters sizes p → (x : ℕ) → x ≤ p → All (λ s. length s ≤ lengthLimit) (tableStrings characters sizes x)
   unfolding tableStrings

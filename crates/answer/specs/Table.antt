@@ -1,8 +1,9 @@
 -- The answer as checking holds it before it is written: a table with 64 characters for each string variable, their numbers, and the model.
-use Prim.Native.Nat.{ℕ, zero, suc, _*_, _≤_, _<_}
-use mathlib.Core.List.{List, [], _∷_, _++_}
+use Prim.Native.Nat.{ℕ, _*_, _≤_, _<_}
+use mathlib.Core.List.{List}
 use lib.ListN.{length, getD, take, drop}
 use lib.IntN.{ℤ, pos}
+use Rattle.lists.specs.Lists.{upTo}
 use Rattle.calculus.specs.Limits.{variableLimit, lengthLimit, Small, valueLimit}
 use Rattle.calculus.specs.Meaning.{Assignment}
 
@@ -12,8 +13,7 @@ row characters x size = take size (drop (lengthLimit * x) characters)
 
 -- the strings of the first x variables
 unfoldable pub tableStrings : List ℕ → List ℕ → ℕ → List (List ℕ)
-tableStrings characters sizes zero = []
-tableStrings characters sizes (suc x) = tableStrings characters sizes x ++ (row characters x (getD sizes x 0) ∷ [])
+tableStrings characters sizes x = upTo (λ y. row characters y (getD sizes y 0)) x
 
 -- "The integers are the model's": its first q numbers
 abbrev pub tableAnswer : List ℕ → List ℕ → ℕ → List ℤ → ℕ → Assignment

@@ -7,7 +7,7 @@ use mathlib.Core.Logic.{_⊎_, inl, inr}
 use mathlib.Core.Bool.{Bool, true, false, cond}
 use mathlib.Core.Option.{Option, none, some}
 use mathlib.Core.List.{List, [], _∷_}
-use lib.ListN.{length, getD}
+use lib.ListN.{length, getD, length-map}
 use lib.Dec.{T, eqb, eqb→eq, eqb-refl}
 use borrow.Author.Tests.{eq-eqb, eqb-true}
 use Rattle.lists.specs.Lists.{anyBelow}
@@ -82,8 +82,7 @@ label-relabel old new (c ∷ cs) zero d h = refl
 label-relabel old new (c ∷ cs) (suc i) d h = label-relabel old new cs i d (omega arith)
 
 pub length-relabel : (old new : ℕ) (cs : List ℕ) → length (relabel old new cs) ≡ length cs
-length-relabel old new [] = refl
-length-relabel old new (c ∷ cs) = ap suc (length-relabel old new cs)
+length-relabel old new cs = length-map cs (λ c. cond (eqb c old) new c)
 
 length-merge : (ls : List ℕ) (f : Fact) → length (mergeFact ls f) ≡ length ls
 length-merge ls (same x y) = length-relabel (label ls (varNode y)) (label ls (varNode x)) ls

@@ -5,7 +5,7 @@ use mathlib.Core.Path.{_≡_, refl, sym, _∙_, ap, ap₂, subst}
 use mathlib.Core.Bool.{_&&_}
 use mathlib.Core.Option.{some}
 use mathlib.Core.List.{List, [], _∷_, _++_, tail}
-use lib.ListN.{length, length-append, length-replicate}
+use lib.ListN.{length, length-append, length-replicate, length-map}
 use lib.Dec.{T, leb, leb→le, le→leb}
 use lib.IntN.{ℤ, pos, negsuc, one, _+ℤ_, _*ℤ_, +ℤ-idl, +ℤ-idr, zero-*ℤ, *ℤ-zero, *ℤ-one}
 use lib.Signed.{_≤ℤ_, _<ℤ_}
@@ -96,8 +96,7 @@ length-plus (x ∷ a) [] h = refl
 length-plus (x ∷ a) (y ∷ b) h = ap suc (length-plus a b (omega arith))
 
 pub length-scale : (k : ℤ) (a : List ℤ) → length (scale k a) ≡ length a
-length-scale k [] = refl
-length-scale k (x ∷ a) = ap suc (length-scale k a)
+length-scale k a = length-map a (λ x. k *ℤ x)
 
 pub whole-number : (k : ℤ) → Whole (number k)
 whole-number k = refl
@@ -128,8 +127,7 @@ whole-below a h = whole-above (scale (negsuc 0) a) (whole-scale (negsuc 0) a h)
 -- ---- division: "Column sums must divide exactly; the constant is divided rounding down"
 
 pub length-floorDivAll : (a : List ℤ) (d : ℕ) → length (floorDivAll a d) ≡ length a
-length-floorDivAll [] d = refl
-length-floorDivAll (x ∷ a) d = ap suc (length-floorDivAll a d)
+length-floorDivAll a d = length-map a (λ x. floorDiv x d)
 
 div-entries : (a q : List ℤ) (d : ℕ) → 1 ≤ d → length a ≡ length q → ((j : ℕ) → pos d *ℤ entry q j ≡ entry a j) → floorDivAll a d ≡ q
 div-entries [] [] d h l e = refl

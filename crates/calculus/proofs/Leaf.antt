@@ -10,9 +10,8 @@ use lib.ListN.{getElem?}
 use lib.IntN.{ℤ, pos, negsuc, natAbs, _-ℤ_}
 use lib.Signed.{_≤ℤ_, ≤ℤ-refl}
 use Rattle.integers.proofs.Laws.{≤ℤ-pos, pos-≤ℤ, ≤ℤ-trans, -ℤ-zero→, →-ℤ-zero, -ℤ-nonneg→, abs-nonneg}
-use Rattle.lists.specs.Lists.{All}
+use Rattle.lists.specs.Lists.{All, Any}
 use Rattle.lists.proofs.Options.{some-injective, none-some}
-use Rattle.lists.proofs.Lists.{Any}
 use Rattle.calculus.specs.Alphabet.{lastCharacter, Character}
 use Rattle.calculus.specs.LinearForms.{number, minus, above, valueIn}
 use Rattle.calculus.specs.Facts.{Question, Fact, Branch, Function, len, code, literal, apply, valueOf}

@@ -4,8 +4,7 @@ use mathlib.Core.Path.{_≡_}
 use mathlib.Core.Logic.{_⊎_, inl, inr}
 use mathlib.Core.HLevel.{Discrete}
 use mathlib.Core.List.{List, [], _∷_, map}
-use Rattle.lists.specs.Lists.{NotIn, Distinct}
-use Rattle.lists.proofs.Lists.{Any}
+use Rattle.lists.specs.Lists.{NotIn, Distinct, Any}
 use Rattle.calculus.specs.Facts.{Fact, same}
 use Rattle.calculus.specs.Children.{pairChildrenWith, pairChildren}
 

@@ -11,8 +11,8 @@ use lib.Dec.{eqb}
 use lib.IntN.{ℤ, pos, negsuc, negℤ, _+ℤ_, _-ℤ_, _*ℤ_, +ℤ-idr, *ℤ-zero, ℤ-discrete, pos-ne-negsuc}
 use lib.Signed.{_≤ℤ_, ≤ℤ-refl}
 use Rattle.integers.proofs.Laws.{minus-one-*ℤ, pos-injective, pos-≤ℤ, ≤ℤ-antisym, ≤ℤ-trans, +ℤ-mono, *ℤ-mono, -ℤ-zero→, →-ℤ-zero, →-ℤ-nonneg, neg-nonneg→, branch-cases, apart-cases, tighten}
-use Rattle.lists.specs.Lists.{All, Distinct}
-use Rattle.lists.proofs.Lists.{Any, all-at, distinct-at}
+use Rattle.lists.specs.Lists.{All, Distinct, Any}
+use Rattle.lists.proofs.Lists.{all-at, distinct-at}
 use Rattle.calculus.specs.Alphabet.{lastCharacter, Over}
 use Rattle.calculus.specs.LinearForms.{scale, number, minus, above, below, dot}
 use Rattle.calculus.specs.Facts.{Question, Fact, same, notSame, isLiteral, arithmetic, Branch, Relation, ge, eq, ne, Holds, Function, len, code, literal, columnOf, apply, codeOf, valueOf}

@@ -1,9 +1,8 @@
 -- Classes: "Two variables are in one class when a chain of the branch's ≈ facts joins them, through variables or literals".
 use Prim.Native.Nat.{ℕ, _+_, _*_, _<_, _≤_}
 use mathlib.Core.Path.{_≡_}
-use mathlib.Core.Logic.{_⊎_}
-use mathlib.Core.List.{[], _∷_}
 use lib.ListN.{length}
+use Rattle.lists.specs.Lists.{Any}
 use Rattle.calculus.specs.Facts.{Question, Fact, same, notSame, isLiteral, arithmetic, Branch}
 
 -- nodes: the even for the variables, the odd for the literals
@@ -21,8 +20,7 @@ Edge (isLiteral x l) i j = (i ≡ varNode x) × (j ≡ litNode l)
 Edge (arithmetic r e) i j = ⊥
 
 abbrev pub AnyEdge : Branch → ℕ → ℕ → Type 0
-AnyEdge [] i j = ⊥
-AnyEdge (f ∷ b) i j = Edge f i j ⊎ AnyEdge b i j
+AnyEdge b i j = Any (λ f. Edge f i j) b
 
 pub data Chain (b : Branch) : ℕ → ℕ → Type 0 where
   here : {i : ℕ} → Chain b i i

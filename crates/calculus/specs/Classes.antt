@@ -2,10 +2,10 @@
 use Prim.Native.Nat.{ℕ, zero, suc, _*_}
 use mathlib.Core.Bool.{Bool, true, false, cond, _||_}
 use mathlib.Core.Option.{Option, none, some}
-use mathlib.Core.List.{List, [], _∷_}
+use mathlib.Core.List.{List, [], _∷_, map}
 use lib.ListN.{length, getD}
 use lib.Dec.{eqb}
-use Rattle.lists.specs.Lists.{anyBelow, valuesAlong}
+use Rattle.lists.specs.Lists.{any, anyBelow, valuesAlong}
 use Rattle.calculus.specs.Limits.{variableLimit}
 use Rattle.calculus.specs.Facts.{Fact, Branch, Question, same, notSame, isLiteral, arithmetic}
 use Rattle.calculus.specs.Chains.{varNode, litNode}
@@ -16,8 +16,7 @@ upFrom k m = valuesAlong suc (λ i. i) k m
 
 -- each label old becomes new
 abbrev pub relabel : ℕ → ℕ → List ℕ → List ℕ
-relabel old new [] = []
-relabel old new (c ∷ cs) = cond (eqb c old) new c ∷ relabel old new cs
+relabel old new cs = map (λ c. cond (eqb c old) new c) cs
 
 abbrev pub label : List ℕ → ℕ → ℕ
 label ls i = getD ls i i
@@ -67,12 +66,14 @@ abbrev pub literalsMeet : ℕ → List ℕ → Bool
 literalsMeet m ls = anyBelow m (literalMeets ls)
 
 -- "a ≉ fact has both sides in one"
+abbrev pub sidesOf : List ℕ → Fact → Bool
+sidesOf ls (same x y) = false
+sidesOf ls (notSame x y) = sameClass ls (varNode x) (varNode y)
+sidesOf ls (isLiteral x l) = false
+sidesOf ls (arithmetic r e) = false
+
 abbrev pub sidesMeet : List ℕ → Branch → Bool
-sidesMeet ls [] = false
-sidesMeet ls (same x y ∷ b) = sidesMeet ls b
-sidesMeet ls (notSame x y ∷ b) = sameClass ls (varNode x) (varNode y) || sidesMeet ls b
-sidesMeet ls (isLiteral x l ∷ b) = sidesMeet ls b
-sidesMeet ls (arithmetic r e ∷ b) = sidesMeet ls b
+sidesMeet ls b = any (sidesOf ls) b
 
 -- S-Conf fits on a branch with the labels ls, where there are m literals, the empty one included
 abbrev pub clash : ℕ → List ℕ → Branch → Bool

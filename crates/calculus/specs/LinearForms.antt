@@ -1,7 +1,7 @@
 -- Forms: an integer form is a list, the constant first, then a coefficient for each of the 48 columns.
 use Prim.Native.Nat.{ℕ, zero, suc, _-_}
 use mathlib.Core.Bool.{Bool, true, false}
-use mathlib.Core.List.{List, [], _∷_, _++_}
+use mathlib.Core.List.{List, [], _∷_, _++_, map}
 use lib.ListN.{replicate}
 use lib.Dec.{eqb}
 use lib.IntN.{ℤ, pos, negsuc, _+ℤ_, _*ℤ_}
@@ -15,8 +15,7 @@ plus (x ∷ a) [] = x ∷ a
 plus (x ∷ a) (y ∷ b) = (x +ℤ y) ∷ plus a b
 
 abbrev pub scale : ℤ → List ℤ → List ℤ
-scale k [] = []
-scale k (x ∷ a) = (k *ℤ x) ∷ scale k a
+scale k a = map (λ x. k *ℤ x) a
 
 abbrev pub zeros : ℕ → List ℤ
 zeros n = replicate n (pos 0)
@@ -59,8 +58,7 @@ allZero a = all isZero a
 
 -- each number divided by d, rounding down
 abbrev pub floorDivAll : List ℤ → ℕ → List ℤ
-floorDivAll [] d = []
-floorDivAll (x ∷ a) d = floorDiv x d ∷ floorDivAll a d
+floorDivAll a d = map (λ x. floorDiv x d) a
 
 -- the sum of products
 abbrev pub dot : List ℤ → List ℤ → ℤ

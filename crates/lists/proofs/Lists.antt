@@ -11,7 +11,8 @@ use mathlib.Core.List.{List, [], _∷_, _++_, map, flatMap, append-nil, append-a
 use lib.ListN.{length, getD, drop, getElem?, replicate, length-append, drop-of-length-le}
 use lib.Seq.{drop-cons}
 use lib.Dec.{T}
-use Rattle.lists.specs.Lists.{All, NotIn, Distinct, all, any, eqList, placeAfter, valuesAlong}
+use native.Mathlib.Decide.{decLt}
+use Rattle.lists.specs.Lists.{All, NotIn, Distinct, all, any, eqList, placeAfter, valuesAlong, Any, upTo}
 use Rattle.lists.proofs.Tests.{→true, true→, and→, →and, or→, →or-left, →or-right}
 use Rattle.lists.proofs.Options.{some-injective, none-some}
 
@@ -41,12 +42,6 @@ all-at P (y ∷ xs) (suc k) h e = all-at P xs k (h .1) e
 pub all-replicate : {A : Type 0} (P : A → Type 0) (n : ℕ) (x : A) → P x → All P (replicate n x)
 all-replicate P zero x h = tt
 all-replicate P (suc n) x h = (h, all-replicate P n x h)
-
--- ---- some element
-
-abbrev pub Any : {A : Type 0} → (A → Type 0) → List A → Type 0
-Any P [] = ⊥
-Any P (x ∷ xs) = P x ⊎ Any P xs
 
 -- ---- tests of all and of some elements
 
@@ -294,3 +289,28 @@ module _ {A B : Type 0} (f : A → List B) where
   length-flatMap w h [] = omega arith
   length-flatMap w h (x ∷ xs) =
       length-append (f x) (flatMap f xs) ∙ let e : w * suc (length xs) ≡ w * length xs + w = mul-suc w (length xs) in omega (arith, h x, length-flatMap w h xs)
+
+-- ---- what is given of each number below k
+
+pub element-getD : {A : Type 0} (xs : List A) (j : ℕ) (x d : A) → getElem? xs j ≡ some x → getD xs j d ≡ x
+element-getD [] j x d e = absurd (none-some e)
+element-getD (y ∷ xs) zero x d e = some-injective e
+element-getD (y ∷ xs) (suc j) x d e = element-getD xs j x d e
+
+module _ {A : Type 0} (f : ℕ → A) where
+  pub length-upTo : (k : ℕ) → length (upTo f k) ≡ k
+  length-upTo zero = refl
+  length-upTo (suc k) = length-append (upTo f k) (f k ∷ []) ∙ rw (length-upTo k) (add-one k)
+
+  pub element-upTo : (k j : ℕ) → j < k → getElem? (upTo f k) j ≡ some (f j)
+  element-upTo zero j h = absurd (omega arith)
+  element-upTo (suc k) j h = go (λ l. element-upTo k j l) (decLt j k)
+    where
+      go : (j < k → getElem? (upTo f k) j ≡ some (f j)) → Dec (j < k) → getElem? (upTo f (suc k)) j ≡ some (f j)
+      go ih (yes l) = element-append (upTo f k) (f k ∷ []) j (rw (length-upTo k) l) ∙ ih l
+      go ih (no n) =
+          let e : k ≡ j = omega arith in
+          ap (λ (i : ℕ). getElem? (upTo f k ++ (f k ∷ [])) i) (sym (length-upTo k ∙ e)) ∙ element-last (upTo f k) (f k) ∙ ap (λ (i : ℕ). some (f i)) e
+
+  pub getD-upTo : (k j : ℕ) (d : A) → j < k → getD (upTo f k) j d ≡ f j
+  getD-upTo k j d h = element-getD (upTo f k) j (f j) d (element-upTo k j h)

@@ -1,12 +1,16 @@
--- Lists: every element has a property, is not among others, differs from the rest; tests of all or some elements; lists read place by place.
+-- Lists: every element has a property, or some element, is not among others, differs from the rest; tests of all or some elements; lists read place by place.
 use Prim.Native.Nat.{ℕ, zero, suc}
-use mathlib.Core.Logic.{_≢_}
+use mathlib.Core.Logic.{_≢_, _⊎_}
 use mathlib.Core.Bool.{Bool, true, false, _&&_, _||_}
-use mathlib.Core.List.{List, [], _∷_}
+use mathlib.Core.List.{List, [], _∷_, _++_}
 
 abbrev pub All : {A : Type 0} → (A → Type 0) → List A → Type 0
 All P [] = Unit {0}
 All P (x ∷ xs) = P x × All P xs
+
+abbrev pub Any : {A : Type 0} → (A → Type 0) → List A → Type 0
+Any P [] = ⊥
+Any P (x ∷ xs) = P x ⊎ Any P xs
 
 abbrev pub NotIn : {A : Type 0} → A → List A → Type 0
 NotIn x ys = All (λ y. x ≢ y) ys
@@ -43,6 +47,11 @@ anyBelow zero t = false
 anyBelow (suc k) t = t k || anyBelow k t
 
 -- ---- place by place
+
+-- what f gives of each number below k, in order
+abbrev pub upTo : {A : Type 0} → (ℕ → A) → ℕ → List A
+upTo f zero = []
+upTo f (suc k) = upTo f k ++ (f k ∷ [])
 
 -- the place behind k others, the first of which is a: go leads from each to the next
 abbrev pub placeAfter : {A : Type 0} → (A → A) → A → ℕ → A

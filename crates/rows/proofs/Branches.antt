@@ -6,12 +6,12 @@ use native.Mathlib.Decide.{decLt}
 use mathlib.Core.Path.{_≡_, refl, sym, _∙_, ap, ap₂}
 use mathlib.Core.Option.{none, some}
 use mathlib.Core.List.{List, [], _∷_, _++_}
-use lib.ListN.{length, take, drop, getElem?, length-append, length-take, length-drop}
+use lib.ListN.{length, take, drop, getElem?, length-take, length-drop}
 use lib.Seq.{take-append-le, take-all, take-at, drop-at, drop-drop, take-take, length-take-le}
 use lib.IntN.{ℤ}
 use Rattle.calculus.specs.Facts.{Fact}
 use Rattle.lists.proofs.Filled.{drop-take}
-use Rattle.lists.proofs.Lists.{element-append, element-last, element-none}
+use Rattle.lists.proofs.Lists.{element-none, length-upTo, element-upTo}
 use Rattle.rows.specs.Rows.{rowLength, factOf, rowAt, branchOf}
 
 -- ---- one row
@@ -23,8 +23,7 @@ length-row w k h = simp (length-take, length-drop) (omega arith)
 
 pub length-branch : (w : List ℤ) (k : ℕ) → length (branchOf w k) ≡ k
 unfolding branchOf
-length-branch w zero = refl
-length-branch w (suc k) = length-append (branchOf w k) (factOf (rowAt w k) ∷ []) ∙ rw (length-branch w k) (add-one k)
+length-branch w k = length-upTo (λ j. factOf (rowAt w j)) k
 
 pub branch-more : (w : List ℤ) (k : ℕ) → branchOf w (k + 1) ≡ branchOf w k ++ (factOf (rowAt w k) ∷ [])
 unfolding branchOf
@@ -46,16 +45,7 @@ branch-same w v (suc k) e =
 -- fact number j
 pub branch-at : (w : List ℤ) (k j : ℕ) → j < k → getElem? (branchOf w k) j ≡ some (factOf (rowAt w j))
 unfolding branchOf
-branch-at w zero j h = absurd (omega arith)
-branch-at w (suc k) j h = go (λ l. branch-at w k j l) (decLt j k)
-  where
-    go : (j < k → getElem? (branchOf w k) j ≡ some (factOf (rowAt w j))) → Dec (j < k) → getElem? (branchOf w (suc k)) j ≡ some (factOf (rowAt w j))
-    go ih (yes l) = element-append (branchOf w k) (factOf (rowAt w k) ∷ []) j (rw (length-branch w k) l) ∙ ih l
-    go ih (no n) =
-        let e : k ≡ j = omega arith in
-        ap (λ (i : ℕ). getElem? (branchOf w k ++ (factOf (rowAt w k) ∷ [])) i) (sym (length-branch w k ∙ e))
-        ∙ element-last (branchOf w k) (factOf (rowAt w k))
-        ∙ ap (λ (i : ℕ). some (factOf (rowAt w i))) e
+branch-at w k j h = element-upTo (λ i. factOf (rowAt w i)) k j h
 
 pub branch-beyond : (w : List ℤ) (k j : ℕ) → k ≤ j → getElem? (branchOf w k) j ≡ none
 branch-beyond w k j h = element-none (branchOf w k) j (rw (length-branch w k) h)

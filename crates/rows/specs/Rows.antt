@@ -1,10 +1,11 @@
 -- A fact as a row of 50 numbers: "Each fact's row is filled in its own stretch of the work area".
 use mathlib.Core.Bool.{cond}
-use mathlib.Core.List.{List, [], _∷_, _++_}
+use mathlib.Core.List.{List}
 use Prim.Native.Nat.{ℕ, zero, suc, _+_, _*_}
 use lib.ListN.{getD, take, drop}
 use lib.Dec.{ltb}
 use lib.IntN.{ℤ, pos, negsuc}
+use Rattle.lists.specs.Lists.{upTo}
 use Rattle.calculus.specs.Limits.{variableLimit, columnLimit}
 use Rattle.calculus.specs.Facts.{Fact, Branch, same, notSame, isLiteral, arithmetic, ge, eq, ne}
 
@@ -38,5 +39,4 @@ rowAt w k = take rowLength (drop (rowLength * k) w)
 
 -- the first k rows, as facts
 unfoldable pub branchOf : List ℤ → ℕ → Branch
-branchOf w zero = []
-branchOf w (suc k) = branchOf w k ++ (factOf (rowAt w k) ∷ [])
+branchOf w k = upTo (λ j. factOf (rowAt w j)) k

@@ -1,20 +1,20 @@
 -- The third round: the table has the calculus' strings for the variables passed, and what the first two rounds gave for the others.
 use Prim.Native.Nat.{ℕ, zero, suc, _+_, _*_, _≤_, _<_}
-use native.Mathlib.Numerals.{add-one}
 use native.Mathlib.Omega.{arith}
 use native.Mathlib.Decide.{ℕ-discrete, decLt}
 use mathlib.Core.Path.{_≡_, refl, sym, _∙_, ap, subst}
 use mathlib.Core.Logic.{_⊎_, inl, inr}
 use mathlib.Core.Bool.{true}
 use mathlib.Core.Option.{Option, none, some}
-use mathlib.Core.List.{List, [], _∷_, _++_}
-use lib.ListN.{length, getD, set, drop, length-append, List·getD-append}
-use lib.Seq.{sets, getD-at, ext-getD, getD-set-same, getD-set-other, take-all}
+use mathlib.Core.List.{List, [], _++_}
+use lib.ListN.{length, getD, set, drop}
+use lib.Seq.{sets, ext-getD, getD-set-same, getD-set-other, take-all}
 use lib.Dec.{leb, leb→le}
 use lib.IntN.{ℤ, natAbs}
+use Rattle.answer.proofs.Written.{length-tables}
 use Rattle.lists.proofs.Options.{some-injective, none-some}
 use Rattle.lists.proofs.Tests.{true→, equal-tests}
-use Rattle.lists.proofs.Lists.{In, in-append, in-left, in-right}
+use Rattle.lists.proofs.Lists.{In, in-append, in-left, in-right, getD-upTo}
 use Rattle.lists.proofs.Below.{all-below→}
 use Rattle.calculus.specs.Limits.{lengthLimit}
 use Rattle.calculus.specs.Facts.{Question, Branch, len}
@@ -143,25 +143,15 @@ module _ (u : Question) (b : Branch) (m : List ℤ) where
 
 -- ---- the whole table
 
-length-table : (characters sizes : List ℕ) (p : ℕ) → length (tableStrings characters sizes p) ≡ p
-unfolding tableStrings
-length-table characters sizes zero = refl
-length-table characters sizes (suc p) = length-append (tableStrings characters sizes p) (row characters p (getD sizes p 0) ∷ []) ∙ rw (length-table characters sizes p) (add-one p)
-
 table-at : (characters sizes : List ℕ) (p y : ℕ) → y < p → getD (tableStrings characters sizes p) y [] ≡ row characters y (getD sizes y 0)
 unfolding tableStrings
-table-at characters sizes zero y h = absurd (omega arith)
-table-at characters sizes (suc p) y h = go (ℕ-discrete y p) (table-at characters sizes p y)
-  where
-    go : Dec (y ≡ p) → (y < p → getD (tableStrings characters sizes p) y [] ≡ row characters y (getD sizes y 0)) → getD (tableStrings characters sizes (suc p)) y [] ≡ row characters y (getD sizes y 0)
-    go (yes e) ih = getD-at (tableStrings characters sizes p) (row characters p (getD sizes p 0)) [] [] y (length-table characters sizes p ∙ sym e) ∙ ap (λ (z : ℕ). row characters z (getD sizes z 0)) (sym e)
-    go (no f) ih = List·getD-append (tableStrings characters sizes p) (row characters p (getD sizes p 0) ∷ []) [] y (rw (length-table characters sizes p) (omega arith)) ∙ ih (omega arith)
+table-at characters sizes p y h = getD-upTo (λ y. row characters y (getD sizes y 0)) p y [] h
 
 module _ (u : Question) (b : Branch) (m : List ℤ) (characters sizes : List ℕ) (f : Filled u b m characters sizes (u .p)) where
   pub round-done : tableStrings characters sizes (u .p) ≡ strings u b m
   round-done =
-      ext-getD [] (tableStrings characters sizes (u .p)) (strings u b m) (length-table characters sizes (u .p) ∙ sym (length-strings u b m (u .p)))
-      (λ y h. at y (rw length-table at h))
+      ext-getD [] (tableStrings characters sizes (u .p)) (strings u b m) (length-tables characters sizes (u .p) ∙ sym (length-strings u b m (u .p)))
+      (λ y h. at y (rw length-tables at h))
     where
       at : (y : ℕ) → y < u .p → getD (tableStrings characters sizes (u .p)) y [] ≡ getD (strings u b m) y []
       at y h =
