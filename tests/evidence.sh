@@ -11,8 +11,8 @@ cd "$(dirname "$0")/.."
 passed=0 failed=0 later=0
 declare -A declared seen
 
-# The names that files declare, a line 'FILE NAME' for each: in .antt what stands before the first ' : ' of a line; in .rt and .rs items,
-# their public fields and variants; in .md headings.
+# The names that files declare, a line 'FILE NAME' for each: in .antt what stands before the first ' : ' of a line, and the fields that a record's value gives;
+# in .rt and .rs items, their public fields and variants; in .md headings.
 declarations() {
     find crates tests docs \( -name '*.antt' -o -name '*.rt' -o -name '*.rs' -o -name '*.md' \) -print0 | xargs -0 awk '
         FILENAME ~ /\.md$/ { if (sub(/^#+ /, "")) print FILENAME " " $0; next }
@@ -27,6 +27,7 @@ declarations() {
             variants = /enum / || variants && !/}/
             next
         }
+        /^  [^ ]+ = .*;$/ { print FILENAME " " $1 }
         !/ : / { next }
         {
             before = substr($0, 1, index($0, " : ") - 1)

@@ -32,6 +32,7 @@ build() {
     cargo build --quiet --release --offline --locked --manifest-path tests/Cargo.toml "$@"
 }
 
+counted tests/statements.sh
 counted rt ci
 if [ "$failed" -eq 0 ]; then
     single cargo test --quiet --release --offline --locked --manifest-path tests/Cargo.toml -p nuldwich_reference

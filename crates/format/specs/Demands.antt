@@ -119,3 +119,16 @@ TH-6 = (work answer : ℕ) (t : List ℕ) (u : Question) (m : List ℤ) (leaf : 
 abbrev pub TH-6-asks : Type 0
 TH-6-asks = (work answer : ℕ) (t out : List ℕ) → verdict work answer t ≡ Strings out
     → (u : Question) × (m : List ℤ) × ProperStrings t u m × PathWithinLimits u (stepsWithChild t)
+
+-- ---- the demands that are theorems about the definitions, each under its name. One value of this record stands in format/proofs/Demands, and the gate holds
+-- the fields and that value's type against the names on file.
+
+pub record Demands : Type 0 where
+  pub th-2 : TH-2
+  pub th-2-asks : TH-2-asks
+  pub th-3 : TH-3
+  pub th-3-all : TH-3-all
+  pub th-4 : TH-4
+  pub th-5 : TH-5
+  pub th-6 : TH-6
+  pub th-6-asks : TH-6-asks

@@ -18,7 +18,7 @@ use Rattle.format.specs.Answer.{recordIs, stringForm, answerForm, outside, assi
 use Rattle.format.specs.Judging.{Judging, Refused, Judged, judgeAnswer, judgeBehind, judging}
 use Rattle.format.specs.Checking.{Strings, verdict}
 use Rattle.format.proofs.Faults.{clash}
-use Rattle.format.proofs.Demands.{th-5}
+use Rattle.format.proofs.Demands.{demands}
 use Rattle.lines.specs.Lines.{stringLine, integerLines, endLine, recordLines}
 use Rattle.lines.proofs.Lines.{lines-string, lines-integers}
 
@@ -99,6 +99,6 @@ answer-formed b v u a e = behind (question b) e
 
 pub answer-lines : (work answer : ℕ) (b s t : List ℕ) → verdict work answer b ≡ Strings s → recordLines (s ++ t) 0 (records (s ++ t) 0) ≡ recordLines s 0 (records s 0)
 answer-lines work answer b s t e =
-    let (u, k) = th-5 work answer b s e in
+    let (u, k) = demands .th-5 work answer b s e in
     let (p, q, form) = answer-formed b s u (k .assignment) (k .read-back) in
     lines-kept s t p q 0 0 form
