@@ -1,4 +1,4 @@
-/* A host program: checks the ticket in a file and, when it brings strings, judges them by the same ticket's question. */
+/* A host program, in C and C++ alike: checks the ticket in a file and, when it brings strings, judges them by the same ticket's question. */
 
 #include <inttypes.h>
 #include <stdio.h>
@@ -6,32 +6,12 @@
 
 #include "nuldwich.h"
 
-static const char *const meanings[] = {
-    "accepted",
-    "the answer buffer is too small",
-    "the ticket is too long",
-    "the bytes stop too early",
-    "a kind is unknown or out of its place",
-    "the body length fits no form",
-    "a field is outside its range",
-    "a literal repeats",
-    "a step does not fit",
-    "a new number passes the limit",
-    "too many facts or pending splits",
-    "the end comes before every branch is closed, or before a model",
-    "the model breaks an arithmetic fact",
-    "the leaf is not settled",
-    "a length passes 64",
-    "the answer is not of its form",
-    "a value of the answer is outside its range",
-};
-
 static uint32_t u32_at(const uint8_t *bytes) {
     return (uint32_t)bytes[0] | (uint32_t)bytes[1] << 8 | (uint32_t)bytes[2] << 16 | (uint32_t)bytes[3] << 24;
 }
 
-static void print_refusal(nuldwich_reply reply) {
-    printf("refused at record %" PRIu64 ": %s (%" PRIu64 ")\n", reply.record, meanings[reply.number], reply.number);
+static void print_refusal(uint64_t number, uint64_t record) {
+    printf("refused at record %" PRIu64 ": %s (%" PRIu64 ")\n", record, nuldwich_refusal(number), number);
 }
 
 /* Prints the strings (kind 9) and integers (kind 10) up to the end record (kind 8), and returns the answer's length. */
@@ -54,41 +34,41 @@ static size_t print_answer(const uint8_t *answer) {
     }
 }
 
-static void print_judgement(nuldwich_reply reply) {
-    if (reply.number == NULDWICH_DONE)
+static void print_judgement(nuldwich_judgement judgement) {
+    if (judgement.number == NULDWICH_DONE)
         printf("judged: all constraints are met\n");
-    else if (reply.number == NULDWICH_UNMET)
-        printf("judged: constraint %" PRIu64 " is not met\n", reply.record);
+    else if (judgement.number == NULDWICH_UNMET)
+        printf("judged: constraint %" PRIu64 " is not met\n", judgement.record);
     else
-        print_refusal(reply);
+        print_refusal(judgement.number, judgement.record);
 }
 
 /* Checks a ticket, prints the verdict and, for strings, what judging says of them. */
 static void check_and_judge(const uint8_t *ticket, size_t ticket_len) {
     uint8_t answer[NULDWICH_ANSWER_BYTES];
-    nuldwich_reply reply = check(ticket, ticket_len, answer, sizeof answer);
+    nuldwich_reply reply = nuldwich_check(ticket, ticket_len, answer, sizeof answer);
     if (reply.number != NULDWICH_DONE) {
-        print_refusal(reply);
+        print_refusal(reply.number, reply.record);
     } else if (reply.record == NULDWICH_NO_SOLUTION) {
         printf("accepted: there is no solution\n");
     } else {
         printf("accepted: there are strings\n");
         size_t answer_len = print_answer(answer);
-        print_judgement(judge(ticket, ticket_len, answer, answer_len));
+        print_judgement(nuldwich_judge(ticket, ticket_len, answer, answer_len));
     }
 }
 
 /* Reads a file into a buffer of exactly its size. Of a file that is too long for a ticket one byte too many is read, so that it is seen to be too long. */
 static uint8_t *read_ticket(const char *path, size_t *length) {
     FILE *file = fopen(path, "rb");
-    uint8_t *ticket = malloc(NULDWICH_TICKET_BYTES + 1);
+    uint8_t *ticket = (uint8_t *)malloc(NULDWICH_TICKET_BYTES + 1);
     if (file == NULL || ticket == NULL) {
         perror(path);
         exit(2);
     }
     *length = fread(ticket, 1, NULDWICH_TICKET_BYTES + 1, file);
     fclose(file);
-    uint8_t *exact = realloc(ticket, *length > 0 ? *length : 1);
+    uint8_t *exact = (uint8_t *)realloc(ticket, *length > 0 ? *length : 1);
     return exact != NULL ? exact : ticket;
 }
 

@@ -1,4 +1,4 @@
-/* The C interface of nuldwich: checking solver tickets and judging answers. */
+/* The C interface of nuldwich: checking solver tickets and judging answers. For C99 and C++11, and later. */
 
 #ifndef NULDWICH_H
 #define NULDWICH_H
@@ -10,11 +10,26 @@
 extern "C" {
 #endif
 
+/*
+ * The version, major * 1000 + minor, and in words. A program is compiled with the header that was installed with its library.
+ *
+ * always                   a constant keeps its value, a number of a reply its meaning, a field of a struct its name, its type and its place
+ * at a new minor version   entries, constants and refusal numbers may come: a caller needs a default for numbers that it does not know.
+ *                          What was accepted stays accepted, with the same answer; what was refused may be accepted, or get another number
+ * at a new major version   structs may get further fields behind those they have, and what is accepted may change
+ */
+#define NULDWICH_VERSION 1000
+#define NULDWICH_VERSION_STRING "1.0"
+
 /* The least size of the answer buffer that check is lent, in bytes. It holds every answer. */
 #define NULDWICH_ANSWER_BYTES 4268
 
 /* The greatest size of a ticket or question, in bytes. */
 #define NULDWICH_TICKET_BYTES 32768
+
+/* The stack that a call uses at most, in bytes. Neither operation uses the heap. */
+#define NULDWICH_CHECK_STACK_BYTES 81920
+#define NULDWICH_JUDGE_STACK_BYTES 8192
 
 /* Numbers of a reply that are no refusals. */
 #define NULDWICH_DONE 0    /* check: the ticket is accepted; judge: all constraints are met */
@@ -24,33 +39,54 @@ extern "C" {
 #define NULDWICH_NO_SOLUTION 1 /* no strings and integers meet the constraints */
 #define NULDWICH_STRINGS 2     /* the answer stands in the answer buffer */
 
+/* Refusals: other numbers of a reply. nuldwich_refusal says what each means. */
+#define NULDWICH_REFUSED_BUFFER 1
+#define NULDWICH_REFUSED_TICKET_LENGTH 2
+#define NULDWICH_REFUSED_CUT 3
+#define NULDWICH_REFUSED_KIND 4
+#define NULDWICH_REFUSED_BODY_LENGTH 5
+#define NULDWICH_REFUSED_RANGE 6
+#define NULDWICH_REFUSED_LITERAL 7
+#define NULDWICH_REFUSED_STEP 8
+#define NULDWICH_REFUSED_NUMBER 9
+#define NULDWICH_REFUSED_LIMIT 10
+#define NULDWICH_REFUSED_OPEN 11
+#define NULDWICH_REFUSED_MODEL 12
+#define NULDWICH_REFUSED_LEAF 13
+#define NULDWICH_REFUSED_STRING_LENGTH 14
+#define NULDWICH_REFUSED_ANSWER_FORM 15
+#define NULDWICH_REFUSED_ANSWER_RANGE 16
+
+/* A refusal in words, also for a number that is none or is not known here. */
+static inline const char *nuldwich_refusal(uint64_t number) {
+    switch (number) {
+    case NULDWICH_REFUSED_BUFFER: return "the answer buffer has under 4,268 bytes";
+    case NULDWICH_REFUSED_TICKET_LENGTH: return "the ticket or question has over 32,768 bytes";
+    case NULDWICH_REFUSED_CUT: return "the bytes stop before a record, or before any end record, is complete";
+    case NULDWICH_REFUSED_KIND: return "a kind is unknown or out of its place, a step follows the last closed branch, or a byte follows the end record";
+    case NULDWICH_REFUSED_BODY_LENGTH: return "the body length fits no form";
+    case NULDWICH_REFUSED_RANGE: return "a field is outside its range";
+    case NULDWICH_REFUSED_LITERAL: return "a literal repeats";
+    case NULDWICH_REFUSED_STEP: return "a step does not fit";
+    case NULDWICH_REFUSED_NUMBER: return "a new number passes 1,000,000,000 or -1,000,000,000";
+    case NULDWICH_REFUSED_LIMIT: return "more than 128 facts on a branch, or more than 64 pending splits";
+    case NULDWICH_REFUSED_OPEN: return "the end comes before every branch is closed, or before a model";
+    case NULDWICH_REFUSED_MODEL: return "the model breaks an arithmetic fact";
+    case NULDWICH_REFUSED_LEAF: return "the leaf is not settled";
+    case NULDWICH_REFUSED_STRING_LENGTH: return "a length passes 64";
+    case NULDWICH_REFUSED_ANSWER_FORM: return "the answer is not exactly of its form";
+    case NULDWICH_REFUSED_ANSWER_RANGE: return "a character of the answer is not below n, or an integer is outside +-100,000,000";
+    case NULDWICH_DONE:
+    case NULDWICH_UNMET: return "not refused";
+    default: return "refused for a reason that this version has no words for";
+    }
+}
+
 /*
- * What both operations return.
+ * What check returns.
  *
- * check   number 0        accepted; record is the claim, 1 (no solution) or 2 (strings)
- *         number 1 to 14  refused; record is the first faulty record, counted from 0
- * judge   number 0        all constraints are met; record is 0
- *         number 255      the constraint whose number is in record is not met, counted from 0
- *         another number  refused; record is the faulty record of the question (2 to 7, 10) or of the answer (15, 16)
- *
- * Refusals:
- *
- *    1  the answer buffer has under 4,268 bytes (record 0)
- *    2  the ticket or question has over 32,768 bytes (record 0)
- *    3  the bytes stop before a record, or before any end record, is complete
- *    4  a kind is unknown or out of its place, a step follows the last closed branch, or a byte follows the end record
- *    5  the body length fits no form
- *    6  a field is outside its range
- *    7  a literal repeats
- *    8  a step does not fit
- *    9  a new number passes 1,000,000,000 or -1,000,000,000
- *   10  more than 128 facts on a branch, or more than 64 pending splits
- *   11  the end comes before every branch is closed, or before a model
- *   12  the model breaks an arithmetic fact
- *   13  the leaf is not settled
- *   14  a length passes 64
- *   15  the answer is not exactly of its form (record 0)
- *   16  a character of the answer is not below n, or an integer is outside +-100,000,000
+ * number 0        accepted; record is the claim, NULDWICH_NO_SOLUTION or NULDWICH_STRINGS
+ * number 1 to 14  refused; record is the first faulty record, counted from 0, and 0 for 1 and 2
  */
 typedef struct {
     uint64_t number;
@@ -58,8 +94,21 @@ typedef struct {
 } nuldwich_reply;
 
 /*
+ * What judge returns.
+ *
+ * number 0           all constraints are met; record is 0
+ * number 255         the constraint whose number is in record is not met, counted from 0
+ * number 2 to 7, 10  the question is refused; record is its first faulty record, and 0 for 2
+ * number 15, 16      the answer is refused; record is its first faulty record, and 0 for 15
+ */
+typedef struct {
+    uint64_t number;
+    uint64_t record;
+} nuldwich_judgement;
+
+/*
  * Neither operation keeps a pointer or any state between calls, so both may be called from several threads at once. No pointer is null, also where a
- * length is 0. The answer buffer that check is lent overlaps no byte of the ticket. check uses about 64 KiB of stack.
+ * length is 0. The answer buffer that check is lent overlaps no byte of the ticket.
  */
 
 /*
@@ -81,7 +130,16 @@ nuldwich_reply check(const uint8_t *ticket, size_t ticket_len, uint8_t *answer, 
  * answer, answer_len       the answer, exactly of its form, with nothing behind it: of a buffer that check filled, the bytes up to
  *                          the end of the record of kind 8
  */
-nuldwich_reply judge(const uint8_t *question, size_t question_len, const uint8_t *answer, size_t answer_len);
+nuldwich_judgement judge(const uint8_t *question, size_t question_len, const uint8_t *answer, size_t answer_len);
+
+/* The same two under names with the library's prefix, for callers whose own names should not meet short ones. */
+static inline nuldwich_reply nuldwich_check(const uint8_t *ticket, size_t ticket_len, uint8_t *answer, size_t answer_len) {
+    return check(ticket, ticket_len, answer, answer_len);
+}
+
+static inline nuldwich_judgement nuldwich_judge(const uint8_t *question, size_t question_len, const uint8_t *answer, size_t answer_len) {
+    return judge(question, question_len, answer, answer_len);
+}
 
 #ifdef __cplusplus
 }

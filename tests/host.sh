@@ -15,10 +15,7 @@ count() {
 }
 
 # What the host says of every example.
-for ticket in examples/*.ticket; do
-    echo "$(basename "$ticket" .ticket):"
-    "$host" "$ticket"
-done | diff tests/host/expected.txt -
+tests/host/words.sh "$host" | diff tests/host/expected.txt -
 count $?
 
 # Memory: on the vectors that are refused with 2 or 3, and on every fifteenth of those that are refused with 4 to 6 or bring strings.

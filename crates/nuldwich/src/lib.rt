@@ -10,26 +10,26 @@ use judging::Judgement;
 use judging::judge_answer;
 use limits::WORK_NUMBERS;
 
-// What both operations return: a number and a record.
+// What judge returns: a number and a record.
 #[repr(C)]
-pub struct Reply {
+pub struct JudgeReply {
     pub number: u64,
     pub record: u64,
 }
 
-fn reply_judgement(j: Judgement) -> Reply
+fn reply_judgement(j: Judgement) -> JudgeReply
     ensures { λ r. ⌜ r ≡ judgeReply (judgementOf j) ⌝ }
 {
     match j {
-        Judgement::Refused(c, r) => Reply {
+        Judgement::Refused(c, r) => JudgeReply {
             number: c as u64,
             record: r as u64,
         },
-        Judgement::AllMet => Reply {
+        Judgement::AllMet => JudgeReply {
             number: 0,
             record: 0,
         },
-        Judgement::Unmet(k) => Reply {
+        Judgement::Unmet(k) => JudgeReply {
             number: 255,
             record: k as u64,
         },
@@ -38,10 +38,17 @@ fn reply_judgement(j: Judgement) -> Reply
 
 // Judges an answer by a question; nothing is written.
 #[no_mangle]
-pub extern "C" fn judge(question: &[u8], answer: &[u8]) -> Reply
+pub extern "C" fn judge(question: &[u8], answer: &[u8]) -> JudgeReply
     ensures { λ r. ⌜ JudgeReplies (now (question .entry)) (now (answer .entry)) r ⌝ }
 {
     reply_judgement(judge_answer(question, answer))
+}
+
+// What check returns: a number and a record.
+#[repr(C)]
+pub struct Reply {
+    pub number: u64,
+    pub record: u64,
 }
 
 fn reply_outcome(o: Outcome) -> Reply
@@ -65,7 +72,7 @@ fn reply_outcome(o: Outcome) -> Reply
 
 // Checks a ticket in a lent work area: the entry for tests, which see the work area before and after.
 #[no_mangle]
-pub extern "C" fn check_in(ticket: &[u8], work: &mut [i64], answer: &mut [u8]) -> Reply
+pub extern "C" fn nuldwich_check_in(ticket: &[u8], work: &mut [i64], answer: &mut [u8]) -> Reply
     ensures { λ r. ⌜ LentReplies (now (ticket .entry)) (now (work .entry)) (now (work .exit)) (now (answer .entry)) (now (answer .exit)) r ⌝ }
 {
     reply_outcome(check_ticket(ticket, work, answer))

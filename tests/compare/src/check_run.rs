@@ -148,7 +148,7 @@ fn compare_check_in(
     let due_work = if reply_of(expected).number == 1 { work.clone() } else { vec![0; sizes.work] };
     let reply = check_in(ticket, &mut work, &mut answer);
     let same = reply == reply_of(expected) && answer == due && work == due_work;
-    (!same).then(|| difference("check_in", expected, reply, answer == due, work == due_work))
+    (!same).then(|| difference("nuldwich_check_in", expected, reply, answer == due, work == due_work))
 }
 
 /// One entry's difference in words.

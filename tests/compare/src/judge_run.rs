@@ -2,7 +2,7 @@
 
 use crate::assignments::{grow, small_or_edge, Grown, Wish};
 use crate::damage::damage;
-use crate::library::{Judge, Reply, UNMET};
+use crate::library::{Judge, JudgeReply, UNMET};
 use crate::random::Random;
 use crate::report::{hex, refused, Report};
 use crate::vectors::judgements;
@@ -48,11 +48,11 @@ fn compare(judge: Judge, question: &[u8], answer: &[u8], report: &mut Report) {
 }
 
 /// Whether a reply is what the judgement allows: any unmet constraint may be named.
-fn agrees(expected: &Judgement, reply: Reply) -> bool {
+fn agrees(expected: &Judgement, reply: JudgeReply) -> bool {
     match expected {
-        Judgement::AllMet => reply == Reply { number: 0, record: 0 },
+        Judgement::AllMet => reply == JudgeReply { number: 0, record: 0 },
         Judgement::Unmet(numbers) => reply.number == UNMET && numbers.contains(&(reply.record as usize)),
-        Judgement::Refused { number, record } => reply == Reply { number: *number, record: *record as u64 },
+        Judgement::Refused { number, record } => reply == JudgeReply { number: *number, record: *record as u64 },
     }
 }
 

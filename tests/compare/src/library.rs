@@ -3,7 +3,7 @@
 use nuldwich_reference::checking::WORK_AREA;
 use nuldwich_reference::{Judgement, Outcome};
 
-/// What an entry returns.
+/// What checking returns.
 #[repr(C)]
 #[derive(Clone, Copy, Debug, PartialEq)]
 pub struct Reply {
@@ -11,7 +11,15 @@ pub struct Reply {
     pub record: u64,
 }
 
-/// `Reply::number` of judging for a constraint that is not met.
+/// What judging returns.
+#[repr(C)]
+#[derive(Clone, Copy, Debug, PartialEq)]
+pub struct JudgeReply {
+    pub number: u64,
+    pub record: u64,
+}
+
+/// `JudgeReply::number` for a constraint that is not met.
 pub const UNMET: u64 = 255;
 
 /// Checking as the host calls it: ticket and answer buffer.
@@ -19,7 +27,7 @@ pub type Check = fn(&[u8], &mut [u8]) -> Reply;
 /// Checking with a lent work area: ticket, work area and answer buffer.
 pub type CheckIn = fn(&[u8], &mut [i64], &mut [u8]) -> Reply;
 /// Judging: question and answer.
-pub type Judge = fn(&[u8], &[u8]) -> Reply;
+pub type Judge = fn(&[u8], &[u8]) -> JudgeReply;
 
 #[cfg(feature = "check")]
 pub fn check(ticket: &[u8], answer: &mut [u8]) -> Reply {
@@ -33,7 +41,7 @@ pub fn check(ticket: &[u8], answer: &mut [u8]) -> Reply {
 #[cfg(feature = "check_in")]
 pub fn check_in(ticket: &[u8], work: &mut [i64], answer: &mut [u8]) -> Reply {
     extern "C" {
-        fn check_in(
+        fn nuldwich_check_in(
             ticket: *const u8,
             ticket_len: usize,
             work: *mut i64,
@@ -43,13 +51,22 @@ pub fn check_in(ticket: &[u8], work: &mut [i64], answer: &mut [u8]) -> Reply {
         ) -> Reply;
     }
     // The three slices are valid for their lengths during the call.
-    unsafe { check_in(ticket.as_ptr(), ticket.len(), work.as_mut_ptr(), work.len(), answer.as_mut_ptr(), answer.len()) }
+    unsafe {
+        nuldwich_check_in(
+            ticket.as_ptr(),
+            ticket.len(),
+            work.as_mut_ptr(),
+            work.len(),
+            answer.as_mut_ptr(),
+            answer.len(),
+        )
+    }
 }
 
 #[cfg(feature = "judge")]
-pub fn judge(question: &[u8], answer: &[u8]) -> Reply {
+pub fn judge(question: &[u8], answer: &[u8]) -> JudgeReply {
     extern "C" {
-        fn judge(question: *const u8, question_len: usize, answer: *const u8, answer_len: usize) -> Reply;
+        fn judge(question: *const u8, question_len: usize, answer: *const u8, answer_len: usize) -> JudgeReply;
     }
     // Both slices are valid for their lengths during the call.
     unsafe { judge(question.as_ptr(), question.len(), answer.as_ptr(), answer.len()) }
@@ -64,7 +81,7 @@ pub fn reply_of(outcome: &Outcome) -> Reply {
     }
 }
 
-/// The reference in the form of `check_in`.
+/// The reference in the form of `nuldwich_check_in`.
 pub fn reference_check_in(ticket: &[u8], work: &mut [i64], answer: &mut [u8]) -> Reply {
     let outcome = nuldwich_reference::check(ticket, work.len(), answer.len());
     let reply = reply_of(&outcome);
@@ -83,10 +100,10 @@ pub fn reference_check(ticket: &[u8], answer: &mut [u8]) -> Reply {
 }
 
 /// The reference in the form of `judge`.
-pub fn reference_judge(question: &[u8], answer: &[u8]) -> Reply {
+pub fn reference_judge(question: &[u8], answer: &[u8]) -> JudgeReply {
     match nuldwich_reference::judge(question, answer) {
-        Judgement::AllMet => Reply { number: 0, record: 0 },
-        Judgement::Unmet(numbers) => Reply { number: UNMET, record: numbers[0] as u64 },
-        Judgement::Refused { number, record } => Reply { number, record: record as u64 },
+        Judgement::AllMet => JudgeReply { number: 0, record: 0 },
+        Judgement::Unmet(numbers) => JudgeReply { number: UNMET, record: numbers[0] as u64 },
+        Judgement::Refused { number, record } => JudgeReply { number, record: record as u64 },
     }
 }

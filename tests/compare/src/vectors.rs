@@ -85,16 +85,22 @@ pub fn judgements(directory: &Path) -> Vec<JudgeVector> {
     vectors
 }
 
-/// The ticket files of a directory, by name.
+/// The ticket files of a directory and of those below it, by name.
 pub fn examples(directory: &Path) -> Vec<(String, Vec<u8>)> {
-    files(directory, "ticket").iter().map(|path| (path.display().to_string(), read(path))).collect()
+    let here = files(directory, "ticket").into_iter().map(|path| (path.display().to_string(), read(&path)));
+    let below = entries(directory).into_iter().filter(|path| path.is_dir()).flat_map(|path| examples(&path));
+    here.chain(below).collect()
 }
 
 /// The files of a directory with an ending, by name.
 fn files(directory: &Path, ending: &str) -> Vec<PathBuf> {
+    entries(directory).into_iter().filter(|path| path.extension().is_some_and(|found| found == ending)).collect()
+}
+
+/// What stands in a directory, by name.
+fn entries(directory: &Path) -> Vec<PathBuf> {
     let entries = fs::read_dir(directory).unwrap_or_else(|error| panic!("{}: {error}", directory.display()));
-    let paths = entries.map(|entry| entry.expect("an entry of the directory").path());
-    let mut paths: Vec<PathBuf> = paths.filter(|path| path.extension().is_some_and(|found| found == ending)).collect();
+    let mut paths: Vec<PathBuf> = entries.map(|entry| entry.expect("an entry of the directory").path()).collect();
     paths.sort();
     paths
 }

@@ -1,8 +1,8 @@
--- `nuldwich::check_in` meets its contract.
+-- `nuldwich::nuldwich_check_in` meets its contract.
 use borrow.Author.Needs.{needs}
 use Rattle.nuldwich.proofs.Numbered.{lent}
-use Rattle.nuldwich.proofs.check_in.Statement.{statement}
-use Rattle.nuldwich.proofs.check_in.Tie as tie
+use Rattle.nuldwich.proofs.nuldwich_check_in.Statement.{statement}
+use Rattle.nuldwich.proofs.nuldwich_check_in.Tie as tie
 
 check-ticket-requires : tie.Need-check-ticket-requires
 check-ticket-requires c κs = search needs
@@ -19,7 +19,7 @@ same-length-2 c = search needs
 returns : tie.Need-returns
 returns c = lent (c .before .before .before .before .check-ticket .ensures) (c .reply-outcome .ensures)
 
-pub check-in-spec : {M : Type 1} → statement M
-check-in-spec =
+pub nuldwich-check-in-spec : {M : Type 1} → statement M
+nuldwich-check-in-spec =
     tie.close
     (tie.spec check-ticket-requires reply-outcome-requires same-length same-length-2 returns)
