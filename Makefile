@@ -1,5 +1,8 @@
 # The commands of README.md.
-.PHONY: test run library host bench
+.PHONY: test run program library host install uninstall bench
+
+# The prover's runs share target/.
+.NOTPARALLEL:
 
 # The ticket that `make run` checks.
 TICKET ?= examples/example4.ticket
@@ -8,23 +11,50 @@ TICKET ?= examples/example4.ticket
 export CARGO_TARGET_DIR := $(CURDIR)/target/tests
 export NULDWICH_LIB_DIR := $(CURDIR)/target/staticlib
 
+# The library, and what it is proved and built from.
+LIBRARY := target/staticlib/libnuldwich.a
+SOURCES := crates.txt $(shell find crates -name must-fail -prune -o -print)
+
 # The whole gate: every crate proved from nothing, the edits that must fail, the executed tests.
 test:
 	@tests/gate.sh
 
 # Proves, builds and runs the program on a ticket: make run TICKET=examples/example4.ticket
 # Standard output has the program's lines alone; the prover's log goes to standard error.
-run:
-	@rt check verdict >&2
+run: program
 	@target/bin/verdict < $(TICKET)
 
+# The program: target/bin/verdict
+program:
+	@rt check verdict >&2
+
 # The library for C, with include/nuldwich.h: target/staticlib/libnuldwich.a
-library:
+library: $(LIBRARY)
+
+$(LIBRARY): $(SOURCES)
 	@rt staticlib nuldwich
 
 # The example of a host program: target/host TICKET
 host: library
-	@gcc -std=c11 -Wall -Wextra -Werror -O2 -Iinclude examples/host.c target/staticlib/libnuldwich.a -o target/host
+	@gcc -std=c11 -Wall -Wextra -Werror -O2 -Iinclude examples/host.c $(LIBRARY) -o target/host
+
+# Library, header, program and a file for pkg-config, below PREFIX: make install PREFIX=/usr/local. DESTDIR stands before every path, for packagers.
+PREFIX ?= /usr/local
+override PREFIX := $(abspath $(PREFIX))
+INSTALLED := lib/libnuldwich.a include/nuldwich.h bin/nuldwich-verdict lib/pkgconfig/nuldwich.pc
+INSTALL_TO = $(DESTDIR)$(PREFIX)
+VERSION = $(shell sed -n 's/^\#define NULDWICH_VERSION_STRING "\(.*\)"/\1/p' include/nuldwich.h)
+
+install: library program
+	@install -d $(addprefix $(INSTALL_TO)/,$(dir $(INSTALLED)))
+	@install -m 644 $(LIBRARY) $(INSTALL_TO)/lib/libnuldwich.a
+	@install -m 644 include/nuldwich.h $(INSTALL_TO)/include/nuldwich.h
+	@install -m 755 target/bin/verdict $(INSTALL_TO)/bin/nuldwich-verdict
+	@sed 's|@PREFIX@|$(PREFIX)|; s|@VERSION@|$(VERSION)|' include/nuldwich.pc.in > $(INSTALL_TO)/lib/pkgconfig/nuldwich.pc
+	@printf '%s\n' $(addprefix $(INSTALL_TO)/,$(INSTALLED))
+
+uninstall:
+	@rm -f $(addprefix $(INSTALL_TO)/,$(INSTALLED))
 
 # Time per check, beside a plain implementation and the reference checker.
 bench: library

@@ -42,6 +42,7 @@ if [ "$failed" -eq 0 ]; then
     counted "$CARGO_TARGET_DIR/release/compare_check"
     counted "$CARGO_TARGET_DIR/release/compare_program" target/bin/verdict
     counted tests/host.sh target/host
+    counted tests/install.sh
     counted tests/evidence.sh
 fi
 
