@@ -1,5 +1,7 @@
-//! Tests the account of tickets: on those whose whole output is on file, on every vector and example, and on grown and damaged tickets.
+//! Tests the account of tickets: on those whose whole output is on file, on every vector and example, and on grown and damaged tickets; and the bytes
+//! in docs/FORMAT.md.
 
+mod page;
 mod valid;
 
 use compare::check_run::grow;
@@ -33,6 +35,7 @@ fn main() -> ExitCode {
     let root = Path::new(env!("CARGO_MANIFEST_DIR")).join("../..");
     let mut report = Report::default();
     compare_held(&root, &mut report);
+    page::compare_page(&root, &mut report);
     for path in [files(&root.join("examples"), "ticket"), files(&root.join("tests/vectors"), "ticket")].concat() {
         examine(&path.display().to_string(), &read(&path), &mut report);
     }
