@@ -97,9 +97,9 @@ impl Scene<'_> {
         format!("fact {number} of record {}", self.sources[number])
     }
 
-    /// A fact of the branch in words.
+    /// A fact of the branch in words; it was written out where it was added.
     pub fn fact_words(&self, number: usize) -> String {
-        words::fact(&self.ticket.question, &self.branch()[number])
+        words::known_fact(&self.ticket.question, &self.branch()[number])
     }
 }
 

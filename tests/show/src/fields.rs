@@ -173,7 +173,7 @@ impl Reader<'_> {
 
     /// "u16 relation, u16 a, u16 b"
     fn string_constraint(&mut self) {
-        let names = ["variable a ≈ variable b", "variable a ≉ variable b", "variable a ≈ literal b"];
+        let names = ["a ≈ b", "a ≉ b", "a ≈ literal b"];
         let allowed = Allowed::range(0, 2, "0 is a ≈ b, 1 is a ≉ b, 2 is a ≈ literal b");
         let relation = self.u16("relation", allowed, |value| Some(names[value as usize].to_string()));
         self.variable("a");

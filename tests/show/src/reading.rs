@@ -33,25 +33,13 @@ pub fn notes_of_refused(scene: &Scene, refusal: u64, record: &Record) -> Vec<Not
 
 /// The alphabet, the variables and the columns.
 fn head(question: &Question) -> String {
-    let strings: Vec<String> = (0..question.p).map(words::variable).collect();
-    let integers: Vec<String> = (0..question.q).map(|i| format!("i{i}")).collect();
-    let columns: Vec<String> = (0..question.columns()).map(|place| words::column(question, place)).collect();
-    format!(
-        "characters 0 to {}; string variables: {}; integer variables: {}; columns: {}",
-        words::number(i128::from(question.n) - 1),
-        some(&strings),
-        some(&integers),
-        some(&columns)
-    )
-}
-
-/// Names one after another, or `none`.
-fn some(names: &[String]) -> String {
-    if names.is_empty() {
-        "none".to_string()
-    } else {
-        names.join(" ")
-    }
+    let characters = words::number(i128::from(question.n) - 1);
+    let strings = words::count(question.p, "string variable");
+    let integers = words::count(question.q, "integer variable");
+    let columns = (0..question.columns()).map(|place| format!("{place}:{}", words::column(question, place)));
+    let columns = columns.collect::<Vec<_>>().join(", ");
+    let columns = if columns.is_empty() { "no columns".to_string() } else { format!("columns: {columns}") };
+    format!("characters 0 to {characters}, {strings}, {integers}; {columns}")
 }
 
 fn literal(question: &Question) -> Note {

@@ -287,7 +287,7 @@ fn broken(scene: &Scene, body: &[u8]) -> Vec<String> {
         let Fact::Arithmetic(relation, row) = fact else { continue };
         let value = row.value(&model);
         if !relation.holds(value) {
-            let (name, shown) = (scene.fact_name(number), words::fact(question, fact));
+            let (name, shown) = (scene.fact_name(number), scene.fact_words(number));
             let with = model_values(question, row, &model);
             reasons.push(format!("{name}, {shown}: its left side is {} under the model{with}", words::number(value)));
         }

@@ -91,22 +91,36 @@ fn shortened(bytes: &[u8], most: usize) -> String {
     format!("{} .. ({} bytes)", words::hex(&bytes[..most]), words::number(bytes.len() as i128))
 }
 
-/// Fields one after another; those of a pair stand together.
-fn fields(fields: &[Field]) -> String {
-    let mut line = String::new();
-    let mut pair = None;
-    for field in fields {
-        let new = field.pair.filter(|_| field.pair != pair);
-        line += match (line.is_empty(), new.is_some()) {
-            (true, _) => "",
-            (_, true) => "; ",
-            _ => ", ",
-        };
-        line += &new.map_or(String::new(), |number| format!("pair {number}: ").replace(' ', UNBROKEN));
-        line += &field.words().replace(' ', UNBROKEN);
-        pair = field.pair;
+/// Fields one after another, pairs behind the others: by their values, or by name where a field is at fault.
+fn fields(entry: &Entry) -> String {
+    let (pairs, plain): (Vec<&Field>, Vec<&Field>) = entry.fields.iter().partition(|field| field.pair.is_some());
+    let mut parts = vec![named(&plain)];
+    let at_fault = entry.fields.iter().any(|field| !field.in_range());
+    if let ([first, second, ..], false) = (&pairs[..], at_fault) {
+        let values: Vec<String> = pairs.chunks(2).map(pair_values).collect();
+        let names = unbroken(&format!("pairs ({}, {}):", first.name, second.name));
+        parts.push(format!("{names} {}", values.join(" ")));
+    } else {
+        let pair = |(place, pair): (usize, &[&Field])| unbroken(&format!("pair {}: ", place + 1)) + &named(pair);
+        parts.extend(pairs.chunks(2).enumerate().map(pair));
     }
-    line
+    parts.join("; ")
+}
+
+/// Fields by name.
+fn named(fields: &[&Field]) -> String {
+    fields.iter().map(|field| unbroken(&field.words())).collect::<Vec<_>>().join(", ")
+}
+
+/// The values of a pair: `(0, −1)`.
+fn pair_values(pair: &[&Field]) -> String {
+    let values: Vec<String> = pair.iter().map(|field| words::number(field.value)).collect();
+    unbroken(&format!("({})", values.join(", ")))
+}
+
+/// Words that stand on one line.
+fn unbroken(words: &str) -> String {
+    words.replace(' ', UNBROKEN)
 }
 
 /// A note: `adds fact 3: ..`, `uses fact 0 of record 2: ..`, or its words alone.
@@ -138,7 +152,7 @@ impl Page {
         let mut head = format!("record {}, {}, {}", entry.number, bytes(entry.start, entry.end), kind_words(entry));
         let told = entry.notes.iter().any(|note| note.number.is_some()) && matches!(entry.kind, Some(2 | 7));
         if !entry.fields.is_empty() && !told {
-            head += &format!(": {}", fields(&entry.fields));
+            head += &format!(": {}", fields(entry));
         }
         self.line(indent, &head);
         if !entry.unread.is_empty() {
@@ -167,10 +181,9 @@ impl Page {
     fn line(&mut self, indent: usize, words: &str) {
         let mut line = " ".repeat(indent);
         let mut room = WIDTH - indent;
-        let unbroken = ["≥ 0", "= 0", "≠ 0"]
-            .iter()
-            .fold(words.to_string(), |words, relation| words.replace(relation, &relation.replace(' ', UNBROKEN)));
-        for (place, word) in unbroken.split(' ').flat_map(cut).enumerate() {
+        let relations = ["≥ 0", "= 0", "≠ 0"];
+        let words = relations.iter().fold(words.to_string(), |words, one| words.replace(one, &unbroken(one)));
+        for (place, word) in words.split(' ').flat_map(cut).enumerate() {
             let needed = word.chars().count() + usize::from(place > 0);
             if needed > room {
                 self.text += &format!("{}\n", line.trim_end());

@@ -7,6 +7,9 @@ use nuldwich_reference::question::Question;
 /// A literal is shown in full up to this many characters where it stands within a fact.
 const SHORT: usize = 24;
 
+/// How many terms of a form are shown where it stands in full elsewhere.
+const MANY: usize = 12;
+
 /// A number with its thousands apart.
 pub fn number(value: i128) -> String {
     let digits = value.unsigned_abs().to_string();
@@ -102,14 +105,23 @@ pub fn column(question: &Question, column: usize) -> String {
 
 /// A linear form: `2·len(x0) − code(x1) + 3`.
 pub fn form(question: &Question, row: &Row) -> String {
+    form_up_to(question, row, usize::MAX)
+}
+
+/// A linear form with its first terms, as many as are asked for, and how many more there are.
+fn form_up_to(question: &Question, row: &Row, most: usize) -> String {
     let mut words = String::new();
-    let terms = row.coefficients.iter().enumerate().filter(|(_, coefficient)| **coefficient != 0);
-    for (place, coefficient) in terms {
+    let places: Vec<usize> = (0..row.coefficients.len()).filter(|place| row.coefficients[*place] != 0).collect();
+    for place in places.iter().take(most) {
+        let coefficient = row.coefficients[*place];
         let size = match coefficient.abs() {
             1 => String::new(),
             size => format!("{}·", number(size)),
         };
-        add_term(&mut words, *coefficient, &format!("{size}{}", column(question, place)));
+        add_term(&mut words, coefficient, &format!("{size}{}", column(question, *place)));
+    }
+    if places.len() > most {
+        add_term(&mut words, 1, &format!("({} more terms)", places.len() - most));
     }
     if words.is_empty() {
         return number(row.constant);
@@ -138,6 +150,14 @@ pub fn fact(question: &Question, fact: &Fact) -> String {
         Fact::Differ(a, b) => format!("{} ≉ {}", variable(*a), variable(*b)),
         Fact::IsLiteral(a, number) => format!("{} ≈ {}", variable(*a), literal(question, *number)),
         Fact::Arithmetic(of, row) => format!("{} {}", form(question, row), relation(*of)),
+    }
+}
+
+/// A fact that was written out before: of a long one the first terms alone.
+pub fn known_fact(question: &Question, known: &Fact) -> String {
+    match known {
+        Fact::Arithmetic(of, row) => format!("{} {}", form_up_to(question, row, MANY), relation(*of)),
+        _ => fact(question, known),
     }
 }
 
