@@ -1,7 +1,7 @@
 //! The account of a ticket: an entry for each record, with what it says and what it does on the branch.
 
 use crate::fields::{fields_of, Field};
-use crate::{reading, refusals, steps, words};
+use crate::{malformed, reading, refusals, steps, words};
 use nuldwich_reference::checking::{Outcome, Ticket, LONGEST_TICKET};
 use nuldwich_reference::derivation::Derivation;
 use nuldwich_reference::facts::Fact;
@@ -136,7 +136,7 @@ impl Walk<'_> {
             number += 1;
         }
         let mut entry = self.rest(number, start);
-        entry.state = State::Refused { number: 3, reasons: refusals::cut_short(&self.scene(number, start)) };
+        entry.state = State::Refused { number: 3, reasons: malformed::cut_short(&self.scene(number, start)) };
         self.entries.push(entry);
         Outcome::Refused { number: 3, record: number }
     }
@@ -145,7 +145,7 @@ impl Walk<'_> {
     fn refuse_length(&mut self) -> Outcome {
         self.list_rest(0, 0);
         if let Some(first) = self.entries.first_mut() {
-            first.state = State::Refused { number: 2, reasons: refusals::too_long(self.bytes.len()) };
+            first.state = State::Refused { number: 2, reasons: malformed::too_long(self.bytes.len()) };
         }
         Outcome::Refused { number: 2, record: 0 }
     }

@@ -136,7 +136,7 @@ fn children_notes(ticket: &Ticket, step: &Step, children: &[Vec<Fact>]) -> Vec<N
     let mut notes = vec![Note::words(head)];
     let first = match &step.rule {
         Rule::Card(variables) if variables.len() > FEW => {
-            let pairs = variables.len() * (variables.len() - 1) / 2;
+            let pairs = pairs(variables.len());
             let named = words::variables(variables);
             let text = format!("children 1 to {pairs}: ≈ between each pair of {named}, in this order");
             notes.push(Note { what: "child", ..Note::words(text) });
@@ -148,6 +148,11 @@ fn children_notes(ticket: &Ticket, step: &Step, children: &[Vec<Fact>]) -> Vec<N
         children.iter().enumerate().skip(first).map(|(place, child)| child_note(&ticket.question, place, child)),
     );
     notes
+}
+
+/// How many pairs there are of so many variables.
+pub fn pairs(variables: usize) -> usize {
+    variables * (variables - 1) / 2
 }
 
 fn child_note(question: &Question, place: usize, child: &[Fact]) -> Note {

@@ -1,7 +1,7 @@
 //! Why a leaf is not settled by its model (13).
 
 use crate::account::Scene;
-use crate::refusals::model_values;
+use crate::broken::model_values;
 use crate::{steps, words};
 use nuldwich_reference::facts::Fact;
 use nuldwich_reference::leaf::{read_model, Leaf};
@@ -45,7 +45,7 @@ impl Unsettled<'_> {
     /// Why each child fails; Card's pairs in one line.
     fn children(&self, rule: &Rule) -> Vec<String> {
         let (children, first) = match rule {
-            Rule::Card(variables) => (self.leaf.place.card_children(variables), pairs(variables.len())),
+            Rule::Card(variables) => (self.leaf.place.card_children(variables), steps::pairs(variables.len())),
             _ => match self.leaf.place.conclude(rule) {
                 Some(Conclusion::Children(children)) => (children, 0),
                 _ => (Vec::new(), 0),
@@ -157,9 +157,4 @@ fn named(rule: &Rule) -> String {
         Rule::Card(variables) => format!("Card on {}", words::variables(variables)),
         _ => "the rule".to_string(),
     }
-}
-
-/// How many pairs there are of so many variables.
-fn pairs(variables: usize) -> usize {
-    variables * (variables - 1) / 2
 }

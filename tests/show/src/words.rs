@@ -29,6 +29,12 @@ pub fn count(number_of: usize, noun: &str) -> String {
     format!("{} {noun}{ending}", number(number_of as i128))
 }
 
+/// `1 more field is`, `2 more fields are`
+pub fn more(number: usize, noun: &str) -> String {
+    let (ending, verb) = if number == 1 { ("", "is") } else { ("s", "are") };
+    format!("{number} more {noun}{ending} {verb}")
+}
+
 /// Items in a sentence: `a`, `a or b`, `a, b or c`.
 pub fn listed(items: &[String], word: &str) -> String {
     match items {
