@@ -103,12 +103,12 @@ fn misfit(scene: &Scene, record: &Record) -> Vec<String> {
     let Some(length) = length_of(scene.ticket, record.kind, record.body) else {
         return Vec::new();
     };
-    let name = match record.kind {
-        6 if record.body.len() >= 4 => rule_name(u16_at(record.body, 0)),
-        kind => kind_name(kind),
+    let rule = if record.kind == 6 && record.body.len() >= 4 { rule_name(u16_at(record.body, 0)) } else { None };
+    let name = match rule {
+        Some(rule) => format!("a step of {rule}"),
+        None => format!("kind {}, {},", record.kind, kind_name(record.kind).unwrap_or("unknown")),
     };
-    let there = words::count(record.body.len(), "byte");
-    let (name, lengths) = (name.unwrap_or("this kind"), length.words());
+    let (there, lengths) = (words::count(record.body.len(), "byte"), length.words());
     vec![format!("the body has {there} (u32 at byte {}); for {name} it has {lengths}: {}", scene.start, length.parts)]
 }
 
@@ -135,6 +135,6 @@ fn out_of_range(scene: &Scene, record: &Record) -> Vec<String> {
 fn repeated(scene: &Scene, record: &Record) -> Vec<String> {
     let text: Vec<u32> = record.body.chunks(4).map(|field| u32_at(field, 0)).collect();
     let earlier = scene.ticket.question.literals.iter().position(|literal| *literal == text);
-    let same = |number| format!("{} was written in record {number} already", words::text(&text));
+    let same = |number| format!("its text, {}, is that of literal {number} in record {number}", words::text(&text));
     earlier.map(same).into_iter().collect()
 }

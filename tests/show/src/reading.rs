@@ -14,7 +14,7 @@ pub fn notes(scene: &Scene, after: &Ticket, record: &Record) -> Vec<Note> {
     match record.kind {
         1 => vec![Note::words(head(&after.question))],
         2 => vec![literal(&after.question)],
-        3 | 4 => constraint(&after.question),
+        3 | 4 => vec![constraint(&after.question)],
         5 => vec![Note::words(claim(after.claim))],
         6 => step(scene, after, record.body),
         7 => [columns(&scene.ticket.question, record.body), strings(scene, after, record.body)].concat(),
@@ -48,15 +48,15 @@ fn literal(question: &Question) -> Note {
     Note::numbered("literal", number, format!("{}, {}", words::text(text), words::count(text.len(), "character")))
 }
 
-fn constraint(question: &Question) -> Vec<Note> {
-    let last = question.constraints.iter().enumerate().last();
-    last.map(|(number, fact)| Note::numbered("fact", number, words::fact(question, fact))).into_iter().collect()
+fn constraint(question: &Question) -> Note {
+    let number = question.constraints.len() - 1;
+    Note::numbered("fact", number, words::fact(question, &question.constraints[number]))
 }
 
 fn claim(claim: u16) -> &'static str {
     match claim {
-        1 => "the steps must close every branch: no strings and no integers meet the question",
-        _ => "the steps lead to a leaf whose model gives strings and integers that meet the question",
+        1 => "claimed: no strings and no integers meet the question; the steps are to close every branch",
+        _ => "claimed: strings and integers meet the question; a model is to give them",
     }
 }
 

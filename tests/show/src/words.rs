@@ -66,7 +66,7 @@ pub fn text(characters: &[u32]) -> String {
         Some(text) => format!("\"{text}\""),
         None => {
             let points: Vec<String> = characters.iter().map(|character| character.to_string()).collect();
-            format!("code points {}", points.join(" "))
+            format!("code point{} {}", if points.len() == 1 { "" } else { "s" }, points.join(" "))
         }
     }
 }
