@@ -1,11 +1,16 @@
 # The commands of README.md.
-.PHONY: test run program library host install uninstall bench
+.PHONY: test run show program library host install uninstall bench
 
 # The prover's runs share target/.
 .NOTPARALLEL:
 
-# The ticket that `make run` checks.
+# The ticket that `make run` checks and `make show` explains. One that is not there is told before anything is proved or built.
 TICKET ?= examples/example4.ticket
+ifneq ($(filter run show,$(MAKECMDGOALS)),)
+ifneq ($(shell test -f '$(TICKET)' && test -r '$(TICKET)' && echo there),there)
+$(error there is no ticket to read at '$(TICKET)': give its path as TICKET=PATH)
+endif
+endif
 
 # Everything that is generated stands below target/.
 export CARGO_TARGET_DIR := $(CURDIR)/target/tests
@@ -22,7 +27,13 @@ test:
 # Proves, builds and runs the program on a ticket: make run TICKET=examples/example4.ticket
 # Standard output has the program's lines alone; the prover's log goes to standard error.
 run: program
-	@target/bin/verdict < $(TICKET)
+	@target/bin/verdict < '$(TICKET)'
+
+# Explains a ticket record by record, and what is wrong at a record refused: make show TICKET=examples/example1.ticket
+# With JSON=1 for programs. Standard output has the account alone.
+show: library
+	@cargo build --quiet --release --offline --locked --manifest-path tests/Cargo.toml -p show --features library
+	@target/tests/release/show $(if $(JSON),--json) '$(TICKET)'
 
 # The program: target/bin/verdict
 program:
@@ -32,7 +43,7 @@ program:
 library: $(LIBRARY)
 
 $(LIBRARY): $(SOURCES)
-	@rt staticlib nuldwich
+	@rt staticlib nuldwich >&2
 
 # The example of a host program: target/host TICKET
 host: library

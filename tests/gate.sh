@@ -41,6 +41,8 @@ if [ "$failed" -eq 0 ]; then
     counted "$CARGO_TARGET_DIR/release/compare_judge"
     counted "$CARGO_TARGET_DIR/release/compare_check"
     counted "$CARGO_TARGET_DIR/release/compare_program" target/bin/verdict
+    single build -p show --features library
+    counted "$CARGO_TARGET_DIR/release/show_test"
     counted tests/host.sh target/host
     counted tests/install.sh
     counted tests/evidence.sh

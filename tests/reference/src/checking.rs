@@ -25,12 +25,13 @@ pub enum Outcome {
     Strings { answer: Vec<u8> },
 }
 
-/// What has been read of a ticket.
-struct Ticket {
-    question: Question,
-    claim: u16,
-    derivation: Option<Derivation>,
-    answer: Option<Vec<u8>>,
+/// What has been read of a ticket; claim 0 stands for none yet.
+#[derive(Clone, Default)]
+pub struct Ticket {
+    pub question: Question,
+    pub claim: u16,
+    pub derivation: Option<Derivation>,
+    pub answer: Option<Vec<u8>>,
 }
 
 /// "Checking names the first faulty record from 0 (0 for 1 and 2)."
@@ -46,7 +47,7 @@ pub fn check(ticket: &[u8], work_len: usize, answer_len: usize) -> Outcome {
 
 /// "Records are read one after another from the lent bytes."
 fn check_records(bytes: &[u8]) -> Outcome {
-    let mut ticket = Ticket { question: Question::default(), claim: 0, derivation: None, answer: None };
+    let mut ticket = Ticket::default();
     let mut start = 0;
     for number in 0.. {
         let Some(record) = record_at(bytes, start) else {
@@ -60,15 +61,20 @@ fn check_records(bytes: &[u8]) -> Outcome {
         }
         start = record.end;
     }
-    match ticket.answer {
-        Some(answer) => Outcome::Strings { answer },
-        None => Outcome::NoSolution,
-    }
+    ticket.accepted()
 }
 
 impl Ticket {
+    /// The outcome of a ticket whose end was taken.
+    pub fn accepted(self) -> Outcome {
+        match self.answer {
+            Some(answer) => Outcome::Strings { answer },
+            None => Outcome::NoSolution,
+        }
+    }
+
     /// Takes one whole record; 4 to 14 in this order.
-    fn take(&mut self, record: &Record, ticket_length: usize) -> Result<(), Refusal> {
+    pub fn take(&mut self, record: &Record, ticket_length: usize) -> Result<(), Refusal> {
         match record.kind {
             5 => self.take_claim(record.body),
             6 => self.take_step(record.body),

@@ -56,11 +56,20 @@ impl Classes {
 
     /// S-Conf "fits when two different literals share a class, or a ≉ fact has both sides in one".
     pub fn conflict(&self, branch: &[Fact]) -> bool {
-        let clash = (0..self.literals.len()).any(|l| (0..l).any(|k| self.literals[k] == self.literals[l]));
-        let differ = branch.iter().any(|fact| match *fact {
+        self.clash().is_some() || self.broken_difference(branch).is_some()
+    }
+
+    /// "two different literals share a class": the lower one first.
+    pub fn clash(&self) -> Option<(usize, usize)> {
+        let mut pairs = (0..self.literals.len()).flat_map(|l| (0..l).map(move |k| (k, l)));
+        pairs.find(|(k, l)| self.literals[*k] == self.literals[*l])
+    }
+
+    /// "a ≉ fact has both sides in one": the number of the first one.
+    pub fn broken_difference(&self, branch: &[Fact]) -> Option<usize> {
+        branch.iter().position(|fact| match *fact {
             Fact::Differ(a, b) => self.together(a, b),
             _ => false,
-        });
-        clash || differ
+        })
     }
 }

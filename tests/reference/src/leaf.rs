@@ -12,7 +12,7 @@ use crate::{demand, Refusal};
 pub const VALUE_LIMIT: i128 = 100_000_000;
 
 /// "14 when a length passes 64"
-const LONGEST: i128 = 64;
+pub const LONGEST: i128 = 64;
 
 /// The branch at the model.
 pub struct Leaf<'a> {
@@ -40,12 +40,12 @@ pub fn strings_of(question: &Question, branch: &[Fact], model: Vec<i128>) -> Res
 
 impl Leaf<'_> {
     /// The model's length of a variable.
-    fn length(&self, x: usize) -> i128 {
+    pub fn length(&self, x: usize) -> i128 {
         self.model[self.place.question.len_column(x)]
     }
 
     /// The model's code of a variable.
-    fn code(&self, x: usize) -> i128 {
+    pub fn code(&self, x: usize) -> i128 {
         self.model[self.place.question.code_column(x)]
     }
 
@@ -58,7 +58,7 @@ impl Leaf<'_> {
     }
 
     /// "an arithmetic fact by the model's values, an ≈ by classes"
-    fn holds(&self, fact: &Fact) -> bool {
+    pub fn holds(&self, fact: &Fact) -> bool {
         match fact {
             Fact::Same(a, b) => self.place.classes.together(*a, *b),
             Fact::IsLiteral(a, literal) => self.place.classes.holds(*a, *literal),
@@ -75,7 +75,7 @@ impl Leaf<'_> {
     }
 
     /// "every choice of operands" of rules 6 to 11.
-    fn choices(&self) -> Vec<Rule> {
+    pub fn choices(&self) -> Vec<Rule> {
         let p = self.place.question.p;
         let mut rules = Vec::new();
         for x in 0..p {
@@ -90,7 +90,7 @@ impl Leaf<'_> {
     }
 
     /// "for every choice of operands whose premise holds .., some child holds already"
-    fn choice_is_settled(&self, rule: &Rule) -> bool {
+    pub fn choice_is_settled(&self, rule: &Rule) -> bool {
         match self.place.conclude(rule) {
             Some(Conclusion::Children(children)) => self.some_child_holds(&children),
             _ => true,
@@ -102,17 +102,25 @@ impl Leaf<'_> {
         children.iter().any(|child| child.iter().all(|fact| self.holds(fact)))
     }
 
-    /// "Card's premise is equal model lengths": one variable of each class is the hardest choice, any other has fewer or repeats a class.
+    /// Settled for every choice of Card's operands.
     fn card_is_settled(&self) -> bool {
-        (0..self.place.question.p).all(|x| {
-            let mut choice: Vec<usize> = Vec::new();
-            for y in (0..self.place.question.p).filter(|y| self.length(*y) == self.length(x)) {
-                if !choice.iter().any(|z| self.place.classes.together(*z, y)) {
-                    choice.push(y);
-                }
+        (0..self.place.question.p).all(|x| self.card_choice_is_settled(&self.card_choice(x)))
+    }
+
+    /// "Card's premise is equal model lengths": one variable of each class is the hardest choice, any other has fewer or repeats a class.
+    pub fn card_choice(&self, x: usize) -> Vec<usize> {
+        let mut choice: Vec<usize> = Vec::new();
+        for y in (0..self.place.question.p).filter(|y| self.length(*y) == self.length(x)) {
+            if !choice.iter().any(|z| self.place.classes.together(*z, y)) {
+                choice.push(y);
             }
-            choice.len() < 2 || self.some_child_holds(&self.place.card_children(&choice))
-        })
+        }
+        choice
+    }
+
+    /// Whether some child of Card holds for variables of equal model lengths; fewer than two are no choice.
+    pub fn card_choice_is_settled(&self, choice: &[usize]) -> bool {
+        choice.len() < 2 || self.some_child_holds(&self.place.card_children(choice))
     }
 
     /// The lowest variable of each class.

@@ -46,7 +46,7 @@ impl Place<'_> {
     }
 
     /// The arithmetic fact of a number; nothing for a string fact or "a fact not on the branch".
-    fn arithmetic(&self, number: usize) -> Option<(Relation, &Row)> {
+    pub fn arithmetic(&self, number: usize) -> Option<(Relation, &Row)> {
         match self.branch.get(number) {
             Some(Fact::Arithmetic(relation, row)) => Some((*relation, row)),
             _ => None,
@@ -54,7 +54,7 @@ impl Place<'_> {
     }
 
     /// "Multipliers are at least 1 on a ≥ fact, nonzero on an equation; ≠ facts and string facts do not fit."
-    fn multiplier_fits(relation: Relation, multiplier: i128) -> bool {
+    pub fn multiplier_fits(relation: Relation, multiplier: i128) -> bool {
         match relation {
             AtLeast => multiplier >= 1,
             Equal => multiplier != 0,
@@ -62,8 +62,8 @@ impl Place<'_> {
         }
     }
 
-    /// "Column sums must divide exactly; the constant is divided rounding down. Adds a ≥ fact."
-    fn sum(&self, divisor: i128, pairs: &[(usize, i128)]) -> Option<Fact> {
+    /// The sum before it is divided; nothing where a fact or its multiplier does not fit.
+    pub fn total(&self, pairs: &[(usize, i128)]) -> Option<Row> {
         let mut total = Row::constant(self.question.columns(), 0);
         for (fact, multiplier) in pairs {
             let (relation, row) = self.arithmetic(*fact)?;
@@ -72,6 +72,12 @@ impl Place<'_> {
             }
             total = total.plus(*multiplier, row);
         }
+        Some(total)
+    }
+
+    /// "Column sums must divide exactly; the constant is divided rounding down. Adds a ≥ fact."
+    fn sum(&self, divisor: i128, pairs: &[(usize, i128)]) -> Option<Fact> {
+        let total = self.total(pairs)?;
         if total.coefficients.iter().any(|sum| sum % divisor != 0) {
             return None;
         }
@@ -168,19 +174,19 @@ impl Place<'_> {
     /// "Card: 2 to 16 different variables; for each neighbouring pair a fact states their lengths' difference = 0."
     fn cardinality(&self, variables: &[usize]) -> Option<Conclusion> {
         let repeats = (0..variables.len()).any(|j| variables[..j].contains(&variables[j]));
-        let equal = variables.windows(2).all(|pair| self.lengths_equal(pair[0], pair[1]));
+        let equal = variables.windows(2).all(|pair| self.equal_lengths(pair[0], pair[1]).is_some());
         if repeats || !equal {
             return None;
         }
         split(self.card_children(variables))
     }
 
-    /// "a fact states their lengths' difference = 0, coefficients 1 and −1 in either order"
-    fn lengths_equal(&self, x: usize, y: usize) -> bool {
+    /// "a fact states their lengths' difference = 0, coefficients 1 and −1 in either order": the number of the first one.
+    pub fn equal_lengths(&self, x: usize, y: usize) -> Option<usize> {
         let (len_x, len_y) = (self.question.len_column(x), self.question.len_column(y));
         let row = self.row(0, len_x, 1).with(len_y, -1);
-        self.branch.contains(&Fact::Arithmetic(Equal, row.negative()))
-            || self.branch.contains(&Fact::Arithmetic(Equal, row))
+        let facts = [Fact::Arithmetic(Equal, row.negative()), Fact::Arithmetic(Equal, row)];
+        self.branch.iter().position(|fact| facts.contains(fact))
     }
 
     /// "Children, for each pair i < j in lexicographic order, x_i ≈ x_j; last, len(x_1) ≥ L"; "With n = 1 the last child is left out."

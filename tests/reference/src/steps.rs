@@ -30,7 +30,7 @@ pub struct Step {
 }
 
 /// "The length of each rule's operands follows a fixed table of step forms": fixed bytes, stride, least and greatest count.
-fn form(rule: u16) -> Option<(usize, usize, usize, usize)> {
+pub fn form(rule: u16) -> Option<(usize, usize, usize, usize)> {
     match rule {
         1 => Some((4, 6, 1, 8)),
         2 => Some((4, 6, 0, 48)),
@@ -69,7 +69,7 @@ fn child_in_range(question: &Question, claim: u16, rule: &Rule, child: usize) ->
 }
 
 /// How many children may be named: "it is 1 for a rule with one conclusion or none".
-fn conclusions(question: &Question, rule: &Rule) -> usize {
+pub fn conclusions(question: &Question, rule: &Rule) -> usize {
     match rule {
         Rule::Branch(_) | Rule::Apart(_) | Rule::LValid(_) | Rule::CValid(_) => 2,
         Rule::CInj(..) => 3,
@@ -82,7 +82,7 @@ fn conclusions(question: &Question, rule: &Rule) -> usize {
 }
 
 /// The operands of each rule, "u16 unless named", each in its range.
-fn read_rule(question: &Question, number: u16, operands: &[u8]) -> Result<Rule, Refusal> {
+pub fn read_rule(question: &Question, number: u16, operands: &[u8]) -> Result<Rule, Refusal> {
     let fact = |place: usize| usize::from(u16_at(operands, 2 * place));
     let variable = |place: usize| {
         let number = usize::from(u16_at(operands, 2 * place));

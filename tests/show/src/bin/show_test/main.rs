@@ -1,0 +1,161 @@
+//! Tests the account of tickets: on those whose whole output is on file, on every vector and example, and on grown and damaged tickets; and the bytes
+//! in docs/FORMAT.md.
+
+mod page;
+mod valid;
+
+use compare::check_run::grow;
+use compare::damage::damage;
+use compare::library;
+use compare::random::Random;
+use compare::report::{self, hex, refused, Report};
+use show::account::{account, Account, State};
+use show::json::json;
+use show::text::{text, SAYS, WIDTH};
+use show::verdict::{verdict, Verdict};
+use std::fs;
+use std::path::{Path, PathBuf};
+use std::process::ExitCode;
+
+/// How many tickets are grown, each damaged as well.
+const GROWN: u64 = 1_000;
+
+/// The least number of tickets whose whole output is on file.
+const LEAST_HELD: usize = 6;
+
+/// An account with its text and JSON.
+struct Shown {
+    account: Account,
+    verdict: Verdict,
+    text: String,
+    json: String,
+}
+
+fn main() -> ExitCode {
+    let root = Path::new(env!("CARGO_MANIFEST_DIR")).join("../..");
+    let mut report = Report::default();
+    compare_held(&root, &mut report);
+    page::compare_page(&root, &mut report);
+    for path in [files(&root.join("examples"), "ticket"), files(&root.join("tests/vectors"), "ticket")].concat() {
+        examine(&path.display().to_string(), &read(&path), &mut report);
+    }
+    for seed in 0..GROWN {
+        let mut random = Random::new(seed);
+        let ticket = grow(&mut random);
+        examine(&hex(&ticket), &ticket, &mut report);
+        let damaged = damage(&mut random, &ticket);
+        examine(&hex(&damaged), &damaged, &mut report);
+    }
+    report.print_outcomes("tickets in words");
+    report.demand_met(&(2..=14).map(refused).collect::<Vec<_>>());
+    report::finish(&[report])
+}
+
+fn show(ticket: &[u8]) -> Shown {
+    let (account, verdict) = (account(ticket), verdict(library::check, ticket));
+    Shown { text: text(&account, &verdict), json: json(&account, &verdict), account, verdict }
+}
+
+/// The files below a directory with an ending, by name.
+fn files(directory: &Path, ending: &str) -> Vec<PathBuf> {
+    let entries = fs::read_dir(directory).unwrap_or_else(|error| panic!("{}: {error}", directory.display()));
+    let mut paths: Vec<PathBuf> = entries.map(|entry| entry.expect("an entry of the directory").path()).collect();
+    paths.sort();
+    let below = |path: PathBuf| match path.is_dir() {
+        true => files(&path, ending),
+        false => vec![path],
+    };
+    paths.into_iter().flat_map(below).filter(|path| path.extension().is_some_and(|found| found == ending)).collect()
+}
+
+fn read(path: &Path) -> Vec<u8> {
+    fs::read(path).unwrap_or_else(|error| panic!("{}: {error}", path.display()))
+}
+
+/// The outputs in `expected`, of a ticket that stands there or among the examples.
+fn compare_held(root: &Path, report: &mut Report) {
+    let directory = root.join("tests/show/expected");
+    let (texts, objects) = (files(&directory, "txt"), files(&directory, "json"));
+    if texts.len() < LEAST_HELD || objects.is_empty() {
+        report.fail("too few outputs on file");
+    }
+    for path in texts.iter().chain(&objects) {
+        let own = path.with_extension("ticket");
+        let ticket = if own.exists() { own } else { root.join("examples").join(own.file_name().expect("a name")) };
+        let shown = show(&read(&ticket));
+        let printed = if path.extension().is_some_and(|ending| ending == "txt") { shown.text } else { shown.json };
+        let difference = (printed.as_bytes() != read(path)).then(|| format!("{} has not:\n{printed}", path.display()));
+        report.count("on file".to_string(), difference);
+    }
+}
+
+/// Looks at one ticket's output.
+fn examine(name: &str, ticket: &[u8], report: &mut Report) {
+    let shown = show(ticket);
+    let faults: Vec<&str> = faults(&shown).into_iter().filter(|(holds, _)| !holds).map(|(_, fault)| fault).collect();
+    let label = match shown.verdict.reply.number {
+        0 => "accepted".to_string(),
+        number => refused(number),
+    };
+    report.count(label, (!faults.is_empty()).then(|| format!("{name}: {}\n{}", faults.join("; "), shown.text)));
+}
+
+/// What must hold of an output, and what is wrong where it does not.
+fn faults(shown: &Shown) -> Vec<(bool, &'static str)> {
+    let said = shown.verdict.words();
+    vec![
+        (shown.verdict.agrees(&shown.account.outcome), "the account and the library differ"),
+        (is_explained(shown), "the record refused is not the library's, or is not explained"),
+        (printed_refusals(&shown.text) == due_refusals(&shown.verdict), "the refusal printed is not the library's"),
+        (shown.text.lines().last() == Some(&format!("{SAYS}{said}")), "the last line is not the library's verdict"),
+        (shown.text.lines().all(|line| line.chars().count() <= WIDTH), "a line is too long"),
+        (is_complete(&shown.account), "some bytes are not shown"),
+        (valid::is_json(&shown.json), "the JSON is not valid"),
+        (shown.json.contains(&format!("\"verdict\":{{\"text\":\"{said}\"")), "the JSON has not the library's verdict"),
+    ]
+}
+
+/// One record is refused where the library refuses, with the library's number and a reason.
+fn is_explained(shown: &Shown) -> bool {
+    let refusal = |state: &State| match state {
+        State::Refused { number, reasons } => {
+            Some((*number, !reasons.iter().any(String::is_empty) && !reasons.is_empty()))
+        }
+        _ => None,
+    };
+    let entries = shown.account.entries.iter();
+    let found: Vec<(u64, u64, bool)> = entries
+        .filter_map(|entry| refusal(&entry.state).map(|(number, told)| (number, entry.number as u64, told)))
+        .collect();
+    let reply = shown.verdict.reply;
+    found == if reply.number == 0 { vec![] } else { vec![(reply.number, reply.record, true)] }
+}
+
+/// The refusals in a text, each `number at record` by the last line before it that begins a record.
+fn printed_refusals(text: &str) -> Vec<String> {
+    let mut record = "";
+    let mut refusals = Vec::new();
+    for line in text.lines().map(str::trim_start) {
+        if let Some(rest) = line.strip_prefix("record ") {
+            record = rest.split(',').next().unwrap_or_default();
+        }
+        if let Some(rest) = line.strip_prefix("REFUSED ") {
+            refusals.push(format!("{} at {record}", rest.split(':').next().unwrap_or_default()));
+        }
+    }
+    refusals
+}
+
+fn due_refusals(verdict: &Verdict) -> Vec<String> {
+    verdict.words().strip_prefix("refused ").map(str::to_string).into_iter().collect()
+}
+
+/// The entries stand one behind another and reach from the first byte to the last.
+fn is_complete(account: &Account) -> bool {
+    let mut end = 0;
+    account.entries.iter().all(|entry| {
+        let joins = entry.start == end;
+        end = entry.end;
+        joins
+    }) && end == account.length
+}

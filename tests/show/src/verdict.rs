@@ -1,0 +1,57 @@
+//! The verdict of the proved checker.
+
+use compare::library::{reply_of, Check, Reply};
+use nuldwich_reference::checking::ANSWER_BUFFER;
+use nuldwich_reference::records::{i32_at, record_at, u32_at};
+use nuldwich_reference::Outcome;
+
+/// The reply to a ticket that is accepted with strings.
+const STRINGS: Reply = Reply { number: 0, record: 2 };
+
+/// What the library's `check` returned, and the answer buffer after it.
+pub struct Verdict {
+    pub reply: Reply,
+    answer: Vec<u8>,
+}
+
+/// Calls the library's `check` on a ticket.
+pub fn verdict(check: Check, ticket: &[u8]) -> Verdict {
+    let mut answer = vec![0; ANSWER_BUFFER];
+    let reply = check(ticket, &mut answer);
+    Verdict { reply, answer }
+}
+
+impl Verdict {
+    /// The program's first line for it.
+    pub fn words(&self) -> String {
+        match (self.reply.number, self.reply.record) {
+            (0, 1) => "verdict none".to_string(),
+            (0, _) => "verdict strings".to_string(),
+            (number, record) => format!("refused {number} at {record}"),
+        }
+    }
+
+    /// The strings and integers of the answer; none without one.
+    pub fn values(&self) -> (Vec<Vec<u32>>, Vec<i128>) {
+        let (mut strings, mut integers, mut start) = (Vec::new(), Vec::new(), 0);
+        while let Some(record) = record_at(&self.answer, start).filter(|_| self.reply == STRINGS) {
+            let fields = record.body.chunks_exact(4);
+            match record.kind {
+                9 => strings.push(fields.map(|field| u32_at(field, 0)).collect()),
+                10 => integers.extend(fields.map(|field| i32_at(field, 0))),
+                _ => break,
+            }
+            start = record.end;
+        }
+        (strings, integers)
+    }
+
+    /// Whether the reference comes to the same, to the bytes of the answer.
+    pub fn agrees(&self, outcome: &Outcome) -> bool {
+        let same_answer = match outcome {
+            Outcome::Strings { answer } => self.answer.starts_with(answer),
+            _ => true,
+        };
+        self.reply == reply_of(outcome) && same_answer
+    }
+}
