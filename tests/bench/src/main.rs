@@ -1,14 +1,13 @@
-//! Measures the time per check and prints it as a table: the library beside a plain implementation and the reference.
+//! Measures the time per call and prints it as a table: the library beside a plain implementation and the reference.
+//!
+//! `bench [OPERATION ..]`; without one all operations that have inputs here.
 
 mod plain;
 mod tickets;
 
-use compare::damage::damage;
-use compare::library::{reference_check, Check};
+use compare::operation::{operation, Buffers, Call, Entry, Operation, Sizes};
 use compare::random::Random;
-use compare::report::hex;
-use compare::{check_run, vectors};
-use nuldwich_reference::checking::ANSWER_BUFFER;
+use compare::{library, run, vectors};
 use nuldwich_reference::records::record_at;
 use std::hint::black_box;
 use std::time::{Duration, Instant};
@@ -16,70 +15,70 @@ use std::time::{Duration, Instant};
 /// The time given to one measurement.
 const BUDGET: Duration = Duration::from_millis(400);
 
-#[cfg(feature = "library")]
-const LIBRARY: Option<Check> = Some(compare::library::check);
-#[cfg(not(feature = "library"))]
-const LIBRARY: Option<Check> = None;
+/// A kind of input by name, and one of its inputs.
+type Kind = (&'static str, Vec<Vec<u8>>);
+
+/// The operations that are measured, with their inputs.
+const MEASURED: [(&str, fn() -> Vec<Kind>); 2] = [("check", tickets::to_check), ("judge", tickets::to_judge)];
 
 fn main() {
-    check_plain();
+    let asked: Vec<String> = std::env::args().skip(1).collect();
+    for (name, kinds) in MEASURED {
+        if asked.is_empty() || asked.iter().any(|word| word == name) {
+            measure(operation(name).expect("an operation of the table"), &kinds());
+        }
+    }
+}
+
+/// The table of one operation: its first entry, the one that a host calls.
+fn measure(operation: &dyn Operation, kinds: &[Kind]) {
+    let entry = &operation.entries()[0];
+    let sizes = Sizes { work: 0, ..operation.sizes(&[]) };
     println!(
         "{:<28} {:>6} {:>6} {:>11} {:>9} {:>6} {:>13} {:>6}",
-        "ticket", "steps", "bytes", "library µs", "plain µs", "ratio", "reference µs", "ratio"
+        operation.name(),
+        "steps",
+        "bytes",
+        "library µs",
+        "plain µs",
+        "ratio",
+        "reference µs",
+        "ratio"
     );
-    print_row("400 small steps", &tickets::small_steps(400));
-    print_row("8-pair Sums over 48 columns", &tickets::most_wide_sums());
-    print_row("strings, 16 variables", &tickets::strings());
-    print_row("smallest refusal (no bytes)", &[]);
-    for steps in [50, 100, 200, 400, 800, 1_600] {
-        print_row("small steps", &tickets::small_steps(steps));
+    for (name, parts) in kinds {
+        print_row(entry, &sizes, name, parts);
     }
-    for steps in [50, 100, 200, 400] {
-        print_row("8-pair Sums over 48 columns", &tickets::wide_sums(steps));
-    }
-}
-
-/// The plain implementation must give what the reference gives on every vector and on some grown and damaged tickets.
-fn check_plain() {
-    let mut inputs: Vec<Vec<u8>> =
-        vectors::tickets(&vectors::directory()).into_iter().map(|vector| vector.ticket).collect();
-    for seed in 0..2_000 {
-        let mut random = Random::new(seed);
-        let ticket = check_run::grow(&mut random);
-        inputs.extend([damage(&mut random, &ticket), ticket]);
-    }
-    for ticket in &inputs {
-        assert_eq!(run(plain::check, ticket), run(reference_check, ticket), "{}", hex(ticket));
-    }
-    println!("the plain implementation agrees with the reference on {} tickets", inputs.len());
-}
-
-/// Reply and answer buffer.
-fn run(check: Check, ticket: &[u8]) -> (u64, u64, Vec<u8>) {
-    let mut answer = vec![7; ANSWER_BUFFER];
-    let reply = check(ticket, &mut answer);
-    (reply.number, reply.record, answer)
 }
 
 /// One line of the table.
-fn print_row(name: &str, ticket: &[u8]) {
-    let expected = run(reference_check, ticket);
-    assert_eq!(run(plain::check, ticket), expected, "{name}");
-    let plain = microseconds(plain::check, ticket);
-    let reference = microseconds(reference_check, ticket);
-    let library = LIBRARY.map(|check| {
-        assert_eq!(run(check, ticket), expected, "{name}");
-        microseconds(check, ticket)
-    });
+fn print_row(entry: &Entry, sizes: &Sizes, name: &str, parts: &[Vec<u8>]) {
+    let due = call(entry.reference, sizes, parts);
+    let time = |subject: Option<Call>| {
+        subject.map(|subject| {
+            assert!(call(subject, sizes, parts) == due, "{name}");
+            microseconds(subject, sizes, parts)
+        })
+    };
+    let (library, plain) = (time(library::linked(entry)), time(plain::entry(entry)));
+    let reference = time(Some(entry.reference));
     let shown = |value: Option<f64>| value.map_or("-".to_string(), |number| format!("{number:.2}"));
+    let ratio = |other: Option<f64>| shown(library.and_then(|time| Some(time / other?)));
     println!(
-        "{name:<28} {:>6} {:>6} {:>11} {plain:>9.2} {:>6} {reference:>13.2} {:>6}",
-        steps_of(ticket),
-        ticket.len(),
+        "{name:<28} {:>6} {:>6} {:>11} {:>9} {:>6} {:>13} {:>6}",
+        steps_of(&parts[0]),
+        parts.iter().map(Vec::len).sum::<usize>(),
         shown(library),
-        shown(library.map(|time| time / plain)),
-        shown(library.map(|time| time / reference)),
+        shown(plain),
+        ratio(plain),
+        shown(reference),
+        ratio(reference),
     );
+}
+
+/// What a call returns and leaves.
+fn call(subject: Call, sizes: &Sizes, parts: &[Vec<u8>]) -> ([u64; 5], Vec<u8>) {
+    let mut buffers = Buffers::dirty(&mut Random::new(0), sizes);
+    (subject(parts, &mut buffers), buffers.answer)
 }
 
 /// How many steps a ticket has.
@@ -93,16 +92,28 @@ fn steps_of(ticket: &[u8]) -> usize {
 }
 
 /// The least time of a call over many short rounds, in microseconds.
-fn microseconds(check: Check, ticket: &[u8]) -> f64 {
-    let mut answer = vec![0; ANSWER_BUFFER];
+fn microseconds(subject: Call, sizes: &Sizes, parts: &[Vec<u8>]) -> f64 {
+    let mut buffers = Buffers::dirty(&mut Random::new(0), sizes);
     let begin = Instant::now();
     let mut best = f64::INFINITY;
     while begin.elapsed() < BUDGET {
         let round = Instant::now();
         for _ in 0..20 {
-            black_box(check(black_box(ticket), black_box(&mut answer)));
+            black_box(subject(black_box(parts), black_box(&mut buffers)));
         }
         best = best.min(round.elapsed().as_secs_f64() * 1e6 / 20.0);
     }
     best
+}
+
+#[cfg(test)]
+mod tests {
+    use super::*;
+
+    /// The plain implementation gives what the reference gives on every vector and on all grown and damaged tickets.
+    #[test]
+    fn plain_agrees_with_the_reference() {
+        let report = run::run(&compare::check::Check, plain::entry, &vectors::directory());
+        assert!(report.passed > 0 && report.failed == 0, "{} passed, {} failed", report.passed, report.failed);
+    }
 }

@@ -1,7 +1,21 @@
 //! A plain checker written for speed: one pass over the bytes, each fact's row in its own stretch of the work area, classes only where a rule asks for
 //! them. As document 01 has it, the work area has 6,400 signed 64-bit numbers and is zero after every call.
 
-use compare::library::Reply;
+use compare::operation::{Buffers, Call, Entry};
+
+/// What an entry returns.
+struct Reply {
+    number: u64,
+    record: u64,
+}
+
+/// The plain implementation in the place of an entry.
+pub fn entry(entry: &Entry) -> Option<Call> {
+    (entry.name == "check").then_some(|parts: &[Vec<u8>], lent: &mut Buffers| {
+        let reply = check(&parts[0], &mut lent.answer);
+        [reply.number, reply.record, 0, 0, 0]
+    })
+}
 
 const LIMIT: i64 = 1_000_000_000;
 const MOST_FACTS: usize = 128;
@@ -86,7 +100,7 @@ struct Checker<'a> {
 }
 
 /// Checks a ticket; the same outcomes as the reference.
-pub fn check(ticket: &[u8], answer: &mut [u8]) -> Reply {
+fn check(ticket: &[u8], answer: &mut [u8]) -> Reply {
     let mut work = [[0; ROW]; MOST_FACTS];
     check_in(ticket, &mut work, answer)
 }

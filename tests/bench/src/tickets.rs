@@ -8,6 +8,24 @@ use nuldwich_reference::facts::{Fact, Row};
 use nuldwich_reference::question::Question;
 use nuldwich_reference::steps::{Rule, Step};
 
+/// What is measured of checking.
+pub fn to_check() -> Vec<(&'static str, Vec<Vec<u8>>)> {
+    let mut kinds = vec![
+        ("400 small steps", small_steps(400)),
+        ("8-pair Sums over 48 columns", most_wide_sums()),
+        ("strings, 16 variables", strings()),
+        ("smallest refusal (no bytes)", Vec::new()),
+    ];
+    kinds.extend([50, 100, 200, 400, 800, 1_600].map(|steps| ("small steps", small_steps(steps))));
+    kinds.extend([50, 100, 200, 400].map(|steps| ("8-pair Sums over 48 columns", wide_sums(steps))));
+    kinds.into_iter().map(|(name, ticket)| (name, vec![ticket])).collect()
+}
+
+/// What is measured of judging.
+pub fn to_judge() -> Vec<(&'static str, Vec<Vec<u8>>)> {
+    Vec::new()
+}
+
 /// A derivation that grows to a wished number of steps.
 struct Growing {
     question: Question,

@@ -1,78 +1,90 @@
-//! The comparison of judging: the vectors, then grown and damaged questions and answers.
+//! Judging: questions and answers, grown and damaged.
 
 use crate::assignments::{grow, small_or_edge, Grown, Wish};
 use crate::damage::damage;
-use crate::library::{Judge, Reply, UNMET};
+use crate::operation::{Buffers, Entry, Input, Operation, Reply, Sizes};
 use crate::random::Random;
-use crate::report::{hex, refused, Report};
-use crate::vectors::judgements;
+use crate::report::{refused, Report};
 use crate::writer;
 use nuldwich_reference::records::record;
 use nuldwich_reference::{judge as reference, Judgement};
-use std::path::Path;
 
 /// How many questions with answers are grown.
 const GROWN: u64 = 60_000;
 
-/// Compares judging on all inputs.
-pub fn run(judge: Judge, directory: &Path) -> Report {
-    let mut report = Report::default();
-    for vector in judgements(directory) {
-        let words = in_words(&reference(&vector.question, &vector.answer));
-        if words != vector.judgement {
-            report.fail(&format!("{}: the reference says {words}, expected is {}", vector.name, vector.judgement));
+/// The number of a reply for a constraint that is not met.
+const UNMET: u64 = 255;
+
+pub struct Judge;
+
+impl Operation for Judge {
+    fn name(&self) -> &'static str {
+        "judge"
+    }
+
+    fn title(&self) -> &'static str {
+        "judging"
+    }
+
+    fn entries(&self) -> &'static [Entry] {
+        const { &[Entry { name: "judge", lends_work: false, reference: judge }] }
+    }
+
+    fn endings(&self) -> &'static [&'static str] {
+        &["question", "answer"]
+    }
+
+    fn sizes(&self, _: &[String]) -> Sizes {
+        Sizes::default()
+    }
+
+    fn columns(&self, input: &Input) -> Vec<String> {
+        vec![match reference(&input.parts[0], &input.parts[1]) {
+            Judgement::AllMet => "all met".to_string(),
+            Judgement::Unmet(numbers) => {
+                numbers.iter().fold("unmet".to_string(), |text, number| format!("{text} {number}"))
+            }
+            Judgement::Refused { number, record } => format!("refused {number} at {record}"),
+        }]
+    }
+
+    /// Any unmet constraint may be named.
+    fn allows(&self, parts: &[Vec<u8>], due: &Reply, reply: &Reply) -> bool {
+        match (reply, reference(&parts[0], &parts[1])) {
+            ([UNMET, number, 0, 0, 0], Judgement::Unmet(numbers)) => numbers.contains(&(*number as usize)),
+            _ => due == reply,
         }
-        compare(judge, &vector.question, &vector.answer, &mut report);
     }
-    for seed in 0..GROWN {
-        let (question, answer) = grow_case(&mut Random::new(seed));
-        compare(judge, &question, &answer, &mut report);
-    }
-    report.print_outcomes("judging");
-    report.demand_met(&["all met".to_string(), "unmet".to_string()]);
-    report.demand_met(&[2, 3, 4, 5, 6, 7, 10, 15, 16].map(refused));
-    report
-}
 
-/// Judges one input and compares.
-fn compare(judge: Judge, question: &[u8], answer: &[u8], report: &mut Report) {
-    let expected = reference(question, answer);
-    let (lent_question, lent_answer) = (question.to_vec(), answer.to_vec());
-    let reply = judge(&lent_question, &lent_answer);
-    let same = agrees(&expected, reply) && lent_question == question && lent_answer == answer;
-    let difference = (!same).then(|| {
-        let (question, answer) = (hex(question), hex(answer));
-        format!("question {question}\nanswer {answer}\nreference {expected:?}\nlibrary {reply:?}")
-    });
-    report.count(label(&expected), difference);
-}
-
-/// Whether a reply is what the judgement allows: any unmet constraint may be named.
-fn agrees(expected: &Judgement, reply: Reply) -> bool {
-    match expected {
-        Judgement::AllMet => reply == Reply { number: 0, record: 0 },
-        Judgement::Unmet(numbers) => reply.number == UNMET && numbers.contains(&(reply.record as usize)),
-        Judgement::Refused { number, record } => reply == Reply { number: *number, record: *record as u64 },
-    }
-}
-
-/// The judgement as the vectors word it.
-fn in_words(judgement: &Judgement) -> String {
-    match judgement {
-        Judgement::AllMet => "all met".to_string(),
-        Judgement::Unmet(numbers) => {
-            numbers.iter().fold("unmet".to_string(), |text, number| format!("{text} {number}"))
+    fn label(&self, due: &Reply) -> String {
+        match due {
+            [0, ..] => "all met".to_string(),
+            [UNMET, ..] => "unmet".to_string(),
+            [number, ..] => refused(*number),
         }
-        Judgement::Refused { number, record } => format!("refused {number} at {record}"),
+    }
+
+    fn seeds(&self) -> u64 {
+        GROWN
+    }
+
+    fn grow(&self, random: &mut Random, hand_on: &mut dyn FnMut(&mut Random, Input)) {
+        let (question, answer) = grow_case(random);
+        hand_on(random, Input { parts: vec![question, answer], sizes: Sizes::default() });
+    }
+
+    fn demand_coverage(&self, report: &mut Report) {
+        report.demand_met(&["all met".to_string(), "unmet".to_string()]);
+        report.demand_met(&[2, 3, 4, 5, 6, 7, 10, 15, 16].map(refused));
     }
 }
 
-/// The judgement without its numbers, to count by.
-fn label(judgement: &Judgement) -> String {
-    match judgement {
-        Judgement::AllMet => "all met".to_string(),
-        Judgement::Unmet(_) => "unmet".to_string(),
-        Judgement::Refused { number, .. } => refused(*number),
+/// The reference in the place of `judge`.
+fn judge(parts: &[Vec<u8>], _: &mut Buffers) -> Reply {
+    match reference(&parts[0], &parts[1]) {
+        Judgement::AllMet => [0; 5],
+        Judgement::Unmet(numbers) => [UNMET, numbers[0] as u64, 0, 0, 0],
+        Judgement::Refused { number, record } => [number, record as u64, 0, 0, 0],
     }
 }
 

@@ -1,28 +1,29 @@
-//! Puts tickets through the program and compares every byte that it prints with what the reference prints. The program is the first argument.
+//! Puts tickets through the program and compares every byte that it prints with what the reference prints.
 
-use compare::report::{self, refused, Report};
-use compare::{vectors, writer};
+use crate::check::Check;
+use crate::report::{refused, Report};
+use crate::run::vectors_of;
+use crate::{vectors, writer};
 use nuldwich_reference::program;
 use std::io::Write;
-use std::path::Path;
-use std::process::{Command, ExitCode, Output, Stdio};
+use std::process::{Command, Output, Stdio};
 
-fn main() -> ExitCode {
-    let path = std::env::args().nth(1).expect("the program's path");
-    let here = Path::new(env!("CARGO_MANIFEST_DIR"));
+/// Compares the program, whose path is the only argument.
+pub fn run(arguments: &[String]) -> Report {
+    let path = arguments.first().expect("the program's path");
     let mut report = Report::default();
-    for vector in vectors::tickets(&here.join("../vectors")) {
-        let expected = format!("{}\n", vector.lines.replace('|', "\n"));
-        compare(&path, &vector.name, &vector.ticket, &expected, &mut report);
+    for vector in vectors_of(&Check, &vectors::directory()) {
+        let expected = format!("{}\n", vector.columns[0].replace('|', "\n"));
+        compare(path, &vector.name, &vector.input.parts[0], &expected, &mut report);
     }
-    for (name, ticket) in vectors::examples(&here.join("../../examples")) {
-        compare(&path, &name, &ticket, &program(&ticket), &mut report);
+    for (name, ticket) in vectors::examples() {
+        compare(path, &name, &ticket, &program(&ticket), &mut report);
     }
     for (name, ticket) in long_tickets() {
-        compare(&path, name, &ticket, "refused 2 at 0\n", &mut report);
+        compare(path, name, &ticket, "refused 2 at 0\n", &mut report);
     }
     report.print_outcomes("the program");
-    report::finish(&[report])
+    report
 }
 
 /// Tickets of more than 32,768 bytes; the last two begin with an accepted one.
@@ -47,7 +48,7 @@ fn long_tickets() -> Vec<(&'static str, Vec<u8>)> {
 
 /// Runs the program on one ticket.
 fn compare(path: &str, name: &str, ticket: &[u8], expected: &str, report: &mut Report) {
-    let output = run(path, ticket);
+    let output = put_through(path, ticket);
     let difference = (!output.status.success() || output.stdout != expected.as_bytes()).then(|| {
         format!("{name}: {}, printed {:?}, expected {expected:?}", output.status, String::from_utf8_lossy(&output.stdout))
     });
@@ -55,7 +56,7 @@ fn compare(path: &str, name: &str, ticket: &[u8], expected: &str, report: &mut R
 }
 
 /// What the program prints, and its status; it may stop reading before the end of a ticket that is too long.
-fn run(path: &str, ticket: &[u8]) -> Output {
+fn put_through(path: &str, ticket: &[u8]) -> Output {
     let mut child = Command::new(path).stdin(Stdio::piped()).stdout(Stdio::piped()).spawn().expect("the program runs");
     let mut input = child.stdin.take().expect("its standard input");
     let _ = input.write_all(ticket);
