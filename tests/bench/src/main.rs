@@ -5,9 +5,9 @@
 mod plain;
 mod tickets;
 
+use compare::library;
 use compare::operation::{operation, Buffers, Call, Entry, Operation, Sizes};
 use compare::random::Random;
-use compare::{library, run, vectors};
 use nuldwich_reference::records::record_at;
 use std::hint::black_box;
 use std::time::{Duration, Instant};
@@ -109,6 +109,7 @@ fn microseconds(subject: Call, sizes: &Sizes, parts: &[Vec<u8>]) -> f64 {
 #[cfg(test)]
 mod tests {
     use super::*;
+    use compare::{run, vectors};
 
     /// The plain implementation gives what the reference gives on every vector and on all grown and damaged tickets.
     #[test]

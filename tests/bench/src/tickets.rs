@@ -1,6 +1,7 @@
 //! The tickets that are measured.
 
 use compare::writer;
+use nuldwich_reference::answer::{write_answer, Answer};
 use nuldwich_reference::checking::LONGEST_TICKET;
 use nuldwich_reference::derivation::Derivation;
 use nuldwich_reference::facts::Relation::{AtLeast, Equal};
@@ -23,7 +24,19 @@ pub fn to_check() -> Vec<(&'static str, Vec<Vec<u8>>)> {
 
 /// What is measured of judging.
 pub fn to_judge() -> Vec<(&'static str, Vec<Vec<u8>>)> {
-    Vec::new()
+    vec![("128 constraints", most_constraints())]
+}
+
+/// A question of 128 constraints over 48 columns, as many bytes of them as it may have, and an answer that meets them all.
+fn most_constraints() -> Vec<Vec<u8>> {
+    let mut question = frame(128, 16, 16);
+    for number in 0..128 {
+        let mut row = Row::constant(48, number);
+        (0..40).for_each(|column| row.coefficients[column] = 1 + (number + column as i128) % 7);
+        question.constraints.push(Fact::Arithmetic(AtLeast, row));
+    }
+    let answer = Answer { strings: vec![vec![5; 64]; 16], integers: vec![7; 16] };
+    vec![[writer::question(&question), writer::end()].concat(), write_answer(&answer)]
 }
 
 /// A derivation that grows to a wished number of steps.

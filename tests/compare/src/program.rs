@@ -50,7 +50,11 @@ fn long_tickets() -> Vec<(&'static str, Vec<u8>)> {
 fn compare(path: &str, name: &str, ticket: &[u8], expected: &str, report: &mut Report) {
     let output = put_through(path, ticket);
     let difference = (!output.status.success() || output.stdout != expected.as_bytes()).then(|| {
-        format!("{name}: {}, printed {:?}, expected {expected:?}", output.status, String::from_utf8_lossy(&output.stdout))
+        format!(
+            "{name}: {}, printed {:?}, expected {expected:?}",
+            output.status,
+            String::from_utf8_lossy(&output.stdout)
+        )
     });
     report.count(label(expected), difference);
 }
