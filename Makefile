@@ -26,7 +26,7 @@ library:
 host: library
 	@gcc -std=c11 -Wall -Wextra -Werror -O2 -Iinclude examples/host.c target/staticlib/libnuldwich.a -o target/host
 
-# Time per check, beside a plain implementation and the reference checker.
+# Time per call, beside a plain implementation and the reference checker.
 bench: library
 	@cargo build --quiet --release --offline --locked --manifest-path tests/Cargo.toml -p bench --features library
 	@target/tests/release/bench

@@ -34,7 +34,7 @@ build() {
 
 counted rt ci
 if [ "$failed" -eq 0 ]; then
-    single cargo test --quiet --release --offline --locked --manifest-path tests/Cargo.toml -p nuldwich_reference -p compare
+    single cargo test --quiet --release --offline --locked --manifest-path tests/Cargo.toml -p nuldwich_reference -p compare -p bench
     single make --no-print-directory host
     single build -p compare --features library
     counted "$CARGO_TARGET_DIR/release/compare" judge
