@@ -8,11 +8,11 @@ use crate::vectors::Vector;
 use std::path::Path;
 
 /// All operations.
-pub const OPERATIONS: [&dyn Operation; 2] = [&Check, &Judge];
+pub const OPERATIONS: &[&dyn Operation] = &[&Check, &Judge];
 
 /// The operation of a name.
 pub fn operation(name: &str) -> Option<&'static dyn Operation> {
-    OPERATIONS.into_iter().find(|operation| operation.name() == name)
+    OPERATIONS.iter().copied().find(|operation| operation.name() == name)
 }
 
 /// What is lent to an operation: the bytes of each of its slices, and how large its buffers are.
@@ -51,8 +51,9 @@ pub type Reply = [u64; 5];
 /// An entry of the library, or what stands in its place.
 pub type Call = fn(&[Vec<u8>], &mut Buffers) -> Reply;
 
-/// An entry by its name in C, with what the reference gives in its place.
+/// An entry, with what the reference gives in its place.
 pub struct Entry {
+    /// By which `library.rs` finds it.
     pub name: &'static str,
     /// Whether the caller lends the work area; else the entry brings its own.
     pub lends_work: bool,
@@ -87,6 +88,11 @@ pub trait Operation {
 
     /// What the reference gives, as the columns of the vectors word it.
     fn columns(&self, input: &Input) -> Vec<String>;
+
+    /// Whether those columns are what is expected of a vector; an older one may expect fewer.
+    fn fits(&self, expected: &[String], columns: &[String]) -> bool {
+        columns.starts_with(expected)
+    }
 
     /// Whether a reply is allowed where the reference gives `due`.
     fn allows(&self, _parts: &[Vec<u8>], due: &Reply, reply: &Reply) -> bool {

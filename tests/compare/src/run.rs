@@ -56,7 +56,7 @@ impl Run<'_> {
         let mut random = Random::new(0);
         for vector in vectors {
             let columns = self.operation.columns(&vector.input);
-            if !columns.starts_with(&vector.columns) {
+            if !self.operation.fits(&vector.columns, &columns) {
                 let (name, expected) = (&vector.name, &vector.columns);
                 self.report.fail(&format!("{name}: the reference says {columns:?}, expected is {expected:?}"));
             }
