@@ -2,7 +2,7 @@
 
 use super::branch::Relation;
 use super::leaf::VALUE_LIMIT;
-use super::question::{code_of, Question};
+use super::question::{all_below, code_of, Question};
 use super::records::{i32_at, index_at, pair, words, Records, LONGEST_TICKET};
 use super::{demand, reply};
 use compare::operation::Reply;
@@ -61,7 +61,7 @@ fn read_answer<'a>(question: &Question, bytes: &'a [u8]) -> Result<Answer<'a>, R
     let (strings, integers) = read_form(question, bytes).ok_or((15u64, 0u64))?;
     let strings_used = &strings[..question.p];
     for (number, text) in strings_used.iter().enumerate() {
-        demand(words(text).all(|character| character < question.n), 16).map_err(|refusal| (refusal, number as u64))?;
+        demand(all_below(question.n, text), 16).map_err(|refusal| (refusal, number as u64))?;
     }
     let mut values = Vec::with_capacity(question.columns());
     values.extend(words(integers).map(|word| word as i32));

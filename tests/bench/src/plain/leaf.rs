@@ -5,6 +5,7 @@ use super::question::{code_of, Question};
 use super::records::words;
 use super::splits::least_length;
 use super::{demand, Checked};
+use std::ops::Range;
 
 /// Model values and integers of an answer lie within ±100,000,000.
 pub const VALUE_LIMIT: i32 = 100_000_000;
@@ -122,42 +123,38 @@ impl<'a> Leaf<'a> {
 
     /// "a class with a literal gets it; a class of length 1 gets the character of its code; then each other class, by lowest variable, .."
     fn write_strings(&self, answer: &mut [u8], starts: &[usize; 16]) {
+        let text_of = |x| self.literal_of(x).map(|literal| self.question.literals[literal]);
+        let texts: Vec<Option<&[u8]>> = (0..self.question.p).map(text_of).collect();
         let mut last_free = [None; 1 + LONGEST as usize];
-        for x in 0..self.question.p {
+        for (x, text) in texts.iter().enumerate() {
             let length = self.lengths()[x] as usize;
-            let (start, size) = (starts[x], 4 * length);
-            if let Some(literal) = self.literal_of(x) {
-                answer[start..start + size].copy_from_slice(self.question.literals[literal]);
+            let place = starts[x]..starts[x] + 4 * length;
+            if let Some(text) = text {
+                answer[place].copy_from_slice(text);
             } else if length == 1 {
-                answer[start..start + size].copy_from_slice(&self.codes()[x].to_le_bytes());
+                answer[place].copy_from_slice(&self.codes()[x].to_le_bytes());
             } else if let Some(y) = (0..x).find(|y| self.together(x, *y)) {
-                answer.copy_within(starts[y]..starts[y] + size, start);
+                answer.copy_within(starts[y]..starts[y] + 4 * length, place.start);
             } else {
-                self.write_free(answer, start, size, last_free[length]);
-                last_free[length] = Some(start);
+                self.write_free(answer, place, last_free[length], &texts);
+                last_free[length] = Some(starts[x]);
             }
         }
     }
 
     /// "the smallest string of its length, by code points, not yet given": behind the last that was given so, and none of a literal's.
-    fn write_free(&self, answer: &mut [u8], start: usize, size: usize, last: Option<usize>) {
+    fn write_free(&self, answer: &mut [u8], place: Range<usize>, last: Option<usize>, literals: &[Option<&[u8]>]) {
         match last {
-            Some(last) => answer.copy_within(last..last + size, start),
-            None => answer[start..start + size].fill(0),
+            Some(last) => answer.copy_within(last..last + place.len(), place.start),
+            None => answer[place.clone()].fill(0),
         }
-        let text = &mut answer[start..start + size];
+        let text = &mut answer[place];
         if last.is_some() {
             self.advance(text);
         }
-        while self.is_taken(text) {
+        while literals.contains(&Some(&*text)) {
             self.advance(text);
         }
-    }
-
-    /// Whether a class has a text as its literal.
-    fn is_taken(&self, text: &[u8]) -> bool {
-        let literals = (0..self.question.p).filter_map(|x| self.literal_of(x));
-        literals.map(|literal| self.question.literals[literal]).any(|literal| literal == text)
     }
 
     /// The next text of the same length.

@@ -78,7 +78,7 @@ impl<'a> Question<'a> {
 
     fn take_literal(&mut self, body: &'a [u8]) -> Checked {
         demand(body.len() % 4 == 0 && (4..=256).contains(&body.len()), 5)?;
-        demand(words(body).all(|character| character < self.n), 6)?;
+        demand(all_below(self.n, body), 6)?;
         demand(!self.literals[..self.literal_count].contains(&body), 7)?;
         self.literals[self.literal_count] = body;
         self.literal_count += 1;
@@ -107,6 +107,11 @@ impl<'a> Question<'a> {
         }
         good && lowest <= self.columns()
     }
+}
+
+/// Whether all characters of a text are below n.
+pub fn all_below(n: u32, text: &[u8]) -> bool {
+    words(text).fold(true, |good, character| good & (character < n))
 }
 
 /// The code of a text, given by the bytes of its characters.

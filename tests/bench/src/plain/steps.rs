@@ -96,7 +96,7 @@ impl<'a> Checker<'a> {
 
     fn is_false(&self, fact: usize) -> bool {
         let Some((relation, row)) = self.branch.arithmetic(fact) else { return false };
-        !relation.holds(i64::from(row[0])) && row[1..].iter().all(|coefficient| *coefficient == 0)
+        !relation.holds(i64::from(row[0])) && row[1..].iter().fold(0, |bits, coefficient| bits | coefficient) == 0
     }
 
     /// Closes the branch if the rule fits, and begins the next child of the last pending split.
@@ -144,7 +144,9 @@ impl<'a> Checker<'a> {
     fn join(&mut self, first: usize, second: usize) -> Checked {
         let branch = &mut self.branch;
         let opposite = match (branch.arithmetic(first), branch.arithmetic(second)) {
-            (Some((AtLeast, one)), Some((AtLeast, other))) => one.iter().zip(other).all(|(a, b)| *a == -*b),
+            (Some((AtLeast, one)), Some((AtLeast, other))) => {
+                one.iter().zip(other).fold(0, |bits, (a, b)| bits | (a + b)) == 0
+            }
             _ => false,
         };
         demand(opposite, 8)?;
