@@ -67,7 +67,7 @@ install: library program
 uninstall:
 	@rm -f $(addprefix $(INSTALL_TO)/,$(INSTALLED))
 
-# Time per check, beside a plain implementation and the reference checker.
+# Time per call, beside a plain implementation and the reference checker.
 bench: library
 	@cargo build --quiet --release --offline --locked --manifest-path tests/Cargo.toml -p bench --features library
 	@target/tests/release/bench

@@ -33,14 +33,15 @@ build() {
 }
 
 counted tests/statements.sh
+counted tests/floors.sh
 counted rt ci
 if [ "$failed" -eq 0 ]; then
-    single cargo test --quiet --release --offline --locked --manifest-path tests/Cargo.toml -p nuldwich_reference
+    single cargo test --quiet --release --offline --locked --manifest-path tests/Cargo.toml -p nuldwich_reference -p compare -p bench
     single make --no-print-directory host
-    single build -p compare --features judge,check_in
-    counted "$CARGO_TARGET_DIR/release/compare_judge"
-    counted "$CARGO_TARGET_DIR/release/compare_check"
-    counted "$CARGO_TARGET_DIR/release/compare_program" target/bin/verdict
+    single build -p compare --features library
+    counted "$CARGO_TARGET_DIR/release/compare" judge
+    counted "$CARGO_TARGET_DIR/release/compare" check
+    counted "$CARGO_TARGET_DIR/release/compare" program target/bin/verdict
     single build -p show --features library
     counted "$CARGO_TARGET_DIR/release/show_test"
     counted tests/host.sh target/host

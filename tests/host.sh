@@ -19,8 +19,12 @@ tests/host/words.sh "$host" | diff tests/host/expected.txt -
 count $?
 
 # Memory: on the vectors that are refused with 2 or 3, and on every fifteenth of those that are refused with 4 to 6 or bring strings.
-for ticket in $(awk -F '\t' '$2 ~ /^refused [23] / { print $1 } $2 ~ /^refused [4-6] / || $2 ~ /^verdict strings/ { if (n++ % 15 == 0) print $1 }' tests/vectors/expected.tsv); do
-    valgrind --quiet --error-exitcode=9 "$host" "tests/vectors/$ticket" >/dev/null
+for ticket in $(find tests/vectors -name expected.tsv | sort | xargs awk -F '\t' '
+    $1 !~ /\.ticket$/ { next }
+    { path = FILENAME; sub(/expected\.tsv$/, $1, path) }
+    $2 ~ /^refused [23] / { print path }
+    $2 ~ /^refused [4-6] / || $2 ~ /^verdict strings/ { if (n++ % 15 == 0) print path }'); do
+    valgrind --quiet --error-exitcode=9 "$host" "$ticket" >/dev/null
     count $?
 done
 

@@ -1,11 +1,10 @@
-//! Links `libnuldwich.a` from the directory named by NULDWICH_LIB_DIR when an entry of the library is asked for.
+//! Links `libnuldwich.a` from the directory named by NULDWICH_LIB_DIR when the library is asked for.
 
 use std::env;
 
 fn main() {
     println!("cargo:rerun-if-env-changed=NULDWICH_LIB_DIR");
-    let asked = ["CARGO_FEATURE_JUDGE", "CARGO_FEATURE_CHECK"].iter().any(|name| env::var_os(name).is_some());
-    if asked {
+    if env::var_os("CARGO_FEATURE_LIBRARY").is_some() {
         let directory = env::var("NULDWICH_LIB_DIR").expect("NULDWICH_LIB_DIR names the directory of libnuldwich.a");
         println!("cargo:rerun-if-changed={directory}/libnuldwich.a");
         println!("cargo:rustc-link-search=native={directory}");

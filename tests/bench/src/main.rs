@@ -1,108 +1,140 @@
-//! Measures the time per check and prints it as a table: the library beside a plain implementation and the reference.
+//! Measures the time of a call and prints it as a table: the library beside a plain implementation and the reference, and how it grows.
+//!
+//! `bench [OPERATION ..]`; without one all operations that have inputs here.
 
+mod inputs;
 mod plain;
-mod tickets;
 
-use compare::damage::damage;
-use compare::library::{reference_check, Check};
+use compare::library;
+use compare::operation::{operation, Buffers, Call, Entry, Operation, Reply, Sizes};
 use compare::random::Random;
-use compare::report::hex;
-use compare::{check_run, vectors};
-use nuldwich_reference::checking::ANSWER_BUFFER;
+use inputs::{Kind, TO_CHECK, TO_JUDGE};
 use nuldwich_reference::records::record_at;
 use std::hint::black_box;
 use std::time::{Duration, Instant};
 
-/// The time given to one measurement.
-const BUDGET: Duration = Duration::from_millis(400);
+/// The time given to one line of the table, and the least time of one round of calls.
+const BUDGET: Duration = Duration::from_millis(800);
+const ROUND: Duration = Duration::from_micros(100);
 
-#[cfg(feature = "library")]
-const LIBRARY: Option<Check> = Some(compare::library::check);
-#[cfg(not(feature = "library"))]
-const LIBRARY: Option<Check> = None;
+/// The operations that are measured, with the kinds of their inputs.
+const MEASURED: [(&str, &[Kind]); 2] = [("check", &TO_CHECK), ("judge", &TO_JUDGE)];
 
 fn main() {
-    check_plain();
+    let asked: Vec<String> = std::env::args().skip(1).collect();
+    for (name, kinds) in MEASURED {
+        if asked.is_empty() || asked.iter().any(|word| word == name) {
+            measure(operation(name).expect("an operation of the table"), kinds);
+        }
+    }
+}
+
+/// The table of one operation: of its first entry, the one that a host calls.
+fn measure(operation: &dyn Operation, kinds: &[Kind]) {
+    let entry = &operation.entries()[0];
+    let sizes = Sizes { work: 0, ..operation.sizes(&[]) };
     println!(
-        "{:<28} {:>6} {:>6} {:>11} {:>9} {:>6} {:>13} {:>6}",
-        "ticket", "steps", "bytes", "library µs", "plain µs", "ratio", "reference µs", "ratio"
+        "{:<32} {:>5} {:>6} {:>9} {:>9} {:>12} {:>8} {:>16} {:>8}",
+        operation.title(),
+        "size",
+        "bytes",
+        "library",
+        "plain",
+        "reference µs",
+        "lib/pln",
+        "ns each: library",
+        "plain"
     );
-    print_row("400 small steps", &tickets::small_steps(400));
-    print_row("8-pair Sums over 48 columns", &tickets::most_wide_sums());
-    print_row("strings, 16 variables", &tickets::strings());
-    print_row("smallest refusal (no bytes)", &[]);
-    for steps in [50, 100, 200, 400, 800, 1_600] {
-        print_row("small steps", &tickets::small_steps(steps));
+    for kind in kinds {
+        for size in kind.sizes {
+            print_line(entry, &sizes, kind, *size);
+        }
     }
-    for steps in [50, 100, 200, 400] {
-        print_row("8-pair Sums over 48 columns", &tickets::wide_sums(steps));
-    }
-}
-
-/// The plain implementation must give what the reference gives on every vector and on some grown and damaged tickets.
-fn check_plain() {
-    let mut inputs: Vec<Vec<u8>> =
-        vectors::tickets(&vectors::directory()).into_iter().map(|vector| vector.ticket).collect();
-    for seed in 0..2_000 {
-        let mut random = Random::new(seed);
-        let ticket = check_run::grow(&mut random);
-        inputs.extend([damage(&mut random, &ticket), ticket]);
-    }
-    for ticket in &inputs {
-        assert_eq!(run(plain::check, ticket), run(reference_check, ticket), "{}", hex(ticket));
-    }
-    println!("the plain implementation agrees with the reference on {} tickets", inputs.len());
-}
-
-/// Reply and answer buffer.
-fn run(check: Check, ticket: &[u8]) -> (u64, u64, Vec<u8>) {
-    let mut answer = vec![7; ANSWER_BUFFER];
-    let reply = check(ticket, &mut answer);
-    (reply.number, reply.record, answer)
 }
 
 /// One line of the table.
-fn print_row(name: &str, ticket: &[u8]) {
-    let expected = run(reference_check, ticket);
-    assert_eq!(run(plain::check, ticket), expected, "{name}");
-    let plain = microseconds(plain::check, ticket);
-    let reference = microseconds(reference_check, ticket);
-    let library = LIBRARY.map(|check| {
-        assert_eq!(run(check, ticket), expected, "{name}");
-        microseconds(check, ticket)
-    });
+fn print_line(entry: &Entry, sizes: &Sizes, kind: &Kind, wished: usize) {
+    let parts = (kind.make)(wished);
+    let due = call(entry.reference, sizes, &parts);
+    assert!((due.0[0] == 0) == kind.accepted, "{}: the reference gives {:?}", kind.name, due.0);
+    let subjects = [library::linked(entry), plain::entry(entry), Some(entry.reference)];
+    for subject in subjects.into_iter().flatten() {
+        assert!(call(subject, sizes, &parts) == due, "{}", kind.name);
+    }
+    let [library, plain, reference] = microseconds(subjects, sizes, &parts);
+    let size = count(&parts[0], kind.counted);
     let shown = |value: Option<f64>| value.map_or("-".to_string(), |number| format!("{number:.2}"));
+    let each = |time: Option<f64>| shown(time.filter(|_| size > 0).map(|time| 1e3 * time / size as f64));
     println!(
-        "{name:<28} {:>6} {:>6} {:>11} {plain:>9.2} {:>6} {reference:>13.2} {:>6}",
-        steps_of(ticket),
-        ticket.len(),
+        "{:<32} {size:>5} {:>6} {:>9} {:>9} {:>12} {:>8} {:>16} {:>8}",
+        kind.name,
+        parts.iter().map(Vec::len).sum::<usize>(),
         shown(library),
-        shown(library.map(|time| time / plain)),
-        shown(library.map(|time| time / reference)),
+        shown(plain),
+        shown(reference),
+        shown(library.and_then(|time| Some(time / plain?))),
+        each(library),
+        each(plain),
     );
 }
 
-/// How many steps a ticket has.
-fn steps_of(ticket: &[u8]) -> usize {
-    let (mut start, mut steps) = (0, 0);
-    while let Some(record) = record_at(ticket, start) {
-        start = record.end;
-        steps += usize::from(record.kind == 6);
-    }
-    steps
+/// What a call returns and leaves.
+fn call(subject: Call, sizes: &Sizes, parts: &[Vec<u8>]) -> (Reply, Vec<u8>) {
+    let mut buffers = Buffers::dirty(&mut Random::new(0), sizes);
+    (subject(parts, &mut buffers), buffers.answer)
 }
 
-/// The least time of a call over many short rounds, in microseconds.
-fn microseconds(check: Check, ticket: &[u8]) -> f64 {
-    let mut answer = vec![0; ANSWER_BUFFER];
-    let begin = Instant::now();
-    let mut best = f64::INFINITY;
-    while begin.elapsed() < BUDGET {
-        let round = Instant::now();
-        for _ in 0..20 {
-            black_box(check(black_box(ticket), black_box(&mut answer)));
-        }
-        best = best.min(round.elapsed().as_secs_f64() * 1e6 / 20.0);
+/// How many records have one of these kinds.
+fn count(bytes: &[u8], kinds: &[u16]) -> usize {
+    let (mut start, mut counted) = (0, 0);
+    while let Some(record) = record_at(bytes, start) {
+        start = record.end;
+        counted += usize::from(kinds.contains(&record.kind));
     }
-    best
+    counted
+}
+
+/// The least time of a call of each, in microseconds. Their rounds take turns, so that all meet the same state of the machine.
+fn microseconds(subjects: [Option<Call>; 3], sizes: &Sizes, parts: &[Vec<u8>]) -> [Option<f64>; 3] {
+    let mut buffers = Buffers::dirty(&mut Random::new(0), sizes);
+    let mut round = |subject: Call, calls: u32| {
+        let begin = Instant::now();
+        for _ in 0..calls {
+            black_box(subject(black_box(parts), black_box(&mut buffers)));
+        }
+        begin.elapsed().as_secs_f64() / f64::from(calls)
+    };
+    let mut least = subjects.map(|subject| subject.map(|subject| round(subject, 3)));
+    let begin = Instant::now();
+    while begin.elapsed() < BUDGET {
+        for (subject, best) in subjects.iter().zip(&mut least) {
+            if let (Some(subject), Some(best)) = (subject, best) {
+                let calls = 1.0 + ROUND.as_secs_f64() / *best;
+                *best = best.min(round(*subject, calls as u32));
+            }
+        }
+    }
+    least.map(|best| best.map(|seconds| 1e6 * seconds))
+}
+
+#[cfg(test)]
+mod tests {
+    use super::*;
+    use compare::{run, vectors};
+
+    /// The plain implementation gives what the reference gives on every vector and on all grown and damaged inputs.
+    fn plain_agrees(name: &str) {
+        let report = run::run(operation(name).expect("an operation"), plain::entry, &vectors::directory());
+        assert!(report.passed > 0 && report.failed == 0, "{} passed, {} failed", report.passed, report.failed);
+    }
+
+    #[test]
+    fn plain_checking_agrees_with_the_reference() {
+        plain_agrees("check");
+    }
+
+    #[test]
+    fn plain_judging_agrees_with_the_reference() {
+        plain_agrees("judge");
+    }
 }

@@ -1,15 +1,18 @@
-//! What the comparisons of the library with the reference share: inputs, entries, runs and reports.
+//! What the comparisons of the library with the reference share: operations, inputs, entries, runs and reports.
 
 pub mod assignments;
-pub mod check_run;
+pub mod check;
 pub mod damage;
 pub mod edges;
-pub mod judge_run;
+pub mod judge;
 pub mod library;
 pub mod models;
+pub mod operation;
+pub mod program;
 pub mod proofs;
 pub mod random;
 pub mod report;
+pub mod run;
 pub mod templates;
 pub mod vectors;
 pub mod wander;

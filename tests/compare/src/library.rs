@@ -1,109 +1,77 @@
-//! The entries of the library as safe functions, and the reference in their form.
+//! The entries of the library as safe functions.
 
-use nuldwich_reference::checking::WORK_AREA;
-use nuldwich_reference::{Judgement, Outcome};
+use crate::operation::{Call, Entry};
 
-/// What checking returns.
-#[repr(C)]
-#[derive(Clone, Copy, Debug, PartialEq)]
-pub struct Reply {
-    pub number: u64,
-    pub record: u64,
+/// What the library has for an entry; nothing when it is not linked.
+pub fn linked(entry: &Entry) -> Option<Call> {
+    #[cfg(feature = "library")]
+    return linked::entry(entry.name);
+    #[cfg(not(feature = "library"))]
+    return {
+        let _ = entry;
+        None
+    };
 }
 
-/// What judging returns.
-#[repr(C)]
-#[derive(Clone, Copy, Debug, PartialEq)]
-pub struct JudgeReply {
-    pub number: u64,
-    pub record: u64,
-}
+#[cfg(feature = "library")]
+mod linked {
+    use crate::operation::{Buffers, Call, Reply};
 
-/// `JudgeReply::number` for a constraint that is not met.
-pub const UNMET: u64 = 255;
-
-/// Checking as the host calls it: ticket and answer buffer.
-pub type Check = fn(&[u8], &mut [u8]) -> Reply;
-/// Checking with a lent work area: ticket, work area and answer buffer.
-pub type CheckIn = fn(&[u8], &mut [i64], &mut [u8]) -> Reply;
-/// Judging: question and answer.
-pub type Judge = fn(&[u8], &[u8]) -> JudgeReply;
-
-#[cfg(feature = "check")]
-pub fn check(ticket: &[u8], answer: &mut [u8]) -> Reply {
-    extern "C" {
-        fn check(ticket: *const u8, ticket_len: usize, answer: *mut u8, answer_len: usize) -> Reply;
+    /// `nuldwich_reply`.
+    #[repr(C)]
+    struct Replied {
+        number: u64,
+        record: u64,
     }
-    // Both slices are valid for their lengths during the call.
-    unsafe { check(ticket.as_ptr(), ticket.len(), answer.as_mut_ptr(), answer.len()) }
-}
 
-#[cfg(feature = "check_in")]
-pub fn check_in(ticket: &[u8], work: &mut [i64], answer: &mut [u8]) -> Reply {
+    impl From<Replied> for Reply {
+        fn from(replied: Replied) -> Reply {
+            [replied.number, replied.record, 0, 0, 0]
+        }
+    }
+
     extern "C" {
-        fn nuldwich_check_in(
+        #[link_name = "check"]
+        fn c_check(ticket: *const u8, ticket_len: usize, answer: *mut u8, answer_len: usize) -> Replied;
+        #[link_name = "nuldwich_check_in"]
+        fn c_check_in(
             ticket: *const u8,
             ticket_len: usize,
             work: *mut i64,
             work_len: usize,
             answer: *mut u8,
             answer_len: usize,
-        ) -> Reply;
+        ) -> Replied;
+        #[link_name = "judge"]
+        fn c_judge(question: *const u8, question_len: usize, answer: *const u8, answer_len: usize) -> Replied;
     }
-    // The three slices are valid for their lengths during the call.
-    unsafe {
-        nuldwich_check_in(
-            ticket.as_ptr(),
-            ticket.len(),
-            work.as_mut_ptr(),
-            work.len(),
-            answer.as_mut_ptr(),
-            answer.len(),
-        )
-    }
-}
 
-#[cfg(feature = "judge")]
-pub fn judge(question: &[u8], answer: &[u8]) -> JudgeReply {
-    extern "C" {
-        fn judge(question: *const u8, question_len: usize, answer: *const u8, answer_len: usize) -> JudgeReply;
+    /// The entry of a name.
+    pub fn entry(name: &str) -> Option<Call> {
+        match name {
+            "check" => Some(check),
+            "check_in" => Some(check_in),
+            "judge" => Some(judge),
+            _ => None,
+        }
     }
-    // Both slices are valid for their lengths during the call.
-    unsafe { judge(question.as_ptr(), question.len(), answer.as_ptr(), answer.len()) }
-}
 
-/// The reply that an outcome of checking is due.
-pub fn reply_of(outcome: &Outcome) -> Reply {
-    match outcome {
-        Outcome::Refused { number, record } => Reply { number: *number, record: *record as u64 },
-        Outcome::NoSolution => Reply { number: 0, record: 1 },
-        Outcome::Strings { .. } => Reply { number: 0, record: 2 },
+    fn check(parts: &[Vec<u8>], lent: &mut Buffers) -> Reply {
+        let (ticket, answer) = (&parts[0], &mut lent.answer);
+        // Both slices are valid for their lengths during the call.
+        unsafe { c_check(ticket.as_ptr(), ticket.len(), answer.as_mut_ptr(), answer.len()) }.into()
     }
-}
 
-/// The reference in the form of `nuldwich_check_in`.
-pub fn reference_check_in(ticket: &[u8], work: &mut [i64], answer: &mut [u8]) -> Reply {
-    let outcome = nuldwich_reference::check(ticket, work.len(), answer.len());
-    let reply = reply_of(&outcome);
-    if reply.number != 1 {
-        work.fill(0);
+    fn check_in(parts: &[Vec<u8>], lent: &mut Buffers) -> Reply {
+        let (ticket, work, answer) = (&parts[0], &mut lent.work, &mut lent.answer);
+        let (work, work_len) = (work.as_mut_ptr(), work.len());
+        // The three slices are valid for their lengths during the call.
+        unsafe { c_check_in(ticket.as_ptr(), ticket.len(), work, work_len, answer.as_mut_ptr(), answer.len()) }.into()
     }
-    if let Outcome::Strings { answer: bytes } = outcome {
-        answer[..bytes.len()].copy_from_slice(&bytes);
-    }
-    reply
-}
 
-/// The reference in the form of `check`.
-pub fn reference_check(ticket: &[u8], answer: &mut [u8]) -> Reply {
-    reference_check_in(ticket, &mut [0; WORK_AREA], answer)
-}
-
-/// The reference in the form of `judge`.
-pub fn reference_judge(question: &[u8], answer: &[u8]) -> JudgeReply {
-    match nuldwich_reference::judge(question, answer) {
-        Judgement::AllMet => JudgeReply { number: 0, record: 0 },
-        Judgement::Unmet(numbers) => JudgeReply { number: UNMET, record: numbers[0] as u64 },
-        Judgement::Refused { number, record } => JudgeReply { number, record: record as u64 },
+    fn judge(parts: &[Vec<u8>], _: &mut Buffers) -> Reply {
+        let (question, answer) = (&parts[0], &parts[1]);
+        // Both slices are valid for their lengths during the call.
+        unsafe { c_judge(question.as_ptr(), question.len(), answer.as_ptr(), answer.len()) }.into()
     }
 }

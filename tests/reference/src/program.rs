@@ -5,10 +5,15 @@ use crate::records::{i32_at, record_at, u32_at};
 
 /// "The program reads a ticket on standard input"; its exact output.
 pub fn program(ticket: &[u8]) -> String {
-    match check(ticket, WORK_AREA, ANSWER_BUFFER) {
+    lines(&check(ticket, WORK_AREA, ANSWER_BUFFER))
+}
+
+/// "it prints three lines", "Others print one line": the lines of an outcome.
+pub fn lines(outcome: &Outcome) -> String {
+    match outcome {
         Outcome::Refused { number, record } => format!("refused {number} at {record}\n"),
         Outcome::NoSolution => "verdict none\n".to_string(),
-        Outcome::Strings { answer } => format!("verdict strings\n{}end\n", value_lines(&answer)),
+        Outcome::Strings { answer } => format!("verdict strings\n{}end\n", value_lines(answer)),
     }
 }
 

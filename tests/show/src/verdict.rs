@@ -1,9 +1,18 @@
 //! The verdict of the proved checker.
 
-use compare::library::{reply_of, Check, Reply};
+use compare::check::Check;
+use compare::library::linked;
+use compare::operation::{Buffers, Operation};
 use nuldwich_reference::checking::ANSWER_BUFFER;
 use nuldwich_reference::records::{i32_at, record_at, u32_at};
 use nuldwich_reference::Outcome;
+
+/// What `check` returns.
+#[derive(Clone, Copy, PartialEq)]
+pub struct Reply {
+    pub number: u64,
+    pub record: u64,
+}
 
 /// The reply to a ticket that is accepted with strings.
 const STRINGS: Reply = Reply { number: 0, record: 2 };
@@ -15,10 +24,11 @@ pub struct Verdict {
 }
 
 /// Calls the library's `check` on a ticket.
-pub fn verdict(check: Check, ticket: &[u8]) -> Verdict {
-    let mut answer = vec![0; ANSWER_BUFFER];
-    let reply = check(ticket, &mut answer);
-    Verdict { reply, answer }
+pub fn verdict(ticket: &[u8]) -> Verdict {
+    let check = linked(&Check.entries()[0]).expect("the library is linked");
+    let mut lent = Buffers { work: Vec::new(), answer: vec![0; ANSWER_BUFFER] };
+    let [number, record, ..] = check(&[ticket.to_vec()], &mut lent);
+    Verdict { reply: Reply { number, record }, answer: lent.answer }
 }
 
 impl Verdict {
@@ -48,10 +58,10 @@ impl Verdict {
 
     /// Whether the reference comes to the same, to the bytes of the answer.
     pub fn agrees(&self, outcome: &Outcome) -> bool {
-        let same_answer = match outcome {
-            Outcome::Strings { answer } => self.answer.starts_with(answer),
-            _ => true,
-        };
-        self.reply == reply_of(outcome) && same_answer
+        match outcome {
+            Outcome::Refused { number, record } => self.reply == Reply { number: *number, record: *record as u64 },
+            Outcome::NoSolution => self.reply == Reply { number: 0, record: 1 },
+            Outcome::Strings { answer } => self.reply == STRINGS && self.answer.starts_with(answer),
+        }
     }
 }

@@ -1,6 +1,5 @@
 //! Prints a ticket in words, record by record: `show [--json] TICKET`, with `-` for standard input. The last line is the proved checker's verdict.
 
-use compare::library;
 use nuldwich_reference::checking::LONGEST_TICKET;
 use show::{account, json, text, verdict};
 use std::fs::File;
@@ -34,7 +33,7 @@ fn read(path: &str) -> io::Result<Vec<u8>> {
 /// Prints the account; a reader that has seen enough, as a pager, may close its end.
 fn print(ticket: &[u8], as_json: bool) -> ExitCode {
     let account = account::account(ticket);
-    let verdict = verdict::verdict(library::check, ticket);
+    let verdict = verdict::verdict(ticket);
     let words = if as_json { json::json(&account, &verdict) } else { text::text(&account, &verdict) };
     match io::stdout().write_all(words.as_bytes()) {
         Err(error) if error.kind() != io::ErrorKind::BrokenPipe => {

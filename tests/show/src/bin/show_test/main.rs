@@ -4,9 +4,8 @@
 mod page;
 mod valid;
 
-use compare::check_run::grow;
+use compare::check::grow;
 use compare::damage::damage;
-use compare::library;
 use compare::random::Random;
 use compare::report::{self, hex, refused, Report};
 use show::account::{account, Account, State};
@@ -52,7 +51,7 @@ fn main() -> ExitCode {
 }
 
 fn show(ticket: &[u8]) -> Shown {
-    let (account, verdict) = (account(ticket), verdict(library::check, ticket));
+    let (account, verdict) = (account(ticket), verdict(ticket));
     Shown { text: text(&account, &verdict), json: json(&account, &verdict), account, verdict }
 }
 

@@ -1,0 +1,294 @@
+//! The inputs that are measured: kinds of ticket and of question, each at several sizes.
+
+use compare::writer;
+use nuldwich_reference::answer::{write_answer, Answer};
+use nuldwich_reference::derivation::Derivation;
+use nuldwich_reference::facts::Relation::{AtLeast, Equal};
+use nuldwich_reference::facts::{Fact, Row};
+use nuldwich_reference::question::{Question, MOST_FACTS};
+use nuldwich_reference::steps::{Rule, Step};
+
+/// A kind of input. `make` takes a wished size; the size itself is the number of records of the kinds counted.
+pub struct Kind {
+    pub name: &'static str,
+    pub sizes: &'static [usize],
+    pub counted: &'static [u16],
+    pub accepted: bool,
+    pub make: fn(usize) -> Vec<Vec<u8>>,
+}
+
+const STEPS: &[u16] = &[6];
+const CONSTRAINTS: &[u16] = &[3, 4];
+
+/// A kind whose size is a number of steps.
+const fn steps(name: &'static str, sizes: &'static [usize], make: fn(usize) -> Vec<Vec<u8>>) -> Kind {
+    Kind { name, sizes, counted: STEPS, accepted: true, make }
+}
+
+/// A kind whose size is a number of constraints.
+const fn constraints(name: &'static str, sizes: &'static [usize], make: fn(usize) -> Vec<Vec<u8>>) -> Kind {
+    Kind { name, sizes, counted: CONSTRAINTS, accepted: true, make }
+}
+
+/// No bytes at all.
+const SMALLEST_REFUSAL: Kind =
+    Kind { name: "smallest refusal", sizes: &[0], counted: STEPS, accepted: false, make: |_| vec![Vec::new(); 2] };
+
+/// What is measured of checking.
+pub const TO_CHECK: [Kind; 11] = [
+    steps("small steps", &[100, 400, 1_600], small_steps),
+    steps("8-pair Sums, 48 columns", &[50, 100, 200, 490], eight_pair_sums),
+    steps("2-pair Sums, divisor 2", &[80, 160, 320, 640], two_pair_sums),
+    steps("S-Props over 44 ≈ constraints", &[80, 160, 320, 640], propagations),
+    steps("Joins, far columns", &[120, 240, 480, 960], joins),
+    steps("C-Valid and L-Valid, a tree", &[3, 5, 7, 9], tree),
+    steps("Card behind 90 facts", &[4, 8, 12, 16], card),
+    constraints("strings by literals", &[4, 8, 16], strings),
+    constraints("model, 16 strings of 64", &[15, 30, 60, 120], long_model),
+    SMALLEST_REFUSAL,
+    constraints("smallest acceptance", &[0], smallest_acceptance),
+];
+
+/// What is measured of judging.
+pub const TO_JUDGE: [Kind; 3] = [
+    constraints("rows of 40 columns", &[16, 32, 64, 128], judged_rows),
+    SMALLEST_REFUSAL,
+    constraints("smallest acceptance", &[0], smallest_judged),
+];
+
+/// A derivation that grows to a wished number of steps.
+struct Growing {
+    question: Question,
+    derivation: Derivation,
+    steps: Vec<Rule>,
+}
+
+impl Growing {
+    fn new(question: Question) -> Growing {
+        Growing { derivation: Derivation::new(&question), question, steps: Vec::new() }
+    }
+
+    /// A derivation whose last constraint is without coefficients and false.
+    fn with_falsehood(mut question: Question) -> Growing {
+        let falsehood = Row::constant(question.columns(), -1);
+        question.constraints.push(Fact::Arithmetic(AtLeast, falsehood));
+        Growing::new(question)
+    }
+
+    fn take(&mut self, rule: Rule) {
+        let step = Step { rule: rule.clone(), child: 0 };
+        self.derivation.take(&self.question, 1, &step).expect("a measured step fits");
+        self.steps.push(rule);
+    }
+
+    /// Closes the branch by the last constraint.
+    fn close(&mut self) {
+        self.take(Rule::AConf(self.question.constraints.len() - 1));
+    }
+
+    /// How many branches are open.
+    fn open(&self) -> usize {
+        self.derivation.pending.len() + 1
+    }
+
+    fn facts(&self) -> usize {
+        self.derivation.branch.len()
+    }
+
+    fn ticket(self) -> Vec<Vec<u8>> {
+        let mut bytes = writer::question(&self.question);
+        bytes.extend(writer::claim(1));
+        self.steps.iter().for_each(|rule| bytes.extend(writer::step(rule, 0)));
+        bytes.extend(writer::end());
+        vec![bytes]
+    }
+}
+
+/// A question without literals.
+fn frame(n: u32, p: usize, q: usize) -> Question {
+    Question { n, p, q, literals: vec![Vec::new()], ..Question::default() }
+}
+
+/// A Branch on the first column.
+fn branch_on_first(columns: usize, number: usize) -> Rule {
+    Rule::Branch(Row::constant(columns, -(number as i128)).with(0, 1))
+}
+
+/// About `steps` steps of one rule: as many splits first as there must be branches for them, then on each branch the rule as often as facts have room.
+fn repeated(question: Question, steps: usize, rule: impl Fn(usize) -> Rule) -> Vec<Vec<u8>> {
+    let mut growing = Growing::with_falsehood(question);
+    let room = MOST_FACTS - growing.facts();
+    let splits = (0..64).find(|splits| (splits + 1) * (room - splits) >= steps).expect("there is room for the steps");
+    for number in 0..splits {
+        growing.take(branch_on_first(growing.question.columns(), number));
+    }
+    while growing.steps.len() + growing.open() < steps {
+        if growing.facts() < MOST_FACTS {
+            growing.take(rule(growing.steps.len()));
+        } else {
+            growing.close();
+        }
+    }
+    while !growing.derivation.closed {
+        growing.close();
+    }
+    growing.ticket()
+}
+
+/// About `steps` small steps: a Branch on a − k, its first child closed by a Sum and A-Conf, and so on in the second.
+fn small_steps(steps: usize) -> Vec<Vec<u8>> {
+    let mut question = frame(128, 1, 2);
+    let row = |constant, coefficient| Fact::Arithmetic(AtLeast, Row::constant(4, constant).with(0, coefficient));
+    question.constraints = vec![row(0, 1), row(-1, -1)];
+    let mut growing = Growing::new(question);
+    for number in 0..(steps / 20).min(40) {
+        growing.take(branch_on_first(4, number));
+    }
+    while !growing.derivation.closed {
+        if growing.steps.len() + 2 * growing.open() < steps && growing.facts() < 100 {
+            growing.take(branch_on_first(4, growing.steps.len()));
+        }
+        let new = growing.facts();
+        growing.take(Rule::Sum { divisor: 1, pairs: vec![(0, 1), (1, 1)] });
+        growing.take(Rule::AConf(new));
+    }
+    growing.ticket()
+}
+
+/// A row with a coefficient in each of 48 columns, odd ones alone or not.
+fn wide_row(number: i128, odd: bool) -> Fact {
+    let mut row = Row::constant(48, number);
+    for (column, coefficient) in row.coefficients.iter_mut().enumerate() {
+        let any = 1 + (number * 7 + column as i128 * 5) % 11;
+        *coefficient = if odd { 2 * any + 1 } else { any };
+    }
+    Fact::Arithmetic(AtLeast, row)
+}
+
+/// Sums of eight pairs over 48 columns.
+fn eight_pair_sums(steps: usize) -> Vec<Vec<u8>> {
+    let mut question = frame(128, 16, 16);
+    question.constraints = (0..8).map(|number| wide_row(number, false)).collect();
+    repeated(question, steps, |number| {
+        let pairs = (0..8).map(|fact| (fact, 1 + ((fact + number) % 5) as i128)).collect();
+        Rule::Sum { divisor: 1, pairs }
+    })
+}
+
+/// Sums of two pairs over 48 columns, all of whose column sums are even.
+fn two_pair_sums(steps: usize) -> Vec<Vec<u8>> {
+    let mut question = frame(128, 16, 16);
+    question.constraints = (0..8).map(|number| wide_row(number, true)).collect();
+    repeated(question, steps, |number| Rule::Sum { divisor: 2, pairs: vec![(number % 8, 1), ((number + 3) % 8, 3)] })
+}
+
+/// S-Props between all pairs of 16 variables that 44 ≈ constraints join in a chain.
+fn propagations(steps: usize) -> Vec<Vec<u8>> {
+    let mut question = frame(128, 16, 0);
+    question.constraints = (0..44).map(|number| Fact::Same(number % 15, number % 15 + 1)).collect();
+    repeated(question, steps, |number| Rule::SProp {
+        function: number % 2,
+        x: number % 16,
+        y: (number + 1 + number / 16 % 15) % 16,
+    })
+}
+
+/// Joins of facts with coefficients in the first and the last columns.
+fn joins(steps: usize) -> Vec<Vec<u8>> {
+    let mut question = frame(128, 16, 16);
+    for number in 0..8 {
+        let row = Row::constant(48, number as i128).with(number, 3).with(47 - number, -2);
+        question.constraints.push(Fact::Arithmetic(AtLeast, row.negative()));
+        question.constraints.push(Fact::Arithmetic(AtLeast, row));
+    }
+    repeated(question, steps, |number| Rule::Join(2 * (number % 8), 2 * (number % 8) + 1))
+}
+
+/// All branches of a tree of C-Valid and L-Valid by turns, so many deep.
+fn tree(depth: usize) -> Vec<Vec<u8>> {
+    let mut growing = Growing::with_falsehood(frame(128, 16, 16));
+    grow_tree(&mut growing, depth);
+    growing.ticket()
+}
+
+fn grow_tree(growing: &mut Growing, depth: usize) {
+    if depth == 0 {
+        return growing.close();
+    }
+    growing.take(if depth % 2 == 1 { Rule::CValid(depth) } else { Rule::LValid(depth) });
+    grow_tree(growing, depth - 1);
+    grow_tree(growing, depth - 1);
+}
+
+/// Card over so many variables, whose length equations stand behind other equations, 90 facts in all, and all its children.
+fn card(variables: usize) -> Vec<Vec<u8>> {
+    let mut question = frame(128, 16, 16);
+    let difference = |x, y| Fact::Arithmetic(Equal, Row::constant(48, 0).with(x, 1).with(y, -1));
+    question.constraints = (variables..90).map(|number| difference(number % 15, 15)).collect();
+    for x in 1..variables {
+        question.constraints.push(difference(question.len_column(x - 1), question.len_column(x)));
+    }
+    let mut growing = Growing::with_falsehood(question);
+    growing.take(Rule::Card((0..variables).collect()));
+    while !growing.derivation.closed {
+        growing.close();
+    }
+    growing.ticket()
+}
+
+/// The bytes of a ticket that claims strings without steps.
+fn strings_ticket(question: &Question, model: &[i128]) -> Vec<Vec<u8>> {
+    vec![[writer::question(question), writer::claim(2), writer::model(model), writer::end()].concat()]
+}
+
+/// So many variables, for all but one a literal of 64 characters, ≉ and equal lengths between neighbours.
+fn strings(variables: usize) -> Vec<Vec<u8>> {
+    let mut question = frame(128, variables, 16);
+    for x in 0..variables - 1 {
+        question.literals.push((0..64).map(|place| if place == 63 { x as u32 } else { 0 }).collect());
+        question.constraints.push(Fact::IsLiteral(x, 1 + x));
+    }
+    question.constraints.extend((1..variables).map(|x| Fact::Differ(x - 1, x)));
+    for x in 1..variables {
+        let row = Row::constant(question.columns(), 0);
+        let row = row.with(question.len_column(x - 1), 1).with(question.len_column(x), -1);
+        question.constraints.push(Fact::Arithmetic(Equal, row));
+    }
+    strings_ticket(&question, &[vec![7; 16], vec![64; variables], vec![-1; variables]].concat())
+}
+
+/// A question of so many constraints with 40 columns each, which integers of 7 and 16 strings of 64 characters meet.
+fn rows_of_40(constraints: usize) -> Question {
+    let mut question = frame(128, 16, 16);
+    for number in 0..constraints as i128 {
+        let mut row = Row::constant(48, number);
+        (0..40).for_each(|column| row.coefficients[column] = 1 + (number + column as i128) % 7);
+        question.constraints.push(Fact::Arithmetic(AtLeast, row));
+    }
+    question
+}
+
+/// A model of 16 strings of 64 characters, none of them given.
+fn long_model(constraints: usize) -> Vec<Vec<u8>> {
+    strings_ticket(&rows_of_40(constraints), &[[7; 16], [64; 16], [-1; 16]].concat())
+}
+
+/// No variables, no constraints, an empty model.
+fn smallest_acceptance(_: usize) -> Vec<Vec<u8>> {
+    strings_ticket(&frame(1, 0, 0), &[])
+}
+
+/// A question and an answer that meets it.
+fn judged(question: &Question, strings: Vec<Vec<u32>>, integers: Vec<i128>) -> Vec<Vec<u8>> {
+    vec![[writer::question(question), writer::end()].concat(), write_answer(&Answer { strings, integers })]
+}
+
+/// Rows of 40 columns and an answer of 16 strings of 64 characters.
+fn judged_rows(constraints: usize) -> Vec<Vec<u8>> {
+    judged(&rows_of_40(constraints), vec![vec![5; 64]; 16], vec![7; 16])
+}
+
+/// No variables, no constraints, an answer without values.
+fn smallest_judged(_: usize) -> Vec<Vec<u8>> {
+    judged(&frame(1, 0, 0), Vec::new(), Vec::new())
+}

@@ -1,0 +1,176 @@
+//! Steps: their forms and ranges, and the rules with one conclusion or none.
+
+use super::branch::Relation::{AtLeast, Equal};
+use super::checking::Checker;
+use super::question::{code_of, within_limit};
+use super::records::{i32_at, index_at, pair};
+use super::{demand, Checked};
+
+/// Least operand length, stride and greatest count beyond it, by rule number.
+const FORMS: [(usize, usize, usize); 14] = [
+    (0, 1, 0),
+    (10, 6, 7),
+    (4, 6, 48),
+    (2, 1, 0),
+    (2, 1, 0),
+    (0, 1, 0),
+    (6, 1, 0),
+    (2, 1, 0),
+    (2, 1, 0),
+    (2, 1, 0),
+    (2, 1, 0),
+    (4, 1, 0),
+    (4, 2, 14),
+    (4, 1, 0),
+];
+
+/// Columns of the largest question.
+const MOST_COLUMNS: usize = 48;
+
+impl<'a> Checker<'a> {
+    pub fn take_step(&mut self, body: &'a [u8]) -> Checked {
+        demand(body.len() >= 4, 5)?;
+        let (rule, child, operands) = (index_at(body, 0), index_at(body, 2), &body[4..]);
+        demand((1..=13).contains(&rule), 6)?;
+        let (least, stride, most) = FORMS[rule];
+        let more = operands.len().wrapping_sub(least);
+        demand(more <= stride * most && more % stride == 0, 5)?;
+        self.operands_in_range(rule, operands)?;
+        let children = self.children(rule, operands.len());
+        demand(if self.claim == 1 { child == 0 } else { (1..=children).contains(&child) }, 6)?;
+        match rule {
+            1 => self.sum(operands),
+            4 => self.close(self.is_false(index_at(operands, 0))),
+            5 => self.close(self.branch.strings_conflict(self.question.literal_count)),
+            6 => self.propagate(operands),
+            7 | 9 => self.take_from_literal(rule, index_at(operands, 0)),
+            13 => self.join(index_at(operands, 0), index_at(operands, 2)),
+            _ => self.split(body, children, child),
+        }
+    }
+
+    fn operands_in_range(&self, rule: usize, operands: &[u8]) -> Checked {
+        let variables = |from: usize| {
+            let fields = operands[from..].as_chunks().0.iter();
+            fields.fold(true, |good, field| good & (usize::from(u16::from_le_bytes(*field)) < self.question.p))
+        };
+        let good = match rule {
+            1 => {
+                let pairs = operands[4..].as_chunks().0.iter();
+                i32_at(operands, 0) >= 1 && pairs.fold(true, |good, field| good & within_limit(pair(field).1))
+            }
+            2 => self.question.form_in_range(operands),
+            3..=5 | 13 => true,
+            6 => index_at(operands, 0) <= 1 && variables(2),
+            _ => variables(0),
+        };
+        demand(good, 6)
+    }
+
+    /// How many children a rule has; 1 for a rule with one conclusion or none.
+    fn children(&self, rule: usize, operands_len: usize) -> usize {
+        match rule {
+            2 | 3 | 8 | 10 => 2,
+            11 => 3,
+            12 => {
+                let m = operands_len / 2;
+                m * (m - 1) / 2 + usize::from(self.question.n > 1)
+            }
+            _ => 1,
+        }
+    }
+
+    fn sum(&mut self, operands: &[u8]) -> Checked {
+        let mut sums = [0; 1 + MOST_COLUMNS];
+        let sums = &mut sums[..self.branch.width];
+        for (fact, multiplier) in operands[4..].as_chunks().0.iter().map(pair) {
+            let (relation, row) = self.branch.arithmetic(fact).ok_or(8u64)?;
+            demand((relation == AtLeast && multiplier >= 1) || (relation == Equal && multiplier != 0), 8)?;
+            add_times(sums, multiplier, row);
+        }
+        // A refusal ends the check, so the row may stand before it is tried.
+        let room = self.branch.has_room(1);
+        divide(sums, i64::from(i32_at(operands, 0)), self.branch.add_row(AtLeast))?;
+        demand(room, 10)
+    }
+
+    fn is_false(&self, fact: usize) -> bool {
+        let Some((relation, row)) = self.branch.arithmetic(fact) else { return false };
+        !relation.holds(i64::from(row[0])) && row[1..].iter().fold(0, |bits, coefficient| bits | coefficient) == 0
+    }
+
+    /// Closes the branch if the rule fits, and begins the next child of the last pending split.
+    fn close(&mut self, fits: bool) -> Checked {
+        demand(fits && self.claim == 1, 8)?;
+        let Some(mut split) = self.pending.pop() else {
+            self.closed = true;
+            return Ok(());
+        };
+        self.branch.cut_back(&split.mark);
+        self.begin(split.body, split.next);
+        split.next += 1;
+        if split.next < split.children {
+            self.pending.push(split);
+        }
+        Ok(())
+    }
+
+    fn propagate(&mut self, operands: &[u8]) -> Checked {
+        let (x, y) = (index_at(operands, 2), index_at(operands, 4));
+        let labels = &self.branch.labels;
+        demand(x != y && labels[x] == labels[y], 8)?;
+        demand(self.branch.has_room(1), 10)?;
+        let place = |x| match index_at(operands, 0) {
+            0 => self.question.len_place(x),
+            _ => self.question.code_place(x),
+        };
+        let (x, y) = (place(x), place(y));
+        self.add_difference(Equal, x, y);
+        Ok(())
+    }
+
+    /// L-Intro and C-Collapse.
+    fn take_from_literal(&mut self, rule: usize, x: usize) -> Checked {
+        let literal = self.branch.literal_of(x, self.question.literal_count).ok_or(8u64)?;
+        let text = self.question.literals[literal];
+        demand(self.branch.has_room(1), 10)?;
+        match rule {
+            7 => self.add_one(Equal, self.question.len_place(x), 1, -(text.len() as i32 / 4)),
+            _ => self.add_one(Equal, self.question.code_place(x), 1, -code_of(text)),
+        }
+        Ok(())
+    }
+
+    fn join(&mut self, first: usize, second: usize) -> Checked {
+        let branch = &mut self.branch;
+        let opposite = match (branch.arithmetic(first), branch.arithmetic(second)) {
+            (Some((AtLeast, one)), Some((AtLeast, other))) => {
+                one.iter().zip(other).fold(0, |bits, (a, b)| bits | (a + b)) == 0
+            }
+            _ => false,
+        };
+        demand(opposite, 8)?;
+        demand(branch.has_room(1), 10)?;
+        branch.add_copy(Equal, first);
+        Ok(())
+    }
+}
+
+/// Adds a row times a multiplier.
+fn add_times(sums: &mut [i64], multiplier: i32, row: &[i32]) {
+    for (sum, number) in sums.iter_mut().zip(row) {
+        *sum += i64::from(multiplier) * i64::from(*number);
+    }
+}
+
+/// Divides sums, the columns exactly, the constant rounding down: 8, then 9.
+fn divide(sums: &[i64], divisor: i64, row: &mut [i32]) -> Checked {
+    let mut good = true;
+    for (place, (sum, number)) in sums.iter().zip(row).enumerate() {
+        let quotient = if divisor == 1 || *sum == 0 { *sum } else { sum.div_euclid(divisor) };
+        demand(place == 0 || quotient * divisor == *sum, 8)?;
+        good &= within_limit(quotient);
+        *number = quotient as i32;
+    }
+    demand(good, 9)
+}

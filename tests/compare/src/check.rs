@@ -1,0 +1,150 @@
+//! Checking: tickets, grown and damaged, with buffers of many sizes.
+
+use crate::damage::damage;
+use crate::operation::{Buffers, Entry, Input, Operation, Reply, Sizes};
+use crate::random::Random;
+use crate::report::{hex, refused, Report};
+use crate::vectors::{self, Vector};
+use crate::{edges, models, proofs};
+use nuldwich_reference::checking::{ANSWER_BUFFER, WORK_AREA};
+use nuldwich_reference::program::lines;
+use nuldwich_reference::{check as reference, Outcome};
+use std::path::Path;
+
+/// How many tickets are grown; each is also damaged, once or twice.
+const GROWN: u64 = 50_000;
+
+/// The least number of tickets, and how many of a hundred are accepted at the least.
+const LEAST_TICKETS: usize = 100_000;
+const LEAST_ACCEPTED: usize = 30;
+
+/// Buffers that are just large enough.
+pub const LARGE_ENOUGH: Sizes = Sizes { work: WORK_AREA, answer: ANSWER_BUFFER };
+
+pub struct Check;
+
+impl Operation for Check {
+    fn name(&self) -> &'static str {
+        "check"
+    }
+
+    fn title(&self) -> &'static str {
+        "checking"
+    }
+
+    fn entries(&self) -> &'static [Entry] {
+        const {
+            &[
+                Entry { name: "check", lends_work: false, reference: check },
+                Entry { name: "check_in", lends_work: true, reference: check_in },
+            ]
+        }
+    }
+
+    fn endings(&self) -> &'static [&'static str] {
+        &["ticket"]
+    }
+
+    /// The first level holds tickets itself; two later ones hold pairs of tickets in two folders.
+    fn folders(&self) -> Vec<&'static str> {
+        vec!["", "check", "first", "second", "before", "after"]
+    }
+
+    fn sizes(&self, _: &[String]) -> Sizes {
+        LARGE_ENOUGH
+    }
+
+    fn more_vectors(&self, root: &Path) -> Vec<Vector> {
+        vectors::buffers(root)
+    }
+
+    /// The program's lines joined by `|`, and the answer in hexadecimal.
+    fn columns(&self, input: &Input) -> Vec<String> {
+        let outcome = reference(&input.parts[0], input.sizes.work, input.sizes.answer);
+        let answer = match &outcome {
+            Outcome::Strings { answer } => hex(answer),
+            _ => String::new(),
+        };
+        vec![lines(&outcome).trim_end().replace('\n', "|"), answer]
+    }
+
+    fn label(&self, due: &Reply) -> String {
+        match due {
+            [0, 1, ..] => "accepted none".to_string(),
+            [0, ..] => "accepted strings".to_string(),
+            [number, ..] => refused(*number),
+        }
+    }
+
+    fn seeds(&self) -> u64 {
+        GROWN
+    }
+
+    fn grow(&self, random: &mut Random, hand_on: &mut dyn FnMut(&mut Random, Input)) {
+        let ticket = grow(random);
+        let input = with_any_sizes(random, ticket.clone());
+        hand_on(random, input);
+        for _ in 0..random.pick(&[1, 1, 1, 2]) {
+            let damaged = damage(random, &ticket);
+            let input = with_any_sizes(random, damaged);
+            hand_on(random, input);
+        }
+    }
+
+    fn demand_coverage(&self, report: &mut Report) {
+        if report.total() < LEAST_TICKETS || 100 * report.counted("accepted") < LEAST_ACCEPTED * report.total() {
+            report.fail("too few tickets, or too few of them accepted");
+        }
+        report.demand_met(&(1..=14).map(refused).collect::<Vec<_>>());
+    }
+}
+
+/// A ticket that is meant to be accepted, or one at an edge.
+pub fn grow(random: &mut Random) -> Vec<u8> {
+    match random.below(100) {
+        0..=46 => proofs::grow(random),
+        47..=90 => models::grow(random),
+        _ => edges::grow(random),
+    }
+}
+
+/// A ticket with buffers that are just large enough, larger or too small.
+fn with_any_sizes(random: &mut Random, ticket: Vec<u8>) -> Input {
+    let mut sizes = LARGE_ENOUGH;
+    match random.below(50) {
+        0 => sizes.answer = random.pick(&[0, 1, 12, 4_266, 4_267]),
+        1 => sizes.work = random.pick(&[0, 1, 50, 6_398, 6_399]),
+        2..=9 => {
+            sizes.answer += random.below(100);
+            sizes.work += random.below(200);
+        }
+        _ => {}
+    }
+    Input { parts: vec![ticket], sizes }
+}
+
+/// The reference in the place of `check`, which brings its own work area.
+fn check(parts: &[Vec<u8>], lent: &mut Buffers) -> Reply {
+    write(&reference(&parts[0], WORK_AREA, lent.answer.len()), &mut lent.answer)
+}
+
+/// The reference in the place of `check_in`: "The whole work area .. is zero after every call, except that 1 does not touch it."
+fn check_in(parts: &[Vec<u8>], lent: &mut Buffers) -> Reply {
+    let reply = write(&reference(&parts[0], lent.work.len(), lent.answer.len()), &mut lent.answer);
+    if reply[0] != 1 {
+        lent.work.fill(0);
+    }
+    reply
+}
+
+/// Writes the answer of an outcome and gives its reply.
+fn write(outcome: &Outcome, buffer: &mut [u8]) -> Reply {
+    match outcome {
+        Outcome::Refused { number, record } => [*number, *record as u64, 0, 0, 0],
+        Outcome::NoSolution => [0, 1, 0, 0, 0],
+        Outcome::Strings { answer } => {
+            buffer[..answer.len()].copy_from_slice(answer);
+            [0, 2, 0, 0, 0]
+        }
+    }
+}

@@ -1,0 +1,186 @@
+//! Judging: questions and answers, grown and damaged.
+
+use crate::assignments::{grow, small_or_edge, Grown, Wish};
+use crate::damage::damage;
+use crate::operation::{Buffers, Entry, Input, Operation, Reply, Sizes};
+use crate::random::Random;
+use crate::report::{refused, Report};
+use crate::writer;
+use nuldwich_reference::records::record;
+use nuldwich_reference::{judge as reference, Judgement};
+
+/// How many questions with answers are grown.
+const GROWN: u64 = 60_000;
+
+/// The number of a reply for a constraint that is not met.
+const UNMET: u64 = 255;
+
+pub struct Judge;
+
+impl Operation for Judge {
+    fn name(&self) -> &'static str {
+        "judge"
+    }
+
+    fn title(&self) -> &'static str {
+        "judging"
+    }
+
+    fn entries(&self) -> &'static [Entry] {
+        const { &[Entry { name: "judge", lends_work: false, reference: judge }] }
+    }
+
+    fn endings(&self) -> &'static [&'static str] {
+        &["question", "answer"]
+    }
+
+    fn sizes(&self, _: &[String]) -> Sizes {
+        Sizes::default()
+    }
+
+    fn columns(&self, input: &Input) -> Vec<String> {
+        vec![match reference(&input.parts[0], &input.parts[1]) {
+            Judgement::AllMet => "all met".to_string(),
+            Judgement::Unmet(numbers) => {
+                numbers.iter().fold("unmet".to_string(), |text, number| format!("{text} {number}"))
+            }
+            Judgement::Refused { number, record } => format!("refused {number} at {record}"),
+        }]
+    }
+
+    /// Any unmet constraint may be named.
+    fn allows(&self, parts: &[Vec<u8>], due: &Reply, reply: &Reply) -> bool {
+        match (reply, reference(&parts[0], &parts[1])) {
+            ([UNMET, number, 0, 0, 0], Judgement::Unmet(numbers)) => numbers.contains(&(*number as usize)),
+            _ => due == reply,
+        }
+    }
+
+    fn label(&self, due: &Reply) -> String {
+        match due {
+            [0, ..] => "all met".to_string(),
+            [UNMET, ..] => "unmet".to_string(),
+            [number, ..] => refused(*number),
+        }
+    }
+
+    fn seeds(&self) -> u64 {
+        GROWN
+    }
+
+    fn grow(&self, random: &mut Random, hand_on: &mut dyn FnMut(&mut Random, Input)) {
+        let (question, answer) = grow_case(random);
+        hand_on(random, Input { parts: vec![question, answer], sizes: Sizes::default() });
+    }
+
+    fn demand_coverage(&self, report: &mut Report) {
+        report.demand_met(&["all met".to_string(), "unmet".to_string()]);
+        report.demand_met(&[2, 3, 4, 5, 6, 7, 10, 15, 16].map(refused));
+    }
+}
+
+/// The reference in the place of `judge`.
+fn judge(parts: &[Vec<u8>], _: &mut Buffers) -> Reply {
+    match reference(&parts[0], &parts[1]) {
+        Judgement::AllMet => [0; 5],
+        Judgement::Unmet(numbers) => [UNMET, numbers[0] as u64, 0, 0, 0],
+        Judgement::Refused { number, record } => [number, record as u64, 0, 0, 0],
+    }
+}
+
+/// A question and an answer, right or wrong in one of many ways.
+fn grow_case(random: &mut Random) -> (Vec<u8>, Vec<u8>) {
+    let constraints = match random.below(40) {
+        0 => 126 + random.below(5),
+        1..=3 => random.below(100),
+        4..=12 => 8 + random.below(16),
+        _ => random.below(8),
+    };
+    let true_percent = random.pick(&[100, 100, 100, 90, 50]);
+    let mut grown = grow(random, &Wish { constraints, true_percent, longest: 64 });
+    let mut question = writer::question(&grown.question);
+    end_question(random, &mut question);
+    let mut answer = grown.answer();
+    match random.below(100) {
+        0..=34 => {}
+        35..=54 => answer = other_values(random, &mut grown),
+        55..=66 => answer = damage(random, &answer),
+        67..=69 => answer = long_string(random, &mut grown),
+        70..=79 => answer = out_of_range(random, &mut grown),
+        _ => question = damage(random, &question),
+    }
+    (question, answer)
+}
+
+/// Ends a question at a claim or an end record, whole or not, with or without bytes behind it.
+fn end_question(random: &mut Random, question: &mut Vec<u8>) {
+    match random.below(12) {
+        0..=3 => question.extend(writer::claim(1)),
+        4 | 5 => question.extend(writer::end()),
+        6 => question.extend(record(5, &[9; 7])),
+        7 => question.extend([255, 255, 255, 255, 5, 0]),
+        8 => question.extend([1, 0, 0, 0, 8, 0]),
+        9 => question.extend([writer::claim(2), writer::model(&[0; 3]), vec![7; 5]].concat()),
+        10 => question.extend([writer::end(), vec![0; random.below(50)]].concat()),
+        _ => {
+            question.extend(writer::claim(2));
+            let length = 32_766 + random.below(4);
+            if random.chance(30) && question.len() < length {
+                question.resize(length, 0);
+            }
+        }
+    }
+}
+
+/// The answer with one value changed, still of its form and in its range.
+fn other_values(random: &mut Random, grown: &mut Grown) -> Vec<u8> {
+    let (p, q) = (grown.question.p, grown.question.q);
+    if p > 0 && (q == 0 || random.chance(60)) {
+        let x = random.below(p);
+        match random.below(4) {
+            0 => grown.strings[x] = grown.strings[random.below(p)].clone(),
+            1 => grown.strings[x] = grown.question.literals[random.below(grown.question.literals.len())].clone(),
+            2 => drop(grown.strings[x].pop()),
+            _ => {
+                grown.strings[x].truncate(63);
+                grown.strings[x].push(random.below(grown.question.n as usize) as u32);
+            }
+        }
+    } else if q > 0 {
+        let step = random.pick(&[1, -1, 2, 1000]);
+        let i = random.below(q);
+        grown.integers[i] = (grown.integers[i] + step).clamp(-100_000_000, 100_000_000);
+    }
+    grown.answer()
+}
+
+/// An answer with a string around the greatest length.
+fn long_string(random: &mut Random, grown: &mut Grown) -> Vec<u8> {
+    if grown.question.p > 0 {
+        let x = random.below(grown.question.p);
+        grown.strings[x] = vec![0; 63 + random.below(3)];
+    }
+    grown.answer()
+}
+
+/// An answer with a character that is not below n, or an integer outside its range; now and then with a fault of form too.
+fn out_of_range(random: &mut Random, grown: &mut Grown) -> Vec<u8> {
+    let (p, q) = (grown.question.p, grown.question.q);
+    if p > 0 && (q == 0 || random.chance(60)) {
+        let text = &mut grown.strings[random.below(p)];
+        let character = grown.question.n + random.pick(&[0, 0, 1, 4_000_000_000]);
+        match text.len() {
+            0 => text.push(character),
+            length => text[random.below(length)] = character,
+        }
+    } else if q > 0 {
+        let i = random.below(q);
+        grown.integers[i] = random.pick(&[1, -1]) * (100_000_001 + small_or_edge(random, 2_000_000_000).max(0));
+    }
+    let answer = grown.answer();
+    if random.chance(10) {
+        damage(random, &answer)
+    } else {
+        answer
+    }
+}

@@ -1,0 +1,106 @@
+//! The comparison of an operation: the vectors, then grown and damaged inputs, with dirty buffers.
+
+use crate::operation::{Buffers, Call, Entry, Input, Operation, Reply, Sizes, OPERATIONS};
+use crate::random::Random;
+use crate::report::{hex, Report};
+use crate::vectors::{self, Vector};
+use std::path::Path;
+
+/// What is compared with the reference: what stands in an entry's place, where it does.
+pub type Subject = fn(&Entry) -> Option<Call>;
+
+/// A comparison in progress.
+struct Run<'a> {
+    operation: &'a dyn Operation,
+    entries: Vec<(&'a Entry, Call)>,
+    report: Report,
+}
+
+/// Compares an operation on all its inputs.
+pub fn run(operation: &dyn Operation, subject: Subject, root: &Path) -> Report {
+    let entries = operation.entries().iter().filter_map(|entry| Some((entry, subject(entry)?))).collect();
+    let mut run = Run { operation, entries, report: Report::default() };
+    if run.entries.is_empty() {
+        run.report.fail(&format!("{}: there is nothing to compare; is the library linked?", operation.name()));
+        return run.report;
+    }
+    run.vectors(root);
+    for seed in 0..operation.seeds() {
+        operation.grow(&mut Random::new(seed), &mut |random, input| run.compare(random, &input));
+    }
+    run.report.print_outcomes(operation.title());
+    operation.demand_coverage(&mut run.report);
+    run.report
+}
+
+/// The vectors of an operation, with buffers of the sizes that it asks for.
+pub fn vectors_of(operation: &dyn Operation, root: &Path) -> Vec<Vector> {
+    let mut vectors = vectors::load(root, operation.name(), &operation.folders(), operation.endings());
+    for vector in &mut vectors {
+        vector.input.sizes = operation.sizes(&vector.columns);
+    }
+    vectors
+}
+
+impl Run<'_> {
+    /// The vectors: the reference must agree with what is expected, the entries with the reference.
+    fn vectors(&mut self, root: &Path) {
+        let folders: Vec<&str> = OPERATIONS.iter().flat_map(|operation| operation.folders()).collect();
+        vectors::demand_known(root, &folders);
+        let mut vectors = vectors_of(self.operation, root);
+        let (found, least) = (vectors.len(), vectors::floor(self.operation.name()));
+        if found < least {
+            self.report.fail(&format!("{}: {found} vectors, and {least} are on file", self.operation.name()));
+        }
+        vectors.extend(self.operation.more_vectors(root));
+        let mut random = Random::new(0);
+        for vector in vectors {
+            let columns = self.operation.columns(&vector.input);
+            if !self.operation.fits(&vector.columns, &columns) {
+                let (name, expected) = (&vector.name, &vector.columns);
+                self.report.fail(&format!("{name}: the reference says {columns:?}, expected is {expected:?}"));
+            }
+            self.compare(&mut random, &vector.input);
+        }
+    }
+
+    /// Compares all entries on one input.
+    fn compare(&mut self, random: &mut Random, input: &Input) {
+        let mut label = String::new();
+        let mut differences = Vec::new();
+        for (entry, call) in &self.entries {
+            let work = if entry.lends_work { input.sizes.work } else { 0 };
+            let buffers = Buffers::dirty(random, &Sizes { work, ..input.sizes });
+            let mut due_buffers = buffers.clone();
+            let due = (entry.reference)(&input.parts, &mut due_buffers);
+            differences.extend(self.difference(entry.name, *call, input, buffers, (&due, &due_buffers)));
+            label = self.operation.label(&due);
+        }
+        let difference = (!differences.is_empty()).then(|| format!("{}\n{}", shown(input), differences.join("\n")));
+        self.report.count(label, difference);
+    }
+
+    /// How what an entry returns and leaves differs from what is due, in words.
+    fn difference(
+        &self,
+        name: &str,
+        call: Call,
+        input: &Input,
+        mut buffers: Buffers,
+        (due, due_buffers): (&Reply, &Buffers),
+    ) -> Option<String> {
+        let lent = input.parts.clone();
+        let reply = call(&lent, &mut buffers);
+        let (answer, work) = (buffers.answer == due_buffers.answer, buffers.work == due_buffers.work);
+        let same = self.operation.allows(&input.parts, due, &reply) && answer && work && lent == input.parts;
+        (!same).then(|| {
+            format!("{name}: reference {due:?}, library {reply:?}, answer buffer as due: {answer}, work area as due: {work}")
+        })
+    }
+}
+
+/// An input in words.
+fn shown(input: &Input) -> String {
+    let parts: Vec<String> = input.parts.iter().map(|part| hex(part)).collect();
+    format!("input {}", parts.join("\n      "))
+}
