@@ -5,7 +5,7 @@ use crate::verdict::Verdict;
 use crate::words;
 
 /// What is proved of the text and what is not.
-pub const NOT_PROVED: &str = "this explanation is not proved; the proved checker's verdict stands at its end";
+pub const NOT_PROVED: &str = "this explanation is not proved; the proved checker's verdict, on the last line, is";
 
 /// Where the account and the library differ.
 pub const DIFFERS: &str = "this account does not agree with the proved checker, whose verdict holds: report it";

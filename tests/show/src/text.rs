@@ -13,7 +13,7 @@ pub const WIDTH: usize = 100;
 const STEP: usize = 2;
 const DEEPEST: usize = 12;
 
-/// How many bytes of a record that cannot be read are shown, and of one that is not looked at.
+/// How many bytes that are not decoded are shown, at the refused record and behind it.
 const SHOWN_BYTES: usize = 64;
 const LISTED_BYTES: usize = 12;
 
