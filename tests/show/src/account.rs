@@ -1,11 +1,14 @@
 //! The account of a ticket: an entry for each record, with what it says and what it does on the branch.
 
-use crate::fields::{fields_of, Field};
+use crate::fields::{fields_of, Field, HEADER};
+use crate::refusals::Refused;
+use crate::standing::Dropped;
 use crate::{malformed, reading, refusals, steps, words};
 use nuldwich_reference::checking::{Outcome, Ticket, LONGEST_TICKET};
 use nuldwich_reference::derivation::Derivation;
 use nuldwich_reference::facts::Fact;
 use nuldwich_reference::records::{kind_at, record_at, Record};
+use std::collections::BTreeMap;
 
 /// A ticket's records and the outcome that the reference gives.
 pub struct Account {
@@ -23,9 +26,9 @@ pub struct Entry {
     pub whole: bool,
     /// How many splits enclose the record.
     pub depth: usize,
-    /// Empty where the bytes cannot be read as fields; `unread` has them then.
+    /// Empty where the bytes cannot be read as fields; `undecoded` has them then.
     pub fields: Vec<Field>,
-    pub unread: Vec<u8>,
+    pub undecoded: Vec<u8>,
     pub notes: Vec<Note>,
     pub begun: Option<Begun>,
     pub state: State,
@@ -34,8 +37,11 @@ pub struct Entry {
 /// What became of a record.
 pub enum State {
     Read,
-    Refused { number: u64, reasons: Vec<String> },
-    NotLookedAt,
+    Refused(Refused),
+    /// It stands behind the refused record and is not checked.
+    Listed,
+    /// No record, but all bytes behind an end.
+    BehindEnd,
 }
 
 /// A line about a record: `adds fact 3: ..`, `uses fact 0 of record 2: ..`, or words alone.
@@ -71,6 +77,10 @@ pub struct Scene<'a> {
     pub open: &'a [Open],
     /// The record that each fact of the branch comes from.
     pub sources: &'a [usize],
+    /// Under claim 2, the steps of which one child among several was taken.
+    pub taken: &'a [usize],
+    /// The facts that were cut back, each by the number that it had last.
+    pub dropped: &'a BTreeMap<usize, Dropped>,
     pub number: usize,
     pub start: usize,
     pub bytes: &'a [u8],
@@ -105,8 +115,7 @@ impl Scene<'_> {
 
 /// Reads a ticket record by record; a ticket that is too long is listed without being looked at.
 pub fn account(bytes: &[u8]) -> Account {
-    let mut walk =
-        Walk { bytes, ticket: Ticket::default(), open: Vec::new(), sources: Vec::new(), entries: Vec::new() };
+    let mut walk = Walk::of(bytes);
     let outcome = if bytes.len() > LONGEST_TICKET { walk.refuse_length() } else { walk.run() };
     Account { length: bytes.len(), entries: walk.entries, outcome }
 }
@@ -116,17 +125,31 @@ struct Walk<'a> {
     ticket: Ticket,
     open: Vec<Open>,
     sources: Vec<usize>,
+    taken: Vec<usize>,
+    dropped: BTreeMap<usize, Dropped>,
     entries: Vec<Entry>,
 }
 
 impl Walk<'_> {
+    fn of(bytes: &[u8]) -> Walk<'_> {
+        Walk {
+            bytes,
+            ticket: Ticket::default(),
+            open: Vec::new(),
+            sources: Vec::new(),
+            taken: Vec::new(),
+            dropped: BTreeMap::new(),
+            entries: Vec::new(),
+        }
+    }
+
     /// "Records are read one after another from the lent bytes."
     fn run(&mut self) -> Outcome {
         let mut start = 0;
         let mut number = 0;
         while let Some(record) = record_at(self.bytes, start) {
             if let Err(refusal) = self.take(number, start, &record) {
-                self.list_rest(number + 1, record.end);
+                self.list_behind(number, &record);
                 return Outcome::Refused { number: refusal, record: number };
             }
             if record.kind == 8 {
@@ -136,7 +159,7 @@ impl Walk<'_> {
             number += 1;
         }
         let mut entry = self.rest(number, start);
-        entry.state = State::Refused { number: 3, reasons: malformed::cut_short(&self.scene(number, start)) };
+        entry.state = State::Refused(malformed::cut_short(&self.scene(number, start)));
         self.entries.push(entry);
         Outcome::Refused { number: 3, record: number }
     }
@@ -145,13 +168,22 @@ impl Walk<'_> {
     fn refuse_length(&mut self) -> Outcome {
         self.list_rest(0, 0);
         if let Some(first) = self.entries.first_mut() {
-            first.state = State::Refused { number: 2, reasons: malformed::too_long(self.bytes.len()) };
+            first.state = State::Refused(malformed::too_long(self.bytes.len()));
         }
         Outcome::Refused { number: 2, record: 0 }
     }
 
     fn scene(&self, number: usize, start: usize) -> Scene<'_> {
-        Scene { ticket: &self.ticket, open: &self.open, sources: &self.sources, number, start, bytes: self.bytes }
+        Scene {
+            ticket: &self.ticket,
+            open: &self.open,
+            sources: &self.sources,
+            taken: &self.taken,
+            dropped: &self.dropped,
+            number,
+            start,
+            bytes: self.bytes,
+        }
     }
 
     /// Takes one whole record and writes its entry.
@@ -168,10 +200,10 @@ impl Walk<'_> {
             }
             Err(refusal) => {
                 entry.notes = reading::notes_of_refused(&scene, refusal, record);
-                entry.state = State::Refused { number: refusal, reasons: refusals::reasons(&scene, refusal, record) };
+                entry.state = State::Refused(refusals::refused(&scene, refusal, record));
                 match fields_of(&self.ticket, record.kind, record.body) {
                     Some(fields) if refusal >= 6 => entry.fields = fields,
-                    _ => entry.unread = record.body.to_vec(),
+                    _ => entry.undecoded = record.body.to_vec(),
                 }
             }
         }
@@ -191,29 +223,53 @@ impl Walk<'_> {
 
     /// The facts that a step adds, or the child that begins behind it.
     fn take_step(&mut self, body: &[u8], after: &Ticket, entry: &mut Entry) {
-        let (before, now) = (derivation_of(&self.ticket), derivation_of(after));
-        let mut mark = before.branch.len();
-        if now.pending.len() > before.pending.len() {
-            let children = steps::children(&self.ticket, body).len();
+        if steps::closes(body) {
+            return self.close(after, entry);
+        }
+        let mark = derivation_of(&self.ticket).branch.len();
+        let children = steps::children(&self.ticket, body).len();
+        if children > 1 && after.claim == 1 {
             self.open.push(Open { record: entry.number, mark, children, worked: 1 });
-        } else if steps::closes(body) {
-            mark = self.next_child(now.closed);
-        } else {
-            entry.notes.extend(added(after, mark));
-            self.sources.resize(now.branch.len(), entry.number);
-            return;
+            return self.begin(after, entry);
         }
-        if let Some(open) = self.open.last() {
-            self.sources.truncate(mark);
-            self.sources.resize(now.branch.len(), open.record);
-            entry.begun = Some(Begun {
-                split: open.record,
-                child: open.worked,
-                children: open.children,
-                depth: self.open.len(),
-                notes: added(after, mark),
-            });
+        if children > 1 {
+            self.taken.push(entry.number);
         }
+        entry.notes.extend(added(after, mark));
+        self.sources.resize(derivation_of(after).branch.len(), entry.number);
+    }
+
+    /// A closing step: what it drops, and what is next.
+    fn close(&mut self, after: &Ticket, entry: &mut Entry) {
+        let mark = self.next_child(derivation_of(after).closed);
+        let Some(open) = self.open.last() else {
+            return entry.notes.push(Note::words("CLOSES the branch; it was the last one: every branch is closed"));
+        };
+        let (child, split) = (open.worked, open.record);
+        let facts = words::range("fact", mark, self.sources.len() - 1);
+        let verb = if mark + 1 == self.sources.len() { "is" } else { "are" };
+        let text = format!("CLOSES the branch: {facts} {verb} dropped; next: child {child} of record {split}");
+        entry.notes.push(Note::words(text));
+        for number in mark..self.sources.len() {
+            let scene = self.scene(entry.number, entry.start);
+            let gone = Dropped { source: self.sources[number], text: scene.fact_words(number), by: entry.number };
+            self.dropped.insert(number, gone);
+        }
+        self.begin(after, entry);
+    }
+
+    /// The child of the last open split that is worked from here on.
+    fn begin(&mut self, after: &Ticket, entry: &mut Entry) {
+        let Some(open) = self.open.last() else { return };
+        self.sources.truncate(open.mark);
+        self.sources.resize(derivation_of(after).branch.len(), open.record);
+        entry.begun = Some(Begun {
+            split: open.record,
+            child: open.worked,
+            children: open.children,
+            depth: self.open.len(),
+            notes: added(after, open.mark),
+        });
     }
 
     /// "a closed branch is cut back to the mark of its last pending split", whose next child begins.
@@ -240,7 +296,7 @@ impl Walk<'_> {
             whole: true,
             depth: self.open.len(),
             fields: Vec::new(),
-            unread: Vec::new(),
+            undecoded: Vec::new(),
             notes: Vec::new(),
             begun: None,
             state: State::Read,
@@ -251,21 +307,50 @@ impl Walk<'_> {
     fn rest(&self, number: usize, start: usize) -> Entry {
         let record = Record { kind: 0, body: &[], end: self.bytes.len() };
         let entry = self.whole(number, start, &record);
-        Entry { kind: kind_at(self.bytes, start), whole: false, unread: self.bytes[start..].to_vec(), ..entry }
+        let kind = kind_at(self.bytes, start);
+        let body = if kind.is_some() { start + HEADER } else { start };
+        Entry { kind, whole: false, undecoded: self.bytes[body..].to_vec(), ..entry }
     }
 
-    /// What stands behind a refused record, as far as records can be delimited.
-    fn list_rest(&mut self, mut number: usize, mut start: usize) {
+    /// What stands behind a refused record, and that no end does.
+    fn list_behind(&mut self, number: usize, record: &Record) {
+        let is_end = record.kind == 8;
+        if is_end && self.ticket.derivation.is_some() {
+            return self.list_behind_end(number, record.end, "refused");
+        }
+        let refused = self.entries.len() - 1;
+        let missing = self.list_rest(number + 1, record.end);
+        if let (Some(missing), State::Refused(refusal), false) = (missing, &mut self.entries[refused].state, is_end) {
+            refusal.also = Some(malformed::lacks_end(self.bytes.len(), missing));
+        }
+    }
+
+    /// Lists records as far as they can be delimited, to the first end; without one, says which record is missing.
+    fn list_rest(&mut self, mut number: usize, mut start: usize) -> Option<usize> {
         self.open.clear();
         while let Some(record) = record_at(self.bytes, start) {
             let entry = self.whole(number, start, &record);
-            self.entries.push(Entry { unread: record.body.to_vec(), state: State::NotLookedAt, ..entry });
+            self.entries.push(Entry { undecoded: record.body.to_vec(), state: State::Listed, ..entry });
+            if record.kind == 8 {
+                self.list_behind_end(number, record.end, "would be refused");
+                return None;
+            }
             start = record.end;
             number += 1;
         }
         if start < self.bytes.len() {
             let entry = self.rest(number, start);
-            self.entries.push(Entry { state: State::NotLookedAt, ..entry });
+            self.entries.push(Entry { state: State::Listed, ..entry });
+        }
+        Some(number)
+    }
+
+    /// "a byte follows the end record, counted at that end record"
+    fn list_behind_end(&mut self, number: usize, start: usize, verdict: &str) {
+        if start < self.bytes.len() {
+            let notes = vec![Note::words(format!("{verdict} 4 at record {number}"))];
+            let (entry, undecoded) = (self.rest(number, start), self.bytes[start..].to_vec());
+            self.entries.push(Entry { kind: None, depth: 0, state: State::BehindEnd, notes, undecoded, ..entry });
         }
     }
 }

@@ -1,6 +1,6 @@
 //! The fields of a record by name, each with its value and the range that is allowed for it.
 
-use crate::layout::{length_of, rule_name};
+use crate::layout::{length_of, rule_name, rule_words};
 use crate::words::{column, count, number, variable};
 use nuldwich_reference::checking::Ticket;
 use nuldwich_reference::leaf::VALUE_LIMIT;
@@ -165,9 +165,9 @@ impl Reader<'_> {
 
     /// "1 to 64 characters, u32 each, below n"
     fn literal(&mut self) {
-        let allowed = Allowed::below(self.question.n as usize, "characters are below n");
-        for place in 0..self.body.len() / 4 {
-            self.take(&format!("character {place}"), "u32", allowed.clone(), no_meaning);
+        let allowed = Allowed::below(self.question.n as usize, "code points are below n");
+        for place in 1..=self.body.len() / 4 {
+            self.take(&format!("code point of character {place}"), "u32", allowed.clone(), no_meaning);
         }
     }
 
@@ -267,7 +267,7 @@ impl Reader<'_> {
 
     /// "Under claim 1 the child field is 0"; "under claim 2 it is the child taken, from 1".
     fn child(&mut self, claim: u16, rule: u16) {
-        let name = rule_name(rule).unwrap_or("the rule");
+        let name = rule_words(rule);
         let allowed = match read_rule(self.question, rule, &self.body[4..]) {
             _ if claim == 1 => Allowed::range(0, 0, "under claim 1 the child field is 0"),
             Err(_) => Allowed::any(),

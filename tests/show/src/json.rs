@@ -3,11 +3,12 @@
 use crate::account::{Account, Begun, Entry, Note, State};
 use crate::fields::{Field, HEADER};
 use crate::layout::kind_name;
-use crate::refusals::meaning;
+use crate::refusals::Refused;
+use crate::summary::{summary, NOT_PROVED};
 use crate::verdict::Verdict;
 use crate::words::hex;
 
-/// One object: the ticket's length, its records, and the proved checker's verdict.
+/// One object: the ticket's length, the outcome in a sentence, its records, and the proved checker's verdict.
 pub fn json(account: &Account, verdict: &Verdict) -> String {
     let records: Vec<String> = account.entries.iter().map(entry).collect();
     let (strings, integers) = verdict.values();
@@ -20,20 +21,24 @@ pub fn json(account: &Account, verdict: &Verdict) -> String {
     ]);
     let agrees = verdict.agrees(&account.outcome);
     format!(
-        "{{\"bytes\":{},\"records\":[\n{}\n],\"account_agrees\":{agrees},\"verdict\":{said}}}\n",
+        "{{\"bytes\":{},\"summary\":{},\"note\":{},\"records\":[\n{}\n],\"account_agrees\":{agrees},\"verdict\":{said}}}\n",
         account.length,
+        string(&summary(account, verdict)),
+        string(NOT_PROVED),
         records.join(",\n")
     )
 }
 
 fn entry(entry: &Entry) -> String {
-    let (state, refusal) = match &entry.state {
-        State::Read => ("read", None),
-        State::NotLookedAt => ("not looked at", None),
-        State::Refused { number, reasons } => ("refused", Some(refused(*number, reasons))),
+    let state = match &entry.state {
+        State::Read => "read",
+        State::Refused(_) => "refused",
+        State::Listed => "not checked",
+        State::BehindEnd => "behind the end",
     };
+    let number = if matches!(entry.state, State::BehindEnd) { "null".to_string() } else { entry.number.to_string() };
     let mut members = vec![
-        ("record", entry.number.to_string()),
+        ("record", number),
         ("start", entry.start.to_string()),
         ("end", entry.end.to_string()),
         ("kind", entry.kind.map_or("null".to_string(), |kind| kind.to_string())),
@@ -42,20 +47,25 @@ fn entry(entry: &Entry) -> String {
         ("depth", entry.depth.to_string()),
         ("state", string(state)),
         ("fields", array(&entry.fields, |one| field(entry.start, one))),
-        ("unread", string(&hex(&entry.unread))),
+        ("not_decoded", string(&hex(&entry.undecoded))),
         ("notes", array(&entry.notes, note)),
     ];
     members.extend(entry.begun.as_ref().map(|child| ("begins", begun(child))));
-    members.extend(refusal.map(|words| ("refused", words)));
+    if let State::Refused(refusal) = &entry.state {
+        members.push(("refused", refused(refusal)));
+    }
     object(&members)
 }
 
-fn refused(number: u64, reasons: &[String]) -> String {
-    object(&[
-        ("number", number.to_string()),
-        ("meaning", string(meaning(number))),
-        ("reasons", array(reasons, |reason| string(reason))),
-    ])
+fn refused(refusal: &Refused) -> String {
+    let mut members = vec![
+        ("number", refusal.number.to_string()),
+        ("meaning", string(&refusal.meaning)),
+        ("reasons", array(&refusal.reasons, |reason| string(reason))),
+    ];
+    members.extend(refusal.branch.as_ref().map(|facts| ("branch", array(facts, note))));
+    members.extend(refusal.also.as_ref().map(|words| ("also", string(words))));
+    object(&members)
 }
 
 /// A field of the record that starts at a byte of the ticket.

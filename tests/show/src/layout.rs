@@ -40,6 +40,17 @@ pub fn rule_name(rule: u16) -> Option<&'static str> {
     RULES.get(usize::from(rule).checked_sub(1)?).copied()
 }
 
+/// A rule by number and name: `rule 5 (S-Conf)`.
+pub fn rule_words(rule: u16) -> String {
+    let name = rule_name(rule).map_or(String::new(), |name| format!(" ({name})"));
+    format!("rule {rule}{name}")
+}
+
+/// The rule of a step whose body has one.
+pub fn rule_of(body: &[u8]) -> String {
+    rule_words(u16_at(body, 0))
+}
+
 /// The lengths that fit this kind, and for a step the rule that its first bytes name; nothing for an unknown kind or rule.
 pub fn length_of(ticket: &Ticket, kind: u16, body: &[u8]) -> Option<Length> {
     let length = |(fixed, stride, least, greatest), parts: &str| {
@@ -47,7 +58,7 @@ pub fn length_of(ticket: &Ticket, kind: u16, body: &[u8]) -> Option<Length> {
     };
     match kind {
         1 => length((8, 0, 0, 0), "u32 n, u16 p, u16 q"),
-        2 => length((0, 4, 1, 64), "1 to 64 characters, u32 each"),
+        2 => length((0, 4, 1, 64), "1 to 64 code points, u32 each"),
         3 => length((6, 0, 0, 0), "u16 relation, u16 a, u16 b"),
         4 => length((6, 6, 0, 48), "u16 relation, i32 constant, 0 to 48 pairs of u16 column and i32 coefficient"),
         5 => length((2, 0, 0, 0), "u16 claim"),

@@ -2,66 +2,72 @@
 
 use crate::account::Scene;
 use crate::fields::{fields_of, Field, HEADER};
-use crate::layout::{kind_name, length_of, rule_name};
+use crate::layout::{kind_name, length_of, rule_of};
+use crate::refusals::Refused;
 use crate::words;
 use nuldwich_reference::checking::{Ticket, LONGEST_TICKET};
 use nuldwich_reference::question::Question;
 use nuldwich_reference::records::{u16_at, u32_at, Record};
 
-/// Why a whole record is refused for its form.
-pub fn reasons(scene: &Scene, number: u64, record: &Record) -> Vec<String> {
-    match number {
-        4 => out_of_place(scene, record),
-        5 => misfit(scene, record),
-        6 => out_of_range(scene, record),
-        _ => repeated(scene, record),
-    }
-}
-
 /// 2: nothing is read.
-pub fn too_long(length: usize) -> Vec<String> {
+pub fn too_long(length: usize) -> Refused {
     let most = words::number(LONGEST_TICKET as i128);
-    vec![format!("it has at least {} bytes; a ticket has at most {most}", words::number(length as i128))]
+    let reason = format!("it has at least {} bytes; a ticket has at most {most}", words::number(length as i128));
+    Refused::new(2, ("the ticket is too long".to_string(), vec![reason]))
 }
 
 /// 3: how much of the record is there, and what was due.
-pub fn cut_short(scene: &Scene) -> Vec<String> {
+pub fn cut_short(scene: &Scene) -> Refused {
     let left = &scene.bytes[scene.start..];
-    let there = words::count(left.len(), "byte");
-    let what = match left.len() {
-        0 => format!("the ticket stops at byte {}, and no end record (kind 8) was read", scene.start),
-        1..=5 => format!("a record begins with six bytes (u32 body length, u16 kind); what is left is {there}"),
-        _ => {
-            let (length, kind) = (u32_at(left, 0) as usize, u16_at(left, 4));
-            let asked = words::count(length, "byte");
-            let body = words::number((left.len() - HEADER) as i128);
-            format!("its length field asks for a body of {asked} (of kind {kind}); behind its first six bytes only {body} are left")
-        }
+    let at = words::number(scene.bytes.len() as i128);
+    let (meaning, what) = match left.len() {
+        0 => ("the bytes stop: no end record follows", format!("the ticket stops at byte {at}, behind a whole record")),
+        1..=5 => ("the bytes stop within this record", cut_head(left)),
+        _ => ("the bytes stop within this record", cut_body(left)),
     };
-    vec![what, due(scene)]
+    Refused::new(3, (meaning.to_string(), vec![what, due(scene)]))
+}
+
+fn cut_head(left: &[u8]) -> String {
+    let there = words::count(left.len(), "byte");
+    format!("a record begins with six bytes (u32 body length, u16 kind); what is left is {there}")
+}
+
+fn cut_body(left: &[u8]) -> String {
+    let asked = words::count(u32_at(left, 0) as usize, "byte");
+    let kind = words::number(i128::from(u16_at(left, 4)));
+    let body = words::number((left.len() - HEADER) as i128);
+    format!("its length field asks for a body of {asked} (of kind {kind}); behind its first six bytes {body} are left")
+}
+
+/// That the bytes stop without an end behind a record that is refused itself.
+pub fn lacks_end(length: usize, missing: usize) -> String {
+    let at = words::number(length as i128);
+    format!("the ticket also lacks an end record: its bytes stop at byte {at}, which would be refused 3 at record {missing}")
 }
 
 /// 4: why the record may not stand here, and what may.
-fn out_of_place(scene: &Scene, record: &Record) -> Vec<String> {
+pub fn out_of_place(scene: &Scene, record: &Record) -> (String, Vec<String>) {
     let after = scene.bytes.len() - record.end;
     let ticket = scene.ticket;
-    if kind_name(record.kind).is_none() {
-        let what = format!("kind {} is unknown; the kinds of a ticket are 1 to 8", record.kind);
-        return vec![what, due(scene)];
-    }
-    if record.kind == 8 && ticket.derivation.is_some() && after > 0 {
+    let Some(name) = kind_name(record.kind) else {
+        let what = "the kinds of a ticket are 1 to 8".to_string();
+        let kind = words::number(i128::from(record.kind));
+        return (format!("kind {kind} is unknown"), vec![what, due(scene)]);
+    };
+    if record.kind == 8 && ticket.derivation.is_some() {
         let behind = words::count(after, "byte");
-        return vec![format!(
-            "the end record is the last of a ticket; this one ends before byte {}, with {behind} behind it",
-            record.end
-        )];
+        let end = words::number(record.end as i128);
+        let what =
+            format!("the end record is the last of a ticket; this one ends before byte {end}, with {behind} behind it");
+        return ("bytes stand behind the end record".to_string(), vec![what]);
     }
     let what = match ticket.claim {
         _ if !ticket.question.has_head() => "the first record of a ticket is its head (kind 1)".to_string(),
         0 => misplaced_in_question(&ticket.question, record.kind),
         _ => misplaced_behind_claim(scene, record.kind),
     };
-    vec![what, due(scene)]
+    (format!("the {name} (kind {}) is out of its place", record.kind), vec![what, due(scene)])
 }
 
 /// Before the claim: "They stand in order of kind".
@@ -87,7 +93,7 @@ fn misplaced_behind_claim(scene: &Scene, kind: u16) -> String {
 }
 
 /// The kinds that may stand here: those that the reference does not turn back for their place.
-fn due(scene: &Scene) -> String {
+pub fn due(scene: &Scene) -> String {
     let fits = |kind: &u16| {
         let mut ticket: Ticket = scene.ticket.clone();
         let record = Record { kind: *kind, body: &[], end: scene.bytes.len() };
@@ -99,42 +105,42 @@ fn due(scene: &Scene) -> String {
 }
 
 /// 5: the length, and the lengths that fit.
-fn misfit(scene: &Scene, record: &Record) -> Vec<String> {
-    let Some(length) = length_of(scene.ticket, record.kind, record.body) else {
-        return Vec::new();
+pub fn misfit(scene: &Scene, record: &Record) -> (String, Vec<String>) {
+    let (name, of) = match record.kind {
+        6 if record.body.len() >= 4 => (format!("a step of {}", rule_of(record.body)), "rule"),
+        kind => (format!("a record of kind {kind}, {},", kind_name(kind).unwrap_or("unknown")), "kind"),
     };
-    let rule = if record.kind == 6 && record.body.len() >= 4 { rule_name(u16_at(record.body, 0)) } else { None };
-    let name = match rule {
-        Some(rule) => format!("a step of {rule}"),
-        None => format!("kind {}, {},", record.kind, kind_name(record.kind).unwrap_or("unknown")),
-    };
-    let (there, lengths) = (words::count(record.body.len(), "byte"), length.words());
-    vec![format!("the body has {there} (u32 at byte {}); for {name} it has {lengths}: {}", scene.start, length.parts)]
+    let there = words::count(record.body.len(), "byte");
+    let at = words::number(scene.start as i128);
+    let lengths = length_of(scene.ticket, record.kind, record.body);
+    let due = lengths.map_or(String::new(), |length| format!("{}: {}", length.words(), length.parts));
+    let what = format!("the body has {there} (u32 at byte {at}); the body of {name} has {due}");
+    (format!("the length of the body is wrong for its {of}"), vec![what])
 }
 
 /// 6: the first field outside its range.
-fn out_of_range(scene: &Scene, record: &Record) -> Vec<String> {
+pub fn out_of_range(scene: &Scene, record: &Record) -> (String, Vec<String>) {
+    let meaning = "a field is outside its range";
     let fields = fields_of(scene.ticket, record.kind, record.body).unwrap_or_default();
     let faulty: Vec<&Field> = fields.iter().filter(|field| !field.in_range()).collect();
     let Some(first) = faulty.first() else {
-        return Vec::new();
+        return (meaning.to_string(), Vec::new());
     };
-    let pair = first.pair.map_or(String::new(), |pair| format!(" of pair {pair}"));
-    let at = scene.start + HEADER + first.at;
+    let name = format!("{}{}", first.name, first.pair.map_or(String::new(), |pair| format!(" of pair {pair}")));
+    let at = words::number((scene.start + HEADER + first.at) as i128);
     let value = words::number(first.value);
     let range = first.allowed.words();
-    let mut reasons =
-        vec![format!("{}{pair} ({} at byte {at}) is {value}; allowed is {range}", first.name, first.form)];
+    let mut reasons = vec![format!("{name} ({} at byte {at}) is {value}; allowed is {range}", first.form)];
     if faulty.len() > 1 {
         reasons.push(format!("{} outside of what is allowed", words::more(faulty.len() - 1, "field")));
     }
-    reasons
+    (format!("{meaning}: {name}"), reasons)
 }
 
 /// 7: the earlier literal. Literals stand right behind the head, so a literal's number is its record's.
-fn repeated(scene: &Scene, record: &Record) -> Vec<String> {
+pub fn repeated(scene: &Scene, record: &Record) -> Vec<String> {
     let text: Vec<u32> = record.body.chunks(4).map(|field| u32_at(field, 0)).collect();
     let earlier = scene.ticket.question.literals.iter().position(|literal| *literal == text);
-    let same = |number| format!("its text, {}, is that of literal {number} in record {number}", words::text(&text));
+    let same = |number| format!("its text is that of literal {number} in record {number}");
     earlier.map(same).into_iter().collect()
 }

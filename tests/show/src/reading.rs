@@ -7,24 +7,25 @@ use nuldwich_reference::checking::Ticket;
 use nuldwich_reference::classes::Classes;
 use nuldwich_reference::leaf::read_model;
 use nuldwich_reference::question::Question;
-use nuldwich_reference::records::Record;
+use nuldwich_reference::records::{u32_at, Record};
 
 /// The lines about a record that was read; `after` has it.
 pub fn notes(scene: &Scene, after: &Ticket, record: &Record) -> Vec<Note> {
     match record.kind {
         1 => vec![Note::words(head(&after.question))],
-        2 => vec![literal(&after.question)],
+        2 => vec![literal(scene, record.body)],
         3 | 4 => vec![constraint(&after.question)],
         5 => vec![Note::words(claim(after.claim))],
-        6 => step(scene, after, record.body),
+        6 => steps::notes(scene, record.body),
         7 => [columns(&scene.ticket.question, record.body), strings(scene, after, record.body)].concat(),
         _ => vec![Note::words(end(after))],
     }
 }
 
-/// The lines about a refused record: what a step uses, what a model says.
+/// The lines about a refused record: a literal's text, what a step uses, what a model says.
 pub fn notes_of_refused(scene: &Scene, refusal: u64, record: &Record) -> Vec<Note> {
     match (record.kind, refusal) {
+        (2, 6..) => vec![literal(scene, record.body)],
         (6, 8..) => steps::notes(scene, record.body),
         (7, 8..) => columns(&scene.ticket.question, record.body),
         _ => Vec::new(),
@@ -33,19 +34,20 @@ pub fn notes_of_refused(scene: &Scene, refusal: u64, record: &Record) -> Vec<Not
 
 /// The alphabet, the variables and the columns.
 fn head(question: &Question) -> String {
-    let characters = words::number(i128::from(question.n) - 1);
+    let greatest = words::number(i128::from(question.n) - 1);
     let strings = words::count(question.p, "string variable");
     let integers = words::count(question.q, "integer variable");
     let columns = (0..question.columns()).map(|place| format!("{place}:{}", words::column(question, place)));
     let columns = columns.collect::<Vec<_>>().join(", ");
     let columns = if columns.is_empty() { "no columns".to_string() } else { format!("columns: {columns}") };
-    format!("characters 0 to {characters}, {strings}, {integers}; {columns}")
+    format!("code points 0 to {greatest}, {strings}, {integers}; {columns}")
 }
 
-fn literal(question: &Question) -> Note {
-    let number = question.literals.len() - 1;
-    let text = &question.literals[number];
-    Note::numbered("literal", number, format!("{}, {}", words::text(text), words::count(text.len(), "character")))
+/// The literal in a body, with the next number.
+fn literal(scene: &Scene, body: &[u8]) -> Note {
+    let number = scene.ticket.question.literals.len();
+    let text: Vec<u32> = body.chunks_exact(4).map(|field| u32_at(field, 0)).collect();
+    Note::numbered("literal", number, format!("{}, {}", words::text(&text), words::count(text.len(), "character")))
 }
 
 fn constraint(question: &Question) -> Note {
@@ -58,17 +60,6 @@ fn claim(claim: u16) -> &'static str {
         1 => "claimed: no strings and no integers meet the question; the steps are to close every branch",
         _ => "claimed: strings and integers meet the question; a model is to give them",
     }
-}
-
-/// A step's lines; a closing one says what it closes.
-fn step(scene: &Scene, after: &Ticket, body: &[u8]) -> Vec<Note> {
-    let mut notes = steps::notes(scene, body);
-    if steps::closes(body) {
-        let all = after.derivation.as_ref().is_some_and(|derivation| derivation.closed);
-        let rest = if all { "; it was the last one: every branch is closed" } else { "" };
-        notes.push(Note::words(format!("CLOSES the branch{rest}")));
-    }
-    notes
 }
 
 /// The model by columns.
@@ -97,7 +88,10 @@ fn strings(scene: &Scene, after: &Ticket, body: &[u8]) -> Vec<Note> {
     let strings = answer.strings.iter().enumerate().map(line);
     let integers =
         answer.integers.iter().enumerate().map(|(i, number)| value(format!("i{i} = {}", words::number(*number))));
-    let head = if model.is_empty() { "the answer has no values" } else { "the model settles the leaf; the answer:" };
+    let head = match model.len() {
+        0 => "the model settles the leaf; with p = 0 and q = 0 it has no values, and neither has the answer",
+        _ => "the model settles the leaf; the answer:",
+    };
     [Note::words(head)].into_iter().chain(strings).chain(integers).collect()
 }
 
@@ -112,8 +106,10 @@ fn source(question: &Question, classes: &Classes, model: &[i128], x: usize) -> S
     match (classes.literal(x), classes.lowest(x)) {
         (Some(literal), _) => format!("literal {literal}, which its class holds"),
         (_, lowest) if lowest < x => format!("in one class with {}", words::variable(lowest)),
-        _ if length == 1 => format!("the character of its code {}", words::number(model[question.code_column(x)])),
-        _ => format!("the smallest string of length {length} not yet given"),
+        _ if length == 1 => {
+            format!("the character of its code point {}", words::number(model[question.code_column(x)]))
+        }
+        _ => format!("the smallest string of length {length} by code points not yet given"),
     }
 }
 

@@ -1,7 +1,7 @@
 //! What a step names, why it fits, and its children.
 
 use crate::account::{Note, Scene};
-use crate::words;
+use crate::{standing, words};
 use nuldwich_reference::checking::Ticket;
 use nuldwich_reference::classes::Classes;
 use nuldwich_reference::facts::Fact;
@@ -81,10 +81,11 @@ pub fn facts_named(rule: &Rule) -> Vec<usize> {
     }
 }
 
-/// `uses fact 3 of record 7: ..`
+/// `uses fact 3 of record 7: .., times 2`
 fn fact_used(scene: &Scene, number: usize, times: &str) -> Note {
-    let text = format!("{}{times}", scene.fact_words(number));
-    Note { record: Some(scene.sources[number]), ..Note::numbered("uses fact", number, text) }
+    let mut note = standing::fact(scene, "uses fact", number);
+    note.text += times;
+    note
 }
 
 /// Why a rule that looks at classes or divides fits; nothing for the others and for one that does not fit.
@@ -130,7 +131,7 @@ fn children_notes(ticket: &Ticket, step: &Step, children: &[Vec<Fact>]) -> Vec<N
         return Vec::new();
     }
     let head = match ticket.claim {
-        1 => format!("splits into {} children, worked from left to right", children.len()),
+        1 => format!("splits into {} children, worked in this order", children.len()),
         _ => format!("has {} children, of which child {} is taken", children.len(), step.child),
     };
     let mut notes = vec![Note::words(head)];
@@ -138,7 +139,7 @@ fn children_notes(ticket: &Ticket, step: &Step, children: &[Vec<Fact>]) -> Vec<N
         Rule::Card(variables) if variables.len() > FEW => {
             let pairs = pairs(variables.len());
             let named = words::variables(variables);
-            let text = format!("children 1 to {pairs}: ≈ between each pair of {named}, in this order");
+            let text = format!("children 1 to {pairs}, each: ≈ between a pair of {named}, in this order");
             notes.push(Note { what: "child", ..Note::words(text) });
             pairs
         }

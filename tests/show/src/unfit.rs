@@ -1,36 +1,41 @@
 //! Why a step does not fit its rule (8).
 
 use crate::account::Scene;
-use crate::{steps, words};
+use crate::layout::rule_of;
+use crate::{standing, steps, words};
 use nuldwich_reference::facts::Relation::{AtLeast, Equal, NotEqual};
 use nuldwich_reference::facts::{Fact, Relation};
 use nuldwich_reference::rules::Place;
 use nuldwich_reference::steps::Rule;
 
 /// What fails of the premise of the step in a body; the first of it where one failure hides others.
-pub fn reasons(scene: &Scene, body: &[u8]) -> Vec<String> {
+pub fn reasons(scene: &Scene, body: &[u8]) -> (String, Vec<String>) {
+    let rule = rule_of(body);
     let Some(step) = steps::step_in(scene.ticket, body) else {
-        return Vec::new();
+        return (rule, Vec::new());
     };
     if steps::closes(body) && scene.ticket.claim == 2 {
-        return vec!["a closing rule does not fit under claim 2 (strings), whatever stands on the branch".to_string()];
+        let reason =
+            "rules 4 (A-Conf) and 5 (S-Conf) close a branch; under claim 2 (strings) they never fit".to_string();
+        return (format!("{rule}, which closes, does not fit under claim 2"), vec![reason]);
     }
     let missing = missing_facts(scene, &step.rule);
     if !missing.is_empty() {
-        return missing;
+        return ("the step names a fact that is not on the branch".to_string(), missing);
     }
-    steps::on_branch(scene.ticket, scene.branch(), |place| Unfit { scene, place }.reasons(&step.rule))
+    let meaning = format!("the step does not fit {rule} on the branch where it stands");
+    let reasons = steps::on_branch(scene.ticket, scene.branch(), |place| Unfit { scene, place }.reasons(&step.rule));
+    (meaning, reasons)
 }
 
 /// "names a fact not on the branch"
 fn missing_facts(scene: &Scene, rule: &Rule) -> Vec<String> {
-    let facts = match scene.branch().len() {
-        0 => "has no facts".to_string(),
-        1 => "has fact 0 alone".to_string(),
-        count => format!("has {count} facts, 0 to {}", count - 1),
-    };
     let missing = steps::facts_named(rule).into_iter().filter(|fact| *fact >= scene.branch().len());
-    missing.map(|fact| format!("fact {} is not on the branch, which {facts}", words::number(fact as i128))).collect()
+    let reason = |fact: usize| {
+        let stood = standing::last_stood(scene, fact).map_or(String::new(), |words| format!("; {words}"));
+        format!("fact {} is not on the branch{stood}", words::number(fact as i128))
+    };
+    missing.map(reason).collect()
 }
 
 /// A step whose facts are on the branch.
@@ -43,13 +48,15 @@ impl Unfit<'_> {
     fn reasons(&self, rule: &Rule) -> Vec<String> {
         match rule {
             Rule::Sum { divisor, pairs } => self.sum(*divisor, pairs),
-            Rule::Apart(fact) => vec![format!("Apart takes an arithmetic fact e ≠ 0, but {}", self.described(*fact))],
+            Rule::Apart(fact) => {
+                vec![format!("the rule takes an arithmetic fact e ≠ 0, but {}", self.described(*fact))]
+            }
             Rule::AConf(fact) => self.arithmetic_conflict(*fact),
             Rule::SConf => self.string_conflict(),
             Rule::SProp { x, y, .. } => self.propagation(*x, *y),
             Rule::LIntro(x) | Rule::CCollapse(x) => self.no_literal(*x),
             Rule::CInj(x, _) => {
-                vec![format!("C-Inj takes two different variables, but both are {}", words::variable(*x))]
+                vec![format!("the rule takes two different variables, but both are {}", words::variable(*x))]
             }
             Rule::Card(variables) => self.cardinality(variables),
             Rule::Join(first, second) => self.join(*first, *second),
@@ -100,7 +107,7 @@ impl Unfit<'_> {
         let times = words::number(multiplier);
         match self.place.arithmetic(fact) {
             None | Some((NotEqual, _)) => {
-                Some(format!("Sum takes ≥ facts and equations, but {}", self.described(fact)))
+                Some(format!("the rule takes ≥ facts and equations, but {}", self.described(fact)))
             }
             Some((relation, _)) if Place::multiplier_fits(relation, multiplier) => None,
             Some((relation, _)) => Some(format!(
@@ -114,22 +121,22 @@ impl Unfit<'_> {
     /// "an arithmetic fact without coefficients and false"
     fn arithmetic_conflict(&self, fact: usize) -> Vec<String> {
         vec![match self.place.arithmetic(fact) {
-            None => format!("A-Conf takes an arithmetic fact, but {}", self.described(fact)),
+            None => format!("the rule takes an arithmetic fact, but {}", self.described(fact)),
             Some((_, row)) if !row.is_constant() => {
                 let columns = (0..row.coefficients.len()).filter(|place| row.coefficients[*place] != 0);
                 let names: Vec<String> =
                     columns.map(|place| words::column(&self.scene.ticket.question, place)).collect();
                 let names = words::listed(&names, "and");
-                format!("A-Conf takes a fact without coefficients, but {} has one for {names}", self.named(fact))
+                format!("the rule takes a fact without coefficients, but {} has one for {names}", self.named(fact))
             }
-            Some(_) => format!("A-Conf takes a false fact, but {} is true", self.named(fact)),
+            Some(_) => format!("the rule takes a false fact, but {} is true", self.named(fact)),
         }]
     }
 
     /// "Fits when two different literals share a class, or a ≉ fact has both sides in one."
     fn string_conflict(&self) -> Vec<String> {
         let mut reasons =
-            vec!["S-Conf takes two different literals in one class, or a ≉ fact with both sides in one class"
+            vec!["the rule takes two different literals in one class, or a ≉ fact with both sides in one class"
                 .to_string()];
         let differences = self.place.branch.iter().enumerate().filter_map(|(number, fact)| match fact {
             Fact::Differ(a, b) => Some((number, *a, *b)),
@@ -159,7 +166,7 @@ impl Unfit<'_> {
     /// "different variables x, y of one class"
     fn propagation(&self, x: usize, y: usize) -> Vec<String> {
         if x == y {
-            return vec![format!("S-Prop takes two different variables, but both are {}", words::variable(x))];
+            return vec![format!("the rule takes two different variables, but both are {}", words::variable(x))];
         }
         let (x_name, y_name) = (words::variable(x), words::variable(y));
         vec![format!(
@@ -178,7 +185,7 @@ impl Unfit<'_> {
     fn cardinality(&self, variables: &[usize]) -> Vec<String> {
         if let Some(j) = (0..variables.len()).find(|j| variables[..*j].contains(&variables[*j])) {
             return vec![format!(
-                "Card takes different variables, but {} stands there twice",
+                "the rule takes different variables, but {} stands there twice",
                 words::variable(variables[j])
             )];
         }
@@ -190,7 +197,8 @@ impl Unfit<'_> {
     fn neighbours(&self, x: usize, y: usize) -> Vec<String> {
         let (x_name, y_name) = (words::variable(x), words::variable(y));
         let due = format!("len({x_name}) − len({y_name}) = 0 or len({y_name}) − len({x_name}) = 0");
-        let mut reasons = vec![format!("for its neighbours {x_name} and {y_name} Card needs one of the facts {due}")];
+        let mut reasons =
+            vec![format!("for its neighbours {x_name} and {y_name} the rule needs one of the facts {due}")];
         let question = &self.scene.ticket.question;
         let columns = [question.len_column(x), question.len_column(y)];
         let about = |number: &usize| {
@@ -200,7 +208,7 @@ impl Unfit<'_> {
         let near = (0..self.place.branch.len()).filter(about);
         reasons.extend(near.map(|number| format!("{} is not one of them", self.named(number))));
         if reasons.len() == 1 {
-            reasons.push("no fact of the branch is about both lengths".to_string());
+            reasons.push("no arithmetic fact of the branch is about both lengths".to_string());
         }
         reasons
     }
@@ -212,7 +220,7 @@ impl Unfit<'_> {
         if !others.is_empty() {
             return others
                 .iter()
-                .map(|fact| format!("Join takes two ≥ facts, but {}", self.described(*fact)))
+                .map(|fact| format!("the rule takes two ≥ facts, but {}", self.described(*fact)))
                 .collect();
         }
         let Some((_, row)) = self.place.arithmetic(first) else {

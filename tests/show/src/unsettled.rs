@@ -1,7 +1,8 @@
 //! Why a leaf is not settled by its model (13).
 
 use crate::account::Scene;
-use crate::broken::model_values;
+use crate::broken::{hopeless, model_values};
+use crate::layout::rule_words;
 use crate::{steps, words};
 use nuldwich_reference::facts::Fact;
 use nuldwich_reference::leaf::{read_model, Leaf};
@@ -9,19 +10,27 @@ use nuldwich_reference::question::Question;
 use nuldwich_reference::rules::{code_of, Conclusion, Place};
 use nuldwich_reference::steps::Rule;
 
-/// S-Conf where it fits, else the first choice of operands without a child that holds, and why each child fails.
-pub fn reasons(scene: &Scene, body: &[u8]) -> Vec<String> {
+/// Rule 5 where it fits, else the first choice of operands without a child that holds, and why each child fails.
+pub fn reasons(scene: &Scene, body: &[u8]) -> (String, Vec<String>) {
     let question = &scene.ticket.question;
-    let Ok(model) = read_model(question, body) else {
-        return Vec::new();
-    };
+    let model = read_model(question, body).unwrap_or_default();
     steps::on_branch(scene.ticket, scene.branch(), |place| {
         if let Some(conflict) = steps::conflict(scene, place) {
-            return vec![format!("S-Conf fits, so no strings meet the ≈ and ≉ facts of the leaf: {conflict}")];
+            return ("no strings meet the ≈ and ≉ facts of the leaf".to_string(), clash(scene, conflict));
         }
         let place = Place { question, branch: place.branch, classes: place.classes };
-        Unsettled { question, leaf: Leaf { place, model: model.clone() } }.reasons()
+        let unsettled = Unsettled { question, leaf: Leaf { place, model: model.clone() } };
+        ("the model does not settle the leaf".to_string(), unsettled.reasons())
     })
+}
+
+/// "S-Conf fitting (a clash of literals, ≉ within a class) is 13": no model helps.
+fn clash(scene: &Scene, conflict: String) -> Vec<String> {
+    let constraints = &scene.ticket.question.constraints;
+    let fits =
+        |place: &Place| place.classes.clash().is_some() || place.classes.broken_difference(constraints).is_some();
+    let by_the_question = steps::on_branch(scene.ticket, constraints, fits);
+    vec![format!("{} fits: {conflict}", rule_words(5)), hopeless(scene, by_the_question)]
 }
 
 struct Unsettled<'a> {
@@ -37,7 +46,7 @@ impl Unsettled<'_> {
         let Some(first) = rules.chain(cards).next() else {
             return Vec::new();
         };
-        let mut reasons = vec![self.gist(&first), format!("{} has no child that holds:", named(&first))];
+        let mut reasons = vec![self.gist(&first), format!("so {} has no child that holds:", named(&first))];
         reasons.extend(self.children(&first));
         reasons
     }
@@ -53,8 +62,9 @@ impl Unsettled<'_> {
         };
         let mut reasons = Vec::new();
         if first > 0 {
-            let range = if first == 1 { "child 1".to_string() } else { format!("children 1 to {first}") };
-            reasons.push(format!("{range}, ≈ between two of them: no two of them are in one class"));
+            let children =
+                if first == 1 { "child 1, ≈".to_string() } else { format!("children 1 to {first}, each an ≈") };
+            reasons.push(format!("{children} between two of them: no two of them are in one class"));
         }
         let others = children.iter().enumerate().skip(first);
         reasons.extend(others.map(|(place, child)| format!("child {}, {}", place + 1, self.failing(child))));
@@ -137,24 +147,25 @@ impl Unsettled<'_> {
         let named = words::variables(variables);
         let all = variables.len();
         let strings = words::count(strings as usize, "string");
+        let (n, length) = (words::number(i128::from(n)), words::number(length));
         format!("{named}, {all} variables in different classes, have length {length}, but with n = {n} that length has {strings} in all")
     }
 }
 
 /// A choice of operands.
 fn named(rule: &Rule) -> String {
-    let one = |name: &str, x: &usize| format!("{name} on {}", words::variable(*x));
+    let on = |number: u16, variables: &[usize]| format!("{} on {}", rule_words(number), words::variables(variables));
     match rule {
         Rule::SProp { function, x, y } => {
             let function = if *function == 0 { "len" } else { "code" };
-            format!("S-Prop for {function} on {}", words::variables(&[*x, *y]))
+            format!("{} for {function} on {}", rule_words(6), words::variables(&[*x, *y]))
         }
-        Rule::LIntro(x) => one("L-Intro", x),
-        Rule::LValid(x) => one("L-Valid", x),
-        Rule::CCollapse(x) => one("C-Collapse", x),
-        Rule::CValid(x) => one("C-Valid", x),
-        Rule::CInj(x, y) => format!("C-Inj on {}", words::variables(&[*x, *y])),
-        Rule::Card(variables) => format!("Card on {}", words::variables(variables)),
+        Rule::LIntro(x) => on(7, &[*x]),
+        Rule::LValid(x) => on(8, &[*x]),
+        Rule::CCollapse(x) => on(9, &[*x]),
+        Rule::CValid(x) => on(10, &[*x]),
+        Rule::CInj(x, y) => on(11, &[*x, *y]),
+        Rule::Card(variables) => on(12, variables),
         _ => "the rule".to_string(),
     }
 }

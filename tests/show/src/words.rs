@@ -10,12 +10,12 @@ const SHORT: usize = 24;
 /// How many terms of a form are shown where it stands in full elsewhere.
 const MANY: usize = 12;
 
-/// A number with its thousands apart.
+/// A number; one over 9,999 with its thousands apart.
 pub fn number(value: i128) -> String {
     let digits = value.unsigned_abs().to_string();
     let mut words = if value < 0 { "−".to_string() } else { String::new() };
     for (place, digit) in digits.chars().enumerate() {
-        if place > 0 && (digits.len() - place) % 3 == 0 {
+        if place > 0 && digits.len() > 4 && (digits.len() - place) % 3 == 0 {
             words.push(',');
         }
         words.push(digit);
@@ -27,6 +27,14 @@ pub fn number(value: i128) -> String {
 pub fn count(number_of: usize, noun: &str) -> String {
     let ending = if number_of == 1 { "" } else { "s" };
     format!("{} {noun}{ending}", number(number_of as i128))
+}
+
+/// Things by number: `fact 3`, `facts 3 to 7`.
+pub fn range(noun: &str, first: usize, last: usize) -> String {
+    match last {
+        _ if last == first => format!("{noun} {first}"),
+        _ => format!("{noun}s {first} to {last}"),
+    }
 }
 
 /// `1 more field is`, `2 more fields are`
@@ -65,7 +73,7 @@ pub fn text(characters: &[u32]) -> String {
         _ if characters.is_empty() => "the empty string".to_string(),
         Some(text) => format!("\"{text}\""),
         None => {
-            let points: Vec<String> = characters.iter().map(|character| character.to_string()).collect();
+            let points: Vec<String> = characters.iter().map(|character| number(i128::from(*character))).collect();
             format!("code point{} {}", if points.len() == 1 { "" } else { "s" }, points.join(" "))
         }
     }

@@ -10,20 +10,20 @@ struct Section {
     ticket: Vec<u8>,
 }
 
-/// The example steps are records of their ticket and name every rule; the ticket that is shown byte by byte is the one on file.
+/// The example records are those of their tickets, the steps of every rule among them; the ticket that is shown byte by byte is the one on file.
 pub fn compare_page(root: &Path, report: &mut Report) {
     let page = String::from_utf8(super::read(&root.join("docs/FORMAT.md"))).expect("the page is text");
-    let section = |heading: &str, example: &str| Section {
-        bytes: rows(&page, heading),
-        ticket: super::read(&root.join("examples").join(example)),
-    };
-    let rules = section("## The thirteen rules", "every-rule.ticket");
-    let whole = section("## A ticket byte by byte", "example4.ticket");
+    let section =
+        |heading: &str, ticket: &str| Section { bytes: rows(&page, heading), ticket: super::read(&root.join(ticket)) };
+    let rules = section("## The thirteen rules", "examples/every-rule.ticket");
+    let more = section("## More bytes", "tests/show/expected/strings.ticket");
+    let whole = section("## A ticket byte by byte", "examples/example4.ticket");
     let count = |holds: bool, fault: &str| (!holds).then(|| format!("docs/FORMAT.md: {fault}"));
     report.count(
         "page".to_string(),
         count(has_every_rule(&rules), "the example steps are not those of every-rule.ticket"),
     );
+    report.count("page".to_string(), count(has_every_kind(&more), "strings.ticket has not the records shown"));
     report.count("page".to_string(), count(whole.bytes.concat() == whole.ticket, "example4.ticket has other bytes"));
 }
 
@@ -41,13 +41,24 @@ fn bytes(words: &str) -> Option<Vec<u8>> {
 
 /// Each step shown is a record of the ticket, and every rule is among them.
 fn has_every_rule(section: &Section) -> bool {
+    let mut rules: Vec<u16> = section.bytes.iter().map(|step| u16_at(step, 6)).collect();
+    rules.sort_unstable();
+    rules == (1..=13).collect::<Vec<u16>>() && are_records(section)
+}
+
+/// Each row is a record of the ticket, and a literal, a string constraint, a claim and a step are among them.
+fn has_every_kind(section: &Section) -> bool {
+    let kinds: Vec<u16> = section.bytes.iter().map(|record| u16_at(record, 4)).collect();
+    [2, 3, 5, 6].iter().all(|kind| kinds.contains(kind)) && are_records(section)
+}
+
+/// Whether all that is shown are whole records of the ticket.
+fn are_records(section: &Section) -> bool {
     let mut records = Vec::new();
     let mut start = 0;
     while let Some(record) = record_at(&section.ticket, start) {
         records.push(&section.ticket[start..record.end]);
         start = record.end;
     }
-    let mut rules: Vec<u16> = section.bytes.iter().map(|step| u16_at(step, 6)).collect();
-    rules.sort_unstable();
-    rules == (1..=13).collect::<Vec<u16>>() && section.bytes.iter().all(|step| records.contains(&&step[..]))
+    section.bytes.iter().all(|record| records.contains(&&record[..]))
 }
