@@ -78,11 +78,11 @@ fn compare_held(root: &Path, report: &mut Report) {
     if texts.len() < LEAST_HELD || objects.is_empty() {
         report.fail("too few outputs on file");
     }
+    let tickets =
+        [&directory, &root.join("examples"), &root.join("tests/vectors")].map(|place| files(place, "ticket")).concat();
     for path in texts.iter().chain(&objects) {
-        let own = path.with_extension("ticket");
-        let name = own.file_name().expect("a name");
-        let places = [own.clone(), root.join("examples").join(name), root.join("tests/vectors").join(name)];
-        let shown = show(&read(places.iter().find(|place| place.exists()).unwrap_or(&own)));
+        let ticket = tickets.iter().find(|ticket| ticket.file_stem() == path.file_stem());
+        let shown = show(&read(ticket.unwrap_or(path)));
         let printed = if path.extension().is_some_and(|ending| ending == "txt") { shown.text } else { shown.json };
         let difference = (printed.as_bytes() != read(path)).then(|| format!("{} has not:\n{printed}", path.display()));
         report.count("on file".to_string(), difference);
