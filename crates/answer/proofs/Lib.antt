@@ -1,5 +1,2 @@
 pub mod Written
 pub mod Signed
-pub mod Read
-pub mod Columns
-pub mod Bounds

@@ -14,6 +14,7 @@ use Rattle.calculus.specs.Limits.{variableLimit, lengthLimit, answerBytes}
 use Rattle.lists.proofs.Lists.{all-append, length-flatMap, flatMap-snoc, length-upTo}
 use Rattle.format.specs.Fields.{bytesOf, unsigned}
 use Rattle.format.specs.Answer.{recordBytes, characterBytes, integerBytes, stringRecords, encode}
+use Rattle.writing.proofs.Records.{record-put}
 use Rattle.format.proofs.Encoded.{length-bytes, length-integers, length-record, records-snoc, encode-short}
 use Rattle.answer.specs.Table.{row, tableStrings, tableAnswer, Table, Integers}
 
@@ -39,15 +40,6 @@ pub integers-more : (b : List ℕ) (zs : List ℤ) (at i : ℕ) → i < length z
     → sets (sets b at (integerBytes (take i zs))) (at + 4 * i) (bytesOf 4 (unsigned (getD zs i (pos 0)))) ≡ sets b at (integerBytes (take (i + 1) zs))
 unfolding integerBytes
 integers-more b zs at i h = items-more unsigned b zs (pos 0) at i h
-
--- length and kind, and then the body, stored behind each other are the record
-pub record-put : (b : List ℕ) (at m k : ℕ) (body : List ℕ) → m ≡ length body → sets (sets b at (bytesOf 4 m ++ bytesOf 2 k)) (at + 6) body ≡ sets b at (recordBytes k body)
-record-put b at m k body e =
-    let n : length (bytesOf 4 m ++ bytesOf 2 k) ≡ 6 = length-append (bytesOf 4 m) (bytesOf 2 k) ∙ rw (length-bytes 4 m, length-bytes 2 k) in
-    ap (λ (j : ℕ). sets (sets b at (bytesOf 4 m ++ bytesOf 2 k)) (at + j) body) (sym n)
-    ∙ sets-sets (bytesOf 4 m ++ bytesOf 2 k) body b at
-    ∙ ap (sets b at) (append-assoc (bytesOf 4 m) (bytesOf 2 k) body)
-    ∙ ap (λ (j : ℕ). sets b at (bytesOf 4 j ++ (bytesOf 2 k ++ body))) e
 
 -- ---- the strings of a table
 

@@ -1,21 +1,17 @@
 // Checking: the operation `check_ticket`. "Checking names the first faulty record from 0 (0 for 1 and 2), and there the first of" 1 to 14.
 ghost use mathlib.Core.Path.{_≡_};
-ghost use mathlib.Core.List.{List, []};
+ghost use mathlib.Core.List.{List};
 ghost use Prim.Native.Nat.{ℕ, _+_, _≤_};
 ghost use lib.ListN.{length, replicate};
 ghost use lib.IntN.{pos};
 ghost use Rattle.calculus.specs.Limits.{workNumbers, answerBytes, ticketBytes};
-ghost use Rattle.calculus.specs.Walk.{working};
 ghost use Rattle.format.specs.Records.{kind, next};
-ghost use Rattle.format.specs.Question.{question};
-ghost use Rattle.format.specs.Reading.{proving, taking, readClaim, readBehind};
-ghost use Rattle.format.specs.Checking.{checker, outcomeOf};
-ghost use Rattle.question.specs.Progress.{progressOf};
-ghost use Rattle.question.specs.Posed.{Posed, asked};
+ghost use Rattle.format.specs.Reading.{taking};
+ghost use Rattle.question.specs.Posed.{Posed};
 ghost use Rattle.question.specs.Standing.{StandsTo};
 ghost use Rattle.rows.specs.Rows.{branchOf};
 ghost use Rattle.rows.specs.Work.{Fine};
-ghost use Rattle.checking.specs.Outcomes.{outcomeFrom, Decided, Promised};
+ghost use Rattle.checking.specs.Outcomes.{outcomeFrom, provedFrom, followedFrom, claimedFrom, readWhole, Loaded, Decided, Promised};
 use claims::Followed;
 use claims::Walked;
 use claims::claim_fault;
@@ -23,6 +19,8 @@ use claims::end_fault;
 use claims::follow;
 use claims::walk;
 use constraints::load;
+use encoding::CLAIM_NO_SOLUTION;
+use encoding::RECORD_HEAD;
 use limits::ANSWER_BYTES;
 use limits::WORK_NUMBERS;
 use model::settle;
@@ -45,8 +43,8 @@ pub enum Outcome {
 
 // The steps, up to the last closed branch, and the end behind it. No answer buffer is written.
 fn prove(ticket: &[u8], s: Progress, at: usize, r: usize, work: &mut [i64]) -> Outcome
-    requires { ⌜ Posed (now ticket) s × Fine (now work) (s .constraints) × (branchOf (now work) (s .constraints) ≡ asked (now ticket) s .constraints) × (r ≤ at) ⌝ }
-    ensures { λ o. ⌜ ((answer : List ℕ) → Decided (outcomeFrom (now (ticket .entry)) s (proving (working (asked (now (ticket .entry)) s .constraints) [])) r at) answer answer o) ⌝ }
+    requires { ⌜ Loaded (now ticket) s (now work) × (r ≤ at) ⌝ }
+    ensures { λ o. ⌜ ((answer : List ℕ) → Decided (provedFrom (now (ticket .entry)) s r at) answer answer o) ⌝ }
 {
     match walk(ticket, s, at, r, work) {
         Walked::Refused(c, k) => Outcome::Refused(c, k),
@@ -72,16 +70,18 @@ fn at_model(
     count: usize,
     answer: &mut [u8],
 ) -> Outcome
-    requires { ⌜ Posed (now ticket) s × (kind (now ticket) at ≡ 7) × (next (now ticket) at ≤ length (now ticket)) × (r ≤ at) × Fine (now work) count × (answerBytes ≤ length (now answer)) ⌝ }
-    ensures { λ o. ⌜ Decided (outcomeFrom (now (ticket .entry)) s (taking (branchOf (now (work .entry)) count)) r at) (now (answer .entry)) (now (answer .exit)) o ⌝ }
+    requires { ⌜ Posed (now ticket) s × (kind (now ticket) at ≡ 7) × (next (now ticket) at ≤ length (now ticket)) × (r ≤ at)
+        × Fine (now work) count × (answerBytes ≤ length (now answer)) ⌝ }
+    ensures { λ o. ⌜ Decided (outcomeFrom (now (ticket .entry)) s (taking (branchOf (now (work .entry)) count)) r at)
+        (now (answer .entry)) (now (answer .exit)) o ⌝ }
 {
     let size = u32_at(ticket, at);
-    let settled = settle(ticket, s, at + 6, size, work, count);
+    let settled = settle(ticket, s, at + RECORD_HEAD, size, work, count);
     let f = settled.fault;
     if f != 0 {
         return Outcome::Refused(f, r);
     }
-    let c = end_fault(ticket, at + 6 + size);
+    let c = end_fault(ticket, at + RECORD_HEAD + size);
     if c != 0 {
         return Outcome::Refused(c, r + 1);
     }
@@ -98,8 +98,8 @@ fn give_answer(
     work: &mut [i64],
     answer: &mut [u8],
 ) -> Outcome
-    requires { ⌜ Posed (now ticket) s × Fine (now work) (s .constraints) × (branchOf (now work) (s .constraints) ≡ asked (now ticket) s .constraints) × (r ≤ at) × (answerBytes ≤ length (now answer)) ⌝ }
-    ensures { λ o. ⌜ Decided (outcomeFrom (now (ticket .entry)) s (taking (asked (now (ticket .entry)) s .constraints)) r at) (now (answer .entry)) (now (answer .exit)) o ⌝ }
+    requires { ⌜ Loaded (now ticket) s (now work) × (r ≤ at) × (answerBytes ≤ length (now answer)) ⌝ }
+    ensures { λ o. ⌜ Decided (followedFrom (now (ticket .entry)) s r at) (now (answer .entry)) (now (answer .exit)) o ⌝ }
 {
     match follow(ticket, s, at, r, work) {
         Followed::Refused(c, k) => Outcome::Refused(c, k),
@@ -120,15 +120,15 @@ fn behind_question(
 ) -> Outcome
     requires { ⌜ StandsTo (now ticket) s at × (at + 6 ≤ length (now ticket)) × (length (now ticket) ≤ ticketBytes) × (r ≤ at) ⌝ }
     requires { ⌜ (workNumbers ≤ length (now work)) × (answerBytes ≤ length (now answer)) ⌝ }
-    ensures { λ o. ⌜ Decided (outcomeOf (readClaim checker (now (ticket .entry)) (progressOf (now (ticket .entry)) s) at r)) (now (answer .entry)) (now (answer .exit)) o ⌝ }
+    ensures { λ o. ⌜ Decided (claimedFrom (now (ticket .entry)) s at r) (now (answer .entry)) (now (answer .exit)) o ⌝ }
 {
     let c = claim_fault(ticket, s, at);
     if c != 0 {
         return Outcome::Refused(c, r);
     }
     load(ticket, s, work);
-    let claim = u16_at(ticket, at + 6);
-    if claim == 1 {
+    let claim = u16_at(ticket, at + RECORD_HEAD);
+    if claim == CLAIM_NO_SOLUTION {
         return prove(ticket, s, at + 8, r + 1, work);
     }
     give_answer(ticket, s, at + 8, r + 1, work, answer)
@@ -137,7 +137,7 @@ fn behind_question(
 // The outcome on buffers that are large enough. Anything may be left in the work area.
 fn decide(ticket: &[u8], work: &mut [i64], answer: &mut [u8]) -> Outcome
     requires { ⌜ (workNumbers ≤ length (now work)) × (answerBytes ≤ length (now answer)) ⌝ }
-    ensures { λ o. ⌜ Decided (outcomeOf (readBehind checker (now (ticket .entry)) (question (now (ticket .entry))))) (now (answer .entry)) (now (answer .exit)) o ⌝ }
+    ensures { λ o. ⌜ Decided (readWhole (now (ticket .entry))) (now (answer .entry)) (now (answer .exit)) o ⌝ }
 {
     match read_question(ticket) {
         Reading::Stopped(c, r) => Outcome::Refused(c, r),

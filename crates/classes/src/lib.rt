@@ -7,6 +7,7 @@ ghost use lib.ListN.{length};
 ghost use lib.Dec.{eqb};
 ghost use Rattle.lists.specs.Lists.{anyBelow};
 ghost use Rattle.calculus.specs.Limits.{alphabetLimit, variableLimit, factLimit};
+ghost use Rattle.calculus.specs.Chains.{varNode, litNode};
 ghost use Rattle.calculus.specs.Classes as classes;
 ghost use Rattle.calculus.specs.Classes.{nodeCount, upFrom, mergeNodes, mergeFact, sameClass, lowestLiteral, sidesMeet, literalMeets, clash};
 ghost use Rattle.calculus.specs.Rules.{leastPower};
@@ -14,15 +15,40 @@ ghost use Rattle.calculus.specs.SaturationTest.{lowestVariable};
 ghost use Rattle.rows.specs.Rows.{rowLength, factOf, branchOf};
 ghost use Rattle.classes.specs.Classes.{literalOf};
 use limits::NODE_COUNT;
-use rows::operand;
+use rows::FIRST;
+use rows::SECOND;
+use rows::TAG_LITERAL;
+use rows::TAG_NOT_SAME;
+use rows::TAG_SAME;
+use rows::literal_at;
 use rows::row_at;
 use rows::tag_of;
+use rows::variable_at;
 
 // The lowest literal of a class, if it holds one.
 pub enum Lowest {
     Literal(usize),
     Nothing,
 }
+
+// ---- nodes
+
+// The even nodes are the variables, the odd ones the literals.
+fn variable_node(x: usize) -> usize
+    requires { ⌜ x < variableLimit ⌝ }
+    ensures { λ r. ⌜ r ≡ varNode x ⌝ }
+{
+    2 * x
+}
+
+fn literal_node(l: usize) -> usize
+    requires { ⌜ l < variableLimit ⌝ }
+    ensures { λ r. ⌜ r ≡ litNode l ⌝ }
+{
+    2 * l + 1
+}
+
+// ---- labels
 
 // Every node is in a class of its own.
 fn first_labels() -> [u8; NODE_COUNT]
@@ -99,21 +125,21 @@ fn merge(labels: [u8; NODE_COUNT], i: usize, j: usize) -> [u8; NODE_COUNT]
     relabel(old, new, labels)
 }
 
-// The labels once the fact of a row stands: variable ≈ variable has tag 3, variable ≈ literal tag 5.
+// The labels once the fact of a row stands: variable ≈ variable and variable ≈ literal join two nodes.
 fn merge_row(row: &[i64], labels: [u8; NODE_COUNT]) -> [u8; NODE_COUNT]
     requires { ⌜ length (now row) ≡ rowLength ⌝ }
     ensures { λ r. ⌜ r ≡ mergeFact labels (factOf (now (row .entry))) ⌝ }
 {
     let tag = tag_of(row);
-    if tag == 3 {
-        let a = operand(row, 1);
-        let b = operand(row, 2);
-        return merge(labels, 2 * a, 2 * b);
+    if tag == TAG_SAME {
+        let a = variable_at(row, FIRST);
+        let b = variable_at(row, SECOND);
+        return merge(labels, variable_node(a), variable_node(b));
     }
-    if tag == 5 {
-        let a = operand(row, 1);
-        let b = operand(row, 2);
-        return merge(labels, 2 * a, 2 * b + 1);
+    if tag == TAG_LITERAL {
+        let a = variable_at(row, FIRST);
+        let b = literal_at(row, SECOND);
+        return merge(labels, variable_node(a), literal_node(b));
     }
     labels
 }
@@ -133,14 +159,32 @@ pub fn labels(work: &[i64], count: usize) -> [u8; NODE_COUNT]
     out
 }
 
+// ---- classes
+
 // Are two nodes in one class?
-pub fn same_class(labels: [u8; NODE_COUNT], i: usize, j: usize) -> bool
+fn same_class(labels: [u8; NODE_COUNT], i: usize, j: usize) -> bool
     requires { ⌜ (i < nodeCount) × (j < nodeCount) ⌝ }
     ensures { λ r. ⌜ r ≡ sameClass labels i j ⌝ }
 {
     let a = labels[i];
     let b = labels[j];
     a == b
+}
+
+// Are two variables in one class?
+pub fn one_class(labels: [u8; NODE_COUNT], x: usize, y: usize) -> bool
+    requires { ⌜ (x < variableLimit) × (y < variableLimit) ⌝ }
+    ensures { λ r. ⌜ r ≡ sameClass labels (varNode x) (varNode y) ⌝ }
+{
+    same_class(labels, variable_node(x), variable_node(y))
+}
+
+// Does the class of variable x hold literal l?
+pub fn class_holds(labels: [u8; NODE_COUNT], x: usize, l: usize) -> bool
+    requires { ⌜ (x < variableLimit) × (l < variableLimit) ⌝ }
+    ensures { λ r. ⌜ r ≡ sameClass labels (varNode x) (litNode l) ⌝ }
+{
+    same_class(labels, variable_node(x), literal_node(l))
 }
 
 // The lowest of the first m literals in the class of variable x: "the lowest literal number counts".
@@ -151,7 +195,7 @@ pub fn class_literal(labels: [u8; NODE_COUNT], m: usize, x: usize) -> Lowest
     let mut l = 0;
     let mut left = m;
     while 0 < left {
-        if same_class(labels, 2 * x, 2 * l + 1) {
+        if class_holds(labels, x, l) {
             return Lowest::Literal(l);
         }
         l += 1;
@@ -168,7 +212,7 @@ pub fn lowest_variable(labels: [u8; NODE_COUNT], x: usize) -> usize
     let mut y = 0;
     let mut left = x;
     while 0 < left {
-        if same_class(labels, 2 * x, 2 * y) {
+        if one_class(labels, x, y) {
             return y;
         }
         y += 1;
@@ -184,7 +228,7 @@ fn literal_meets(labels: [u8; NODE_COUNT], i: usize) -> bool
 {
     let mut j = 0;
     while j < i {
-        if same_class(labels, 2 * i + 1, 2 * j + 1) {
+        if same_class(labels, literal_node(i), literal_node(j)) {
             return true;
         }
         j += 1;
@@ -207,15 +251,15 @@ fn literals_meet(labels: [u8; NODE_COUNT], m: usize) -> bool
     false
 }
 
-// Is a row a fact a ≉ b, with tag 4, with both sides in one class?
+// Is a row a fact a ≉ b with both sides in one class?
 fn row_sides_meet(row: &[i64], labels: [u8; NODE_COUNT]) -> bool
     requires { ⌜ length (now row) ≡ rowLength ⌝ }
     ensures { λ r. ⌜ r ≡ sidesMeet labels (factOf (now (row .entry)) ∷ []) ⌝ }
 {
-    if tag_of(row) == 4 {
-        let a = operand(row, 1);
-        let b = operand(row, 2);
-        return same_class(labels, 2 * a, 2 * b);
+    if tag_of(row) == TAG_NOT_SAME {
+        let a = variable_at(row, FIRST);
+        let b = variable_at(row, SECOND);
+        return one_class(labels, a, b);
     }
     false
 }

@@ -104,7 +104,7 @@ fn s_prop(
         return false;
     }
     let labels = classes::labels(work, count);
-    if !classes::same_class(labels, 2 * x, 2 * y) {
+    if !classes::one_class(labels, x, y) {
         return false;
     }
     rows::fill_difference(

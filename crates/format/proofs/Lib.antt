@@ -18,6 +18,7 @@ pub mod Strings
 pub mod Proper
 pub mod Judged
 pub mod Demands
+pub mod Buffers
 pub mod RecordFaults
 pub mod Pairs
 pub mod Sums

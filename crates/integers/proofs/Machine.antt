@@ -3,7 +3,7 @@ use Prim.Native.Nat.{ℕ, zero, suc, _-_, _/_, _^_, _≤_, _<_, _*_}
 use native.Mathlib.Omega.{arith}
 use native.Mathlib.Nat.{div-le-self, div-mul-le-self, mul-div-cancel-left, mul-pos}
 use mathlib.Core.Path.{_≡_, refl, sym, _∙_, ap, subst}
-use mathlib.Core.Bool.{Bool, true, false, not}
+use mathlib.Core.Bool.{Bool, true, false, not, true≢false}
 use lib.Dec.{T, leb→le, lt→ltb, nleb→lt}
 use lib.IntN.{ℤ, pos, negsuc, negℤ, natAbs, _-ℤ_, _*ℤ_, +ℤ-idl}
 use lib.Signed.{mag, _≤ℤ_, _<ℤ_, leZ, ltZ, quotZ, leZ-yes, ltZ-yes, ltZ-no}
@@ -11,7 +11,7 @@ use mir.Syntax.{Width, w32, w64}
 use mir.Val.{SFits, hbits, bits, toZ, ofZ}
 use mir.Facts.{toZ-ofZ}
 use mir.ValLaws.{sfits-le}
-use borrow.Author.Tests.{lt-ltb, le-ltb}
+use borrow.Author.Tests.{lt-ltb, le-ltb, ltb-true}
 use Rattle.integers.specs.Division.{floorDiv}
 use Rattle.integers.proofs.Ring.{v, _⊖_, ring, lt-up}
 use Rattle.integers.proofs.Laws.{abs-neg, sfits-abs}
@@ -130,3 +130,20 @@ quot-neg (suc t) n h = refl
 pub quot-multiple : (n : ℕ) (k : ℤ) → 1 ≤ n → quotZ (pos n *ℤ k) (pos n) ≡ k
 quot-multiple n (pos m) h = ap pos (mul-div-cancel-left m h)
 quot-multiple n (negsuc m) h = quot-neg (n * suc m) n (mul-pos h (omega arith)) ∙ ap (λ q. negℤ (pos q)) (mul-div-cancel-left (suc m) h)
+
+-- ---- a number past the test for a sign
+
+module _ (z : ℤ) (f : SFits w64 z) where
+  pub not-negative : ltZ (toZ w64 (ofZ w64 z)) (pos 0) ≡ false → (k : ℕ) × (k < 9223372036854775808) × (toZ w64 (ofZ w64 z) ≡ pos k) × (z ≡ pos k)
+  not-negative e = rw (toZ-ofZ f) (go z f (rw (toZ-ofZ f) at e))
+    where
+      go : (z : ℤ) → SFits w64 z → ltZ z (pos 0) ≡ false → (k : ℕ) × (k < 9223372036854775808) × (z ≡ pos k) × (z ≡ pos k)
+      go (pos k) f h = (k, omega (arith, f .sfits), refl, refl)
+      go (negsuc k) f h = absurd (true≢false h)
+
+  pub negative : ltZ (toZ w64 (ofZ w64 z)) (pos 0) ≡ true → (k : ℕ) × (k < 9223372036854775808) × (toZ w64 (ofZ w64 z) ≡ negsuc k) × (z ≡ negsuc k)
+  negative e = rw (toZ-ofZ f) (go z f (rw (toZ-ofZ f) at e))
+    where
+      go : (z : ℤ) → SFits w64 z → ltZ z (pos 0) ≡ true → (k : ℕ) × (k < 9223372036854775808) × (z ≡ negsuc k) × (z ≡ negsuc k)
+      go (pos k) f h = absurd (let l : k < 0 = ltb-true k 0 h in omega arith)
+      go (negsuc k) f h = (k, omega (arith, f .sfits), refl, refl)

@@ -18,8 +18,8 @@ use Rattle.format.proofs.RecordFaults.{string-constraint-formed, ArithmeticCons
 use Rattle.question.specs.declared.Progress.{Progress}
 use Rattle.question.specs.Standing.{ConstraintAt}
 use Rattle.question.specs.Posed.{asked}
-use Rattle.answer.specs.Form.{columnsAt}
-use Rattle.answer.proofs.Columns.{length-columns}
+use Rattle.assignment.specs.Form.{columnsAt}
+use Rattle.assignment.proofs.Columns.{length-columns}
 use Rattle.judging.specs.Ready.{valuesOf, FormIn, Judgeable}
 
 -- the columns of the answer are the values that were found

@@ -12,7 +12,8 @@ use Rattle.format.specs.Answer.{answerForm, assignmentOf}
 use Rattle.question.specs.declared.Progress.{Progress}
 use Rattle.question.specs.Posed.{asked, Posed}
 use Rattle.rows.specs.Work.{Within}
-use Rattle.answer.specs.Form.{Placed, columnsAt}
+use Rattle.records.specs.Placed.{Placed}
+use Rattle.assignment.specs.Form.{columnsAt}
 
 -- the answer's strings and integers
 abbrev pub valuesOf : List ℕ → List ℕ → Progress → Assignment

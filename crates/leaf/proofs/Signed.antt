@@ -1,12 +1,11 @@
 -- What the machine tells of signed numbers.
 use mathlib.Core.Path.{_≡_, refl, sym, _∙_, ap, ap₂}
-use mathlib.Core.Bool.{Bool, true, false, true≢false}
-use Prim.Native.Nat.{ℕ, suc, _-_, _^_, _<_}
+use mathlib.Core.Bool.{Bool, true, false}
+use Prim.Native.Nat.{ℕ, suc, _-_, _^_}
 use native.Mathlib.Omega.{arith}
-use borrow.Author.Tests.{ltb-true, eqb-true, eqb-false, eq-eqb, ne-eqb}
+use borrow.Author.Tests.{eqb-true, eqb-false, eq-eqb, ne-eqb}
 use lib.Dec.{eqb}
 use lib.IntN.{ℤ, pos, negsuc, _-ℤ_}
-use lib.Signed.{ltZ}
 use mir.Syntax.{w64}
 use mir.Val.{SFits, toZ, ofZ}
 use mir.Facts.{toZ-ofZ}
@@ -28,23 +27,7 @@ bits-equal (negsuc m) (negsuc n) f g = go (eqb m n) refl
 pub equal-read : (r : Bool) (a b : ℤ) → SFits w64 a → SFits w64 b → r ≡ eqℤ (toZ w64 (ofZ w64 a)) (toZ w64 (ofZ w64 b)) → r ≡ eqℤ a b
 equal-read r a b f g h = h ∙ ap₂ eqℤ (toZ-ofZ f) (toZ-ofZ g)
 
--- ---- a number past the test for a sign
-
 module _ (z : ℤ) (f : SFits w64 z) where
-  pub not-negative : ltZ (toZ w64 (ofZ w64 z)) (pos 0) ≡ false → (k : ℕ) × (k < 9223372036854775808) × (toZ w64 (ofZ w64 z) ≡ pos k) × (z ≡ pos k)
-  not-negative e = rw (toZ-ofZ f) (go z f (rw (toZ-ofZ f) at e))
-    where
-      go : (z : ℤ) → SFits w64 z → ltZ z (pos 0) ≡ false → (k : ℕ) × (k < 9223372036854775808) × (z ≡ pos k) × (z ≡ pos k)
-      go (pos k) f h = (k, omega (arith, f .sfits), refl, refl)
-      go (negsuc k) f h = absurd (true≢false h)
-
-  pub negative : ltZ (toZ w64 (ofZ w64 z)) (pos 0) ≡ true → (k : ℕ) × (k < 9223372036854775808) × (toZ w64 (ofZ w64 z) ≡ negsuc k) × (z ≡ negsuc k)
-  negative e = rw (toZ-ofZ f) (go z f (rw (toZ-ofZ f) at e))
-    where
-      go : (z : ℤ) → SFits w64 z → ltZ z (pos 0) ≡ true → (k : ℕ) × (k < 9223372036854775808) × (z ≡ negsuc k) × (z ≡ negsuc k)
-      go (pos k) f h = absurd (let l : k < 0 = ltb-true k 0 h in omega arith)
-      go (negsuc k) f h = (k, omega (arith, f .sfits), refl, refl)
-
   -- −1−z of a negative number
   pub rest-fits : SFits w64 (negsuc 0 -ℤ toZ w64 (ofZ w64 z))
   rest-fits = rw (toZ-ofZ f) (flip-fits z f)

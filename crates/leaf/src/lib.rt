@@ -22,9 +22,14 @@ ghost use Rattle.question.specs.Posed.{asked, numbered, Posed};
 ghost use Rattle.leaf.specs.Leaf.{Modelled, LeafReady};
 ghost use Rattle.leaf.specs.Values.{textFits, literalFits, lValidFits, codeFits, roomy, varFits, pairBy, pairFits, byValues};
 use classes::Lowest;
+use encoding::CODE;
+use encoding::LEN;
 use limits::LENGTH_LIMIT;
 use limits::NODE_COUNT;
 use question::Progress;
+
+// The empty literal.
+const EMPTY: usize = 0;
 
 // ---- numbers
 
@@ -47,7 +52,7 @@ pub fn magnitude(z: i64) -> usize
 
 // ---- the model's values
 
-// The model's value of a function (0 len, 1 code) of variable x.
+// The model's value of a function, LEN or CODE, of variable x.
 pub fn value_of(model: &[i64], s: Progress, function: usize, x: usize) -> i64
     requires { ⌜ Modelled (now model) s × (x < s .p) ⌝ }
     ensures { λ r. ⌜ r ≡ modelValue (numbered s) (now (model .entry)) (functionOf function) x ⌝ }
@@ -98,7 +103,7 @@ fn length_fits(labels: [u8; NODE_COUNT], x: usize, len: i64) -> bool
     requires { ⌜ x < variableLimit ⌝ }
     ensures { λ r. ⌜ r ≡ lValidFits labels x len ⌝ }
 {
-    if classes::same_class(labels, 2 * x, 1) {
+    if classes::class_holds(labels, x, EMPTY) {
         return true;
     }
     len > 0
@@ -144,7 +149,7 @@ fn classes_of(model: &[i64], s: Progress, labels: [u8; NODE_COUNT], wanted: i64)
     let mut count = 0;
     let mut y = 0;
     while y < s.p {
-        let len = value_of(model, s, 0, y);
+        let len = value_of(model, s, LEN, y);
         let one = tally(labels, y, len, wanted);
         count += one;
         y += 1;
@@ -169,7 +174,7 @@ fn card_fits(model: &[i64], s: Progress, labels: [u8; NODE_COUNT], x: usize) -> 
     requires { ⌜ Modelled (now model) s × (s .n ≤ alphabetLimit) × (x < s .p) ⌝ }
     ensures { λ r. ⌜ r ≡ saturatedCard (numbered s) labels (now (model .entry)) x ⌝ }
 {
-    let len = value_of(model, s, 0, x);
+    let len = value_of(model, s, LEN, x);
     let size = magnitude(len);
     if has_room(s.n, s.p, size) {
         return true;
@@ -186,8 +191,8 @@ fn var_fits(ticket: &[u8], model: &[i64], s: Progress, labels: [u8; NODE_COUNT],
     requires { ⌜ LeafReady (now ticket) (now model) s × (x < s .p) ⌝ }
     ensures { λ r. ⌜ r ≡ varFits (asked (now (ticket .entry)) s) labels (now (model .entry)) x ⌝ }
 {
-    let len = value_of(model, s, 0, x);
-    let code = value_of(model, s, 1, x);
+    let len = value_of(model, s, LEN, x);
+    let code = value_of(model, s, CODE, x);
     if !literal_fits(ticket, s, labels, x, len, code) {
         return false;
     }
@@ -222,11 +227,11 @@ fn pair_fits(model: &[i64], s: Progress, labels: [u8; NODE_COUNT], x: usize, y: 
     requires { ⌜ Modelled (now model) s × (x < s .p) × (y < s .p) ⌝ }
     ensures { λ r. ⌜ r ≡ pairFits (numbered s) labels (now (model .entry)) x y ⌝ }
 {
-    let same = classes::same_class(labels, 2 * x, 2 * y);
-    let z = value_of(model, s, 0, x);
-    let w = value_of(model, s, 0, y);
-    let c = value_of(model, s, 1, x);
-    let d = value_of(model, s, 1, y);
+    let same = classes::one_class(labels, x, y);
+    let z = value_of(model, s, LEN, x);
+    let w = value_of(model, s, LEN, y);
+    let c = value_of(model, s, CODE, x);
+    let d = value_of(model, s, CODE, y);
     pair_by(same, z, w, c, d)
 }
 
@@ -298,7 +303,7 @@ pub fn short_lengths(model: &[i64], s: Progress) -> bool
 {
     let mut x = 0;
     while x < s.p {
-        let len = value_of(model, s, 0, x);
+        let len = value_of(model, s, LEN, x);
         if magnitude(len) > LENGTH_LIMIT {
             return false;
         }

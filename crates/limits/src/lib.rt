@@ -20,8 +20,8 @@ pub const VARIABLE_LIMIT: usize = 16;
 // "0 to 15 of them"
 pub const LITERAL_LIMIT: usize = 15;
 
-// The largest number of a variable, and of a literal.
-pub const INDEX_MAX: i64 = 15;
+// Literal 0, the empty one, included.
+pub const LITERAL_NUMBERS: usize = LITERAL_LIMIT + 1;
 
 // A node for each variable and for each literal, the empty one included.
 pub const NODE_COUNT: usize = 2 * VARIABLE_LIMIT;

@@ -10,6 +10,8 @@ ghost use Rattle.lines.specs.Reports.{linesBy, Reports};
 ghost use Rattle.lines.specs.Put.{Put};
 use checking::Outcome;
 use checking::check_ticket;
+use encoding::KIND_VALUE;
+use encoding::RECORD_HEAD;
 use limits::ANSWER_BYTES;
 use limits::REPORT_BYTES;
 use limits::WORK_NUMBERS;
@@ -198,11 +200,11 @@ fn put_records(out: &mut [u8], at: usize, answer: &[u8]) -> usize
         let Found::Whole(kind, size) = read_at(answer, j) else {
             return put_text(out, i, b"end\n");
         };
-        if kind != 9 {
-            return put_tail(out, i, answer, j + 6, size / 4);
+        if kind != KIND_VALUE {
+            return put_tail(out, i, answer, j + RECORD_HEAD, size / 4);
         }
-        i = put_string(out, i, variable, answer, j + 6, size / 4);
-        j = j + 6 + size;
+        i = put_string(out, i, variable, answer, j + RECORD_HEAD, size / 4);
+        j = j + RECORD_HEAD + size;
         variable += 1;
     }
 }

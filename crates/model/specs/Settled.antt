@@ -9,7 +9,8 @@ use Rattle.calculus.specs.Limits.{columnLimit, valueLimit}
 use Rattle.calculus.specs.LinearForms.{zeros}
 use Rattle.calculus.specs.Facts.{Branch, columnCount}
 use Rattle.calculus.specs.Classes.{labels}
-use Rattle.format.specs.Checking.{shortLengths}
+use Rattle.format.specs.Reading.{modelAt, modelFault}
+use Rattle.format.specs.Checking.{leafFault, shortLengths}
 use Rattle.rows.specs.Work.{Within}
 use Rattle.question.specs.declared.Progress.{Progress}
 use Rattle.question.specs.Posed.{asked, numbered}
@@ -19,6 +20,13 @@ use Rattle.model.specs.declared.Settled.{Settled}
 -- the numbers of the question's columns
 abbrev pub values : Progress → List ℤ → List ℤ
 values s m = take (columnCount (numbered s)) m
+
+-- the model with its record's body at a position, and the first number that applies there on the branch br
+abbrev pub modelOf : List ℕ → Progress → ℕ → List ℤ
+modelOf b s at = modelAt b (asked b s) at
+
+abbrev pub faultOf : List ℕ → Progress → Branch → ℕ → ℕ → ℕ
+faultOf b s br at size = modelFault b (asked b s) (leafFault (asked b s) br (modelOf b s at)) at size
 
 -- 48 small numbers: those of the question's columns, then zeros
 pub record Filled (m : List ℤ) (s : Progress) : Type 0 where

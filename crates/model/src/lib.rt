@@ -2,7 +2,7 @@
 ghost use mathlib.Core.Path.{_≡_};
 ghost use mathlib.Core.List.{List, _++_};
 ghost use Prim.Native.Nat.{_+_, _*_, _-_, _≤_};
-ghost use lib.ListN.{length, drop};
+ghost use lib.ListN.{length};
 ghost use lib.IntN.{ℤ};
 ghost use Rattle.calculus.specs.Limits.{columnLimit, answerBytes};
 ghost use Rattle.calculus.specs.LinearForms.{zeros};
@@ -10,13 +10,12 @@ ghost use Rattle.calculus.specs.Facts.{Branch};
 ghost use Rattle.calculus.specs.Classes as calculus;
 ghost use Rattle.format.specs.Fields.{i32s};
 ghost use Rattle.format.specs.Answer.{encode};
-ghost use Rattle.format.specs.Reading.{modelAt, modelFault};
-ghost use Rattle.format.specs.Checking.{leafFault, answerOf};
+ghost use Rattle.format.specs.Checking.{Strings, leafFault, answerOf};
+ghost use Rattle.format.specs.Demands.{answerAfter};
 ghost use Rattle.rows.specs.Rows.{branchOf};
 ghost use Rattle.rows.specs.Work.{Fine};
 ghost use Rattle.question.specs.Posed.{asked, Posed};
-ghost use Rattle.model.specs.Settled.{values, Filled, Writable, Answers};
-use answer::integers_within;
+ghost use Rattle.model.specs.Settled.{values, modelOf, faultOf, Filled, Writable, Answers};
 use answer::write_answer;
 use limits::COLUMN_LIMIT;
 use limits::LENGTH_LIMIT;
@@ -24,6 +23,7 @@ use limits::NODE_COUNT;
 use limits::VARIABLE_LIMIT;
 use question::Progress;
 use records::i32_at;
+use records::integers_within;
 use strings::give_strings;
 
 // The table of strings: a row for each string variable that there may be.
@@ -88,9 +88,8 @@ pub fn settle(
     count: usize,
 ) -> Settled
     requires { ⌜ Posed (now ticket) s × (at + size ≤ length (now ticket)) × Fine (now work) count ⌝ }
-    ensures fault { λ r. ⌜ r .fault ≡ modelFault (now (ticket .entry)) (asked (now (ticket .entry)) s)
-        (leafFault (asked (now (ticket .entry)) s) (branchOf (now (work .entry)) count) (modelAt (now (ticket .entry)) (asked (now (ticket .entry)) s) at)) at size ⌝ }
-    ensures settled { λ r. ⌜ (r .fault ≡ 0 → Answers (now (ticket .entry)) s (branchOf (now (work .entry)) count) (modelAt (now (ticket .entry)) (asked (now (ticket .entry)) s) at) r) ⌝ }
+    ensures fault { λ r. ⌜ r .fault ≡ faultOf (now (ticket .entry)) s (branchOf (now (work .entry)) count) at size ⌝ }
+    ensures settled { λ r. ⌜ (r .fault ≡ 0 → Answers (now (ticket .entry)) s (branchOf (now (work .entry)) count) (modelOf (now (ticket .entry)) s at) r) ⌝ }
 {
     let labels = classes::labels(work, count);
     let columns = s.q + (s.p + s.p);
@@ -122,7 +121,7 @@ pub fn settle(
 pub fn write(ticket: &[u8], s: Progress, settled: Settled, answer: &mut [u8])
     requires { ⌜ Writable (now ticket) s settled × (answerBytes ≤ length (now answer)) ⌝ }
     ensures { λ _. ⌜ ((br : Branch) (m : List ℤ) → Answers (now (ticket .entry)) s br m settled
-        → now (answer .exit) ≡ encode (answerOf (asked (now (ticket .entry)) s) br m) ++ drop (length (encode (answerOf (asked (now (ticket .entry)) s) br m))) (now (answer .entry))) ⌝ }
+        → now (answer .exit) ≡ answerAfter (Strings (encode (answerOf (asked (now (ticket .entry)) s) br m))) (now (answer .entry))) ⌝ }
 {
     let labels = settled.labels;
     let model = settled.model;

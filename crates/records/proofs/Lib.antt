@@ -1,2 +1,4 @@
 pub mod Signed
 pub mod Finding
+pub mod Fields
+pub mod Placing

@@ -1,10 +1,16 @@
 // The bytes of a ticket or an answer: little-endian fields, and the record at a position.
 ghost use mathlib.Core.Path.{_≡_};
-ghost use Prim.Native.Nat.{_+_, _<_, _≤_};
+ghost use Prim.Native.Nat.{_+_, _*_, _<_, _≤_};
 ghost use lib.ListN.{length};
 ghost use lib.IntN.{natAbs};
-ghost use Rattle.format.specs.Fields.{u16, u32, i32, signed, within};
+ghost use Rattle.calculus.specs.Limits.{variableLimit, valueLimit};
+ghost use Rattle.format.specs.Fields.{u16, u32, i32, i32s, signed, within, allWithin};
+ghost use Rattle.format.specs.Places.{skip};
 ghost use Rattle.records.specs.Found.{foundAt};
+ghost use Rattle.records.specs.Placed.{Placed};
+use encoding::RECORD_HEAD;
+use limits::VALUE_LIMIT;
+use limits::VARIABLE_LIMIT;
 
 // ---- "Fields are little-endian"
 
@@ -59,6 +65,23 @@ pub fn bits_within(v: usize, limit: usize) -> bool
     }
 }
 
+// Whether the count integers from a position lie within ±100,000,000: those of an answer, and the values of a model.
+pub fn integers_within(v: &[u8], at: usize, count: usize) -> bool
+    requires { ⌜ at + 4 * count ≤ length (now v) ⌝ }
+    ensures { λ r. ⌜ r ≡ allWithin valueLimit (i32s (now (v .entry)) at count) ⌝ }
+{
+    let mut i = at;
+    let mut left = count;
+    while 0 < left {
+        if !bits_within(u32_at(v, i), VALUE_LIMIT) {
+            return false;
+        }
+        i += 4;
+        left -= 1;
+    }
+    true
+}
+
 // ---- "A record is a u32 body length, a u16 kind, a body"
 
 // What stands at a position.
@@ -74,15 +97,15 @@ pub enum Found {
 pub fn record_at(b: &[u8], at: usize) -> Found
     ensures { λ r. ⌜ r ≡ foundAt (now (b .entry)) at ⌝ }
 {
-    if b.len() < 6 {
+    if b.len() < RECORD_HEAD {
         return Found::Nothing;
     }
-    if b.len() - 6 < at {
+    if b.len() - RECORD_HEAD < at {
         return Found::Nothing;
     }
     let size = u32_at(b, at);
     let kind = u16_at(b, at + 4);
-    if b.len() - at - 6 < size {
+    if b.len() - at - RECORD_HEAD < size {
         Found::Cut(kind)
     } else {
         Found::Whole(kind, size)
@@ -113,4 +136,21 @@ pub fn read_at(b: &[u8], at: usize) -> Found
     ensures { λ x. ⌜ x ≡ foundAt (now (b .entry)) at ⌝ }
 {
     next_record(reader_at(b, at))
+}
+
+// The positions of count records from a position on, and of what stands behind them.
+pub fn record_places(b: &[u8], from: usize, count: usize) -> [usize; VARIABLE_LIMIT + 1]
+    requires { ⌜ (count ≤ variableLimit) × (skip (now b) count from ≤ length (now b)) ⌝ }
+    ensures { λ r. ⌜ Placed (now (b .entry)) from count r ⌝ }
+{
+    let mut places = [0usize; VARIABLE_LIMIT + 1];
+    let mut at = from;
+    let mut x = 0;
+    while x < count {
+        places[x] = at;
+        at = at + RECORD_HEAD + u32_at(b, at);
+        x += 1;
+    }
+    places[x] = at;
+    places
 }

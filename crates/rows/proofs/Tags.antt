@@ -2,15 +2,16 @@
 use Prim.Native.Nat.{ℕ, zero, suc, _+_, _-_, _≤_, _<_}
 use native.Mathlib.Omega.{arith}
 use mathlib.Core.Path.{_≡_, refl, sym, _∙_, ap, ap₂, subst}
-use mathlib.Core.Bool.{cond, false, true, true≢false}
+use mathlib.Core.Bool.{Bool, true, false, cond}
 use mathlib.Core.List.{List, _∷_}
-use borrow.Author.Tests.{le-ltb, lt-ltb, ltb-false, ltb-true}
+use borrow.Author.Tests.{lt-ltb, ltb-true}
 use lib.ListN.{getD, drop}
+use lib.Dec.{ltb}
 use lib.IntN.{ℤ, pos, negsuc}
-use lib.Signed.{ltZ}
 use mir.Syntax.{w64}
 use mir.Val.{SFits, toZ, ofZ}
 use mir.Facts.{toZ-ofZ, toZ-pos}
+use Rattle.calculus.specs.Limits.{variableLimit}
 use Rattle.calculus.specs.Facts.{same, notSame, isLiteral, arithmetic}
 use Rattle.format.specs.Question.{stringFact, relationOf}
 use Rattle.rows.specs.Rows.{index, tagged, factOf}
@@ -116,25 +117,10 @@ row-string row k e h =
 
 -- ---- a row's number as an index
 
-module _ (z : ℤ) (f : SFits w64 z) where
-  pub index-negative : ltZ (toZ w64 (ofZ w64 z)) (pos 0) ≡ true → index z ≡ 0
-  index-negative e = go z (rw (toZ-ofZ f) at e)
-    where
-      go : (z : ℤ) → ltZ z (pos 0) ≡ true → index z ≡ 0
-      go (pos n) h = absurd (let k : n < 0 = ltb-true n 0 h in omega arith)
-      go (negsuc n) h = refl
-
-  pub index-high : ltZ (pos 15) (toZ w64 (ofZ w64 z)) ≡ true → index z ≡ 0
-  index-high e = go z (rw (toZ-ofZ f) at e)
-    where
-      go : (z : ℤ) → ltZ (pos 15) z ≡ true → index z ≡ 0
-      go (pos n) h = rw (le-ltb n 16 (let k : 15 < n = ltb-true 15 n h in omega arith))
-      go (negsuc n) h = refl
-
-  pub index-within : ltZ (toZ w64 (ofZ w64 z)) (pos 0) ≡ false → ltZ (pos 15) (toZ w64 (ofZ w64 z)) ≡ false
-      → (n : ℕ) × (n < 16) × (toZ w64 (ofZ w64 z) ≡ pos n) × (index z ≡ n)
-  index-within e g = rw (toZ-ofZ f) (go z (rw (toZ-ofZ f) at e) (rw (toZ-ofZ f) at g))
-    where
-      go : (z : ℤ) → ltZ z (pos 0) ≡ false → ltZ (pos 15) z ≡ false → (n : ℕ) × (n < 16) × (z ≡ pos n) × (index z ≡ n)
-      go (pos n) h k = let l : n < 16 = (let m : n ≤ 15 = ltb-false 15 n k in omega arith) in (n, l, refl, rw (lt-ltb n 16 l))
-      go (negsuc n) h k = absurd (true≢false h)
+pub index-low : (z : ℤ) → index z < variableLimit
+index-low (pos k) = go (ltb k variableLimit) refl
+  where
+    go : (t : Bool) → ltb k variableLimit ≡ t → cond t k 0 < variableLimit
+    go true e = ltb-true k variableLimit e
+    go false e = omega arith
+index-low (negsuc k) = omega arith

@@ -1,6 +1,7 @@
 -- A fact as a row of 50 numbers: "Each fact's row is filled in its own stretch of the work area".
 use mathlib.Core.Bool.{cond}
-use mathlib.Core.List.{List}
+use mathlib.Core.Path.{_≡_}
+use mathlib.Core.List.{List, [], _∷_, _++_}
 use Prim.Native.Nat.{ℕ, zero, suc, _+_, _*_}
 use lib.ListN.{getD, take, drop}
 use lib.Dec.{ltb}
@@ -13,10 +14,14 @@ use Rattle.calculus.specs.Facts.{Fact, Branch, same, notSame, isLiteral, arithm
 abbrev pub rowLength : ℕ
 rowLength = columnLimit + 2
 
--- a number as that of a variable or a literal, and 0 for any other
+-- a number below a limit, and 0 for any other
+abbrev pub indexBelow : ℕ → ℤ → ℕ
+indexBelow limit (pos k) = cond (ltb k limit) k 0
+indexBelow limit (negsuc k) = 0
+
+-- a number as that of a variable or a literal: there are as many literals, the empty one included, as variables
 abbrev pub index : ℤ → ℕ
-index (pos k) = cond (ltb k variableLimit) k 0
-index (negsuc k) = 0
+index z = indexBelow variableLimit z
 
 -- what a row says by its tag: 0 is ≥, 1 is =, 3 is variable ≈ variable, 4 is ≉, 5 is variable ≈ literal, any other is ≠.
 -- Of an arithmetic fact the form e stands behind the tag; of a string fact the operands a and b.
@@ -40,3 +45,7 @@ rowAt w k = take rowLength (drop (rowLength * k) w)
 -- the first k rows, as facts
 unfoldable pub branchOf : List ℤ → ℕ → Branch
 branchOf w k = upTo (λ j. factOf (rowAt w j)) k
+
+-- the fact f was put behind the first k facts
+abbrev pub Behind : List ℤ → ℕ → Fact → List ℤ → Type 0
+Behind w k f w' = branchOf w' (k + 1) ≡ branchOf w k ++ (f ∷ [])

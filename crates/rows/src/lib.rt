@@ -2,7 +2,7 @@
 ghost use mathlib.Core.Path.{_≡_};
 ghost use mathlib.Core.Logic.{_≢_};
 ghost use mathlib.Core.Bool.{true};
-ghost use mathlib.Core.List.{[], _∷_, _++_};
+ghost use mathlib.Core.List.{_∷_};
 ghost use Prim.Native.Nat.{_+_, _*_, _≤_, _<_};
 ghost use lib.ListN.{length, getD, drop};
 ghost use lib.IntN.{pos, negsuc};
@@ -14,13 +14,50 @@ ghost use Rattle.calculus.specs.Rules.{isFalse, joinOf, statesZero, statesEqual
 ghost use Rattle.format.specs.Fields.{within, allWithin};
 ghost use Rattle.format.specs.Question.{stringFact, relationOf};
 ghost use Rattle.format.specs.Checking.{fits, factWithin, keepsFact, keeps};
-ghost use Rattle.rows.specs.Rows.{rowLength, index, factOf, rowAt, branchOf};
+ghost use Rattle.rows.specs.Rows.{rowLength, index, indexBelow, factOf, rowAt, branchOf, Behind};
 ghost use Rattle.rows.specs.Work.{tagOf, Fine, Within, single, difference};
+use encoding::EQ;
+use encoding::GE;
+use encoding::IS_LITERAL;
+use encoding::NE;
+use encoding::NOT_SAME;
 use limits::COLUMN_LIMIT;
-use limits::INDEX_MAX;
+use limits::LITERAL_NUMBERS;
 use limits::NUMBER_MAX;
 use limits::NUMBER_MIN;
 use limits::ROW_LENGTH;
+use limits::VARIABLE_LIMIT;
+
+// ---- the places in a row
+
+// What the row says.
+const TAG: usize = 0;
+
+// Of an arithmetic fact: the constant of its form, and the coefficient of column 0, with the other columns behind it.
+pub const CONSTANT: usize = 1;
+
+pub const COEFFICIENTS: usize = 2;
+
+// Of a string fact: its operands, the first a variable, the second a variable or a literal.
+pub const FIRST: usize = 1;
+
+pub const SECOND: usize = 2;
+
+// ---- the tags
+
+// Of arithmetic facts: the relation by its number.
+pub const TAG_GE: usize = GE;
+
+pub const TAG_EQ: usize = EQ;
+
+pub const TAG_NE: usize = NE;
+
+// Of string facts: variable ≈ variable, ≉, variable ≈ literal. The relation's number is the tag less TAG_SAME.
+pub const TAG_SAME: usize = 3;
+
+pub const TAG_NOT_SAME: usize = TAG_SAME + NOT_SAME;
+
+pub const TAG_LITERAL: usize = TAG_SAME + IS_LITERAL;
 
 // ---- rows in the work area
 
@@ -50,51 +87,67 @@ fn fill_row(out: &mut [i64], row: &[i64])
 // Row k becomes the given one, behind the facts before it.
 pub fn put_row(work: &mut [i64], k: usize, row: &[i64])
     requires { ⌜ (k < factLimit) × (workNumbers ≤ length (now work)) × (length (now row) ≡ rowLength) ⌝ }
-    ensures { λ _. ⌜ branchOf (now (work .exit)) (k + 1) ≡ branchOf (now (work .entry)) k ++ (factOf (now (row .entry)) ∷ []) ⌝ }
+    ensures { λ _. ⌜ Behind (now (work .entry)) k (factOf (now (row .entry))) (now (work .exit)) ⌝ }
 {
     let from = ROW_LENGTH * k;
     let to = from + ROW_LENGTH;
     fill_row(&mut work[from..to], row);
 }
 
-// What a row says by its tag: 0 is ≥, 1 is =, 2 is ≠, 3 is variable ≈ variable, 4 is ≉, 5 is variable ≈ literal.
+// The tag that counts: any number that is no tag counts as that of ≠.
 pub fn tag_of(row: &[i64]) -> usize
     requires { ⌜ length (now row) ≡ rowLength ⌝ }
     ensures { λ r. ⌜ r ≡ tagOf (factOf (now (row .entry))) ⌝ }
 {
-    let tag = row[0];
-    if tag == 0 {
-        return 0;
+    let tag = row[TAG];
+    if tag == TAG_GE as i64 {
+        return TAG_GE;
     }
-    if tag == 1 {
-        return 1;
+    if tag == TAG_EQ as i64 {
+        return TAG_EQ;
     }
-    if tag == 3 {
-        return 3;
+    if tag == TAG_SAME as i64 {
+        return TAG_SAME;
     }
-    if tag == 4 {
-        return 4;
+    if tag == TAG_NOT_SAME as i64 {
+        return TAG_NOT_SAME;
     }
-    if tag == 5 {
-        return 5;
+    if tag == TAG_LITERAL as i64 {
+        return TAG_LITERAL;
     }
-    2
+    TAG_NE
 }
 
-// An operand of a string fact's row, in number 1 or 2: the number of a variable or a literal.
-pub fn operand(row: &[i64], j: usize) -> usize
-    requires { ⌜ j < length (now row) ⌝ }
-    ensures { λ r. ⌜ r ≡ index (getD (now (row .entry)) j (pos 0)) ⌝ }
-    ensures { λ r. ⌜ r < variableLimit ⌝ }
+// A number below the limit, and 0 for any other.
+fn index_below(z: i64, limit: usize) -> usize
+    ensures { λ r. ⌜ r ≡ indexBelow limit z ⌝ }
 {
-    let z = row[j];
     if z < 0 {
         return 0;
     }
-    if z > INDEX_MAX {
-        return 0;
+    let k = z as usize;
+    if k < limit {
+        return k;
     }
-    z as usize
+    0
+}
+
+// The number of the variable in a string fact's row, at place FIRST or SECOND.
+pub fn variable_at(row: &[i64], place: usize) -> usize
+    requires { ⌜ place < length (now row) ⌝ }
+    ensures { λ r. ⌜ r ≡ index (getD (now (row .entry)) place (pos 0)) ⌝ }
+    ensures { λ r. ⌜ r < variableLimit ⌝ }
+{
+    index_below(row[place], VARIABLE_LIMIT)
+}
+
+// The number of the literal in the row of variable ≈ literal, at place SECOND.
+pub fn literal_at(row: &[i64], place: usize) -> usize
+    requires { ⌜ place < length (now row) ⌝ }
+    ensures { λ r. ⌜ r ≡ index (getD (now (row .entry)) place (pos 0)) ⌝ }
+    ensures { λ r. ⌜ r < variableLimit ⌝ }
+{
+    index_below(row[place], LITERAL_NUMBERS)
 }
 
 // ---- new rows, each in a stretch of 50 numbers with any contents
@@ -111,28 +164,28 @@ pub fn clear_row(row: &mut [i64])
     }
 }
 
-// A string fact: relation 0 is variable ≈ variable, 1 is ≉, 2 is variable ≈ literal.
+// A string fact by its relation's number.
 fn fill_string(row: &mut [i64], relation: usize, a: usize, b: usize)
     requires { ⌜ length (now row) ≡ rowLength ⌝ }
     requires { ⌜ (relation ≤ 2) × (a < variableLimit) × (b < variableLimit) ⌝ }
     ensures { λ _. ⌜ factOf (now (row .exit)) ≡ stringFact relation a b ⌝ }
 {
     clear_row(row);
-    row[0] = (relation + 3) as i64;
-    row[1] = a as i64;
-    row[2] = b as i64;
+    row[TAG] = (relation + TAG_SAME) as i64;
+    row[FIRST] = a as i64;
+    row[SECOND] = b as i64;
 }
 
-// A constant and one coefficient related to 0: relation 0 is ≥, 1 is =, 2 is ≠.
+// A constant and one coefficient related to 0 by the relation's number.
 pub fn fill_single(row: &mut [i64], relation: usize, constant: i64, column: usize, coefficient: i64)
     requires { ⌜ length (now row) ≡ rowLength ⌝ }
     requires { ⌜ (relation ≤ 2) × (column < columnLimit) ⌝ }
     ensures { λ _. ⌜ factOf (now (row .exit)) ≡ arithmetic (relationOf relation) (single constant column coefficient) ⌝ }
 {
     clear_row(row);
-    row[0] = relation as i64;
-    row[1] = constant;
-    row[column + 2] = coefficient;
+    row[TAG] = relation as i64;
+    row[CONSTANT] = constant;
+    row[column + COEFFICIENTS] = coefficient;
 }
 
 // The difference of two columns related to 0.
@@ -142,9 +195,9 @@ pub fn fill_difference(row: &mut [i64], relation: usize, i: usize, j: usize)
     ensures { λ _. ⌜ factOf (now (row .exit)) ≡ arithmetic (relationOf relation) (difference i j) ⌝ }
 {
     clear_row(row);
-    row[0] = relation as i64;
-    row[i + 2] = 1;
-    row[j + 2] = -1;
+    row[TAG] = relation as i64;
+    row[i + COEFFICIENTS] = 1;
+    row[j + COEFFICIENTS] = -1;
 }
 
 // e − 1 ≥ 0, of the row of e.
@@ -154,19 +207,19 @@ pub fn fill_above(out: &mut [i64], row: &[i64])
     ensures { λ _. ⌜ factOf (now (out .exit)) ≡ arithmetic ge (above (drop 1 (now (row .entry)))) ⌝ }
 {
     fill_row(out, row);
-    let c = row[1];
-    out[0] = 0;
-    out[1] = c - 1;
+    let c = row[CONSTANT];
+    out[TAG] = TAG_GE as i64;
+    out[CONSTANT] = c - 1;
 }
 
-// −e behind the tag 0, in place of e.
+// −e behind the tag of ≥, in place of e.
 fn negate(row: &mut [i64])
     requires { ⌜ length (now row) ≡ rowLength ⌝ }
     requires { ⌜ allWithin numberLimit (drop 1 (now row)) ≡ true ⌝ }
     ensures { λ _. ⌜ now (row .exit) ≡ pos 0 ∷ scale (negsuc 0) (drop 1 (now (row .entry))) ⌝ }
 {
-    row[0] = 0;
-    let mut j = 1;
+    row[TAG] = TAG_GE as i64;
+    let mut j = CONSTANT;
     while j < ROW_LENGTH {
         let x = row[j];
         row[j] = 0 - x;
@@ -180,9 +233,9 @@ pub fn turn_below(row: &mut [i64])
     requires { ⌜ allWithin numberLimit (drop 1 (now row)) ≡ true ⌝ }
     ensures { λ _. ⌜ factOf (now (row .exit)) ≡ arithmetic ge (below (drop 1 (now (row .entry)))) ⌝ }
 {
-    let c = row[1];
+    let c = row[CONSTANT];
     negate(row);
-    row[1] = -1 - c;
+    row[CONSTANT] = -1 - c;
 }
 
 // −e − 1 ≥ 0, of the row of e.
@@ -201,7 +254,7 @@ pub fn fill_equation(out: &mut [i64], row: &[i64])
     ensures { λ _. ⌜ factOf (now (out .exit)) ≡ arithmetic eq (drop 1 (now (row .entry))) ⌝ }
 {
     fill_row(out, row);
-    out[0] = 1;
+    out[TAG] = TAG_EQ as i64;
 }
 
 // ---- new facts, each in its own stretch of the work area
@@ -210,7 +263,7 @@ pub fn fill_equation(out: &mut [i64], row: &[i64])
 pub fn put_string(work: &mut [i64], k: usize, relation: usize, a: usize, b: usize)
     requires { ⌜ (k < factLimit) × (workNumbers ≤ length (now work)) ⌝ }
     requires { ⌜ (relation ≤ 2) × (a < variableLimit) × (b < variableLimit) ⌝ }
-    ensures { λ _. ⌜ branchOf (now (work .exit)) (k + 1) ≡ branchOf (now (work .entry)) k ++ (stringFact relation a b ∷ []) ⌝ }
+    ensures { λ _. ⌜ Behind (now (work .entry)) k (stringFact relation a b) (now (work .exit)) ⌝ }
 {
     let from = ROW_LENGTH * k;
     let to = from + ROW_LENGTH;
@@ -228,7 +281,7 @@ pub fn put_single(
 )
     requires { ⌜ (k < factLimit) × (workNumbers ≤ length (now work)) ⌝ }
     requires { ⌜ (relation ≤ 2) × (column < columnLimit) ⌝ }
-    ensures { λ _. ⌜ branchOf (now (work .exit)) (k + 1) ≡ branchOf (now (work .entry)) k ++ (arithmetic (relationOf relation) (single constant column coefficient) ∷ []) ⌝ }
+    ensures { λ _. ⌜ Behind (now (work .entry)) k (arithmetic (relationOf relation) (single constant column coefficient)) (now (work .exit)) ⌝ }
 {
     let from = ROW_LENGTH * k;
     let to = from + ROW_LENGTH;
@@ -239,7 +292,7 @@ pub fn put_single(
 pub fn put_difference(work: &mut [i64], k: usize, relation: usize, i: usize, j: usize)
     requires { ⌜ (k < factLimit) × (workNumbers ≤ length (now work)) ⌝ }
     requires { ⌜ (relation ≤ 2) × (i < columnLimit) × (j < columnLimit) ⌝ }
-    ensures { λ _. ⌜ branchOf (now (work .exit)) (k + 1) ≡ branchOf (now (work .entry)) k ++ (arithmetic (relationOf relation) (difference i j) ∷ []) ⌝ }
+    ensures { λ _. ⌜ Behind (now (work .entry)) k (arithmetic (relationOf relation) (difference i j)) (now (work .exit)) ⌝ }
 {
     let from = ROW_LENGTH * k;
     let to = from + ROW_LENGTH;
@@ -266,7 +319,7 @@ fn form_within(row: &[i64]) -> bool
     requires { ⌜ length (now row) ≡ rowLength ⌝ }
     ensures { λ r. ⌜ r ≡ allWithin numberLimit (drop 1 (now (row .entry))) ⌝ }
 {
-    let mut j = 1;
+    let mut j = CONSTANT;
     while j < ROW_LENGTH {
         let x = row[j];
         if !in_limit(x) {
@@ -282,7 +335,7 @@ pub fn fact_within(row: &[i64]) -> bool
     requires { ⌜ length (now row) ≡ rowLength ⌝ }
     ensures { λ r. ⌜ r ≡ factWithin (factOf (now (row .entry))) ⌝ }
 {
-    if tag_of(row) > 2 {
+    if tag_of(row) > TAG_NE {
         return true;
     }
     form_within(row)
@@ -295,7 +348,7 @@ fn constant(row: &[i64]) -> bool
     requires { ⌜ length (now row) ≡ rowLength ⌝ }
     ensures { λ r. ⌜ r ≡ allZero (drop 2 (now (row .entry))) ⌝ }
 {
-    let mut j = 2;
+    let mut j = COEFFICIENTS;
     while j < ROW_LENGTH {
         let x = row[j];
         if x != 0 {
@@ -306,14 +359,14 @@ fn constant(row: &[i64]) -> bool
     true
 }
 
-// Does a value stand in the relation to 0: 0 is ≥, 1 is =, 2 is ≠?
+// Does a value stand in the relation to 0, any other number being ≠?
 pub fn relation_holds(relation: usize, value: i64) -> bool
     ensures { λ r. ⌜ r ≡ holds (relationOf relation) value ⌝ }
 {
-    if relation == 0 {
+    if relation == GE {
         return value >= 0;
     }
-    if relation == 1 {
+    if relation == EQ {
         return value == 0;
     }
     value != 0
@@ -325,10 +378,10 @@ pub fn is_false(row: &[i64]) -> bool
     ensures { λ r. ⌜ r ≡ isFalse (factOf (now (row .entry))) ⌝ }
 {
     let tag = tag_of(row);
-    if tag > 2 {
+    if tag > TAG_NE {
         return false;
     }
-    let c = row[1];
+    let c = row[CONSTANT];
     if relation_holds(tag, c) {
         return false;
     }
@@ -341,7 +394,7 @@ fn negates(row: &[i64], other: &[i64]) -> bool
     requires { ⌜ allWithin numberLimit (drop 1 (now row)) ≡ true ⌝ }
     ensures { λ r. ⌜ r ≡ eqIntegers (scale (negsuc 0) (drop 1 (now (row .entry)))) (drop 1 (now (other .entry))) ⌝ }
 {
-    let mut j = 1;
+    let mut j = CONSTANT;
     while j < ROW_LENGTH {
         let x = row[j];
         let y = other[j];
@@ -359,10 +412,10 @@ pub fn joins(row: &[i64], other: &[i64]) -> bool
     requires { ⌜ factWithin (factOf (now row)) ≡ true ⌝ }
     ensures { λ r. ⌜ r ≡ fits (joinOf (factOf (now (row .entry))) (factOf (now (other .entry)))) ⌝ }
 {
-    if tag_of(row) != 0 {
+    if tag_of(row) != TAG_GE {
         return false;
     }
-    if tag_of(other) != 0 {
+    if tag_of(other) != TAG_GE {
         return false;
     }
     negates(row, other)
@@ -392,7 +445,7 @@ fn states_difference(work: &[i64], count: usize, i: usize, j: usize) -> bool
     ensures { λ r. ⌜ r ≡ any (statesZero (minus (column i) (column j))) (branchOf (now (work .entry)) count) ⌝ }
 {
     let mut wanted = [0i64; ROW_LENGTH];
-    fill_difference(&mut wanted, 1, i, j);
+    fill_difference(&mut wanted, EQ, i, j);
     let mut k = 0;
     while k < count {
         if same_row(&wanted, row_at(work, k)) {
@@ -424,11 +477,11 @@ fn row_value(row: &[i64], model: &[i64]) -> i64
     requires { ⌜ Within valueLimit (now model) ⌝ }
     ensures { λ r. ⌜ r ≡ valueIn (now (model .entry)) (drop 1 (now (row .entry))) ⌝ }
 {
-    let mut sum = row[1];
+    let mut sum = row[CONSTANT];
     let mut i = 0;
     while i < COLUMN_LIMIT {
         let x = model[i];
-        let c = row[i + 2];
+        let c = row[i + COEFFICIENTS];
         sum = sum + c * x;
         i += 1;
     }
@@ -443,7 +496,7 @@ fn keeps_row(row: &[i64], model: &[i64]) -> bool
     ensures { λ r. ⌜ r ≡ keepsFact (now (model .entry)) (factOf (now (row .entry))) ⌝ }
 {
     let tag = tag_of(row);
-    if tag > 2 {
+    if tag > TAG_NE {
         return true;
     }
     let value = row_value(row, model);

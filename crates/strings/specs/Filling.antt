@@ -5,13 +5,15 @@ use mathlib.Core.Option.{Option, none, some}
 use mathlib.Core.List.{List, [], _∷_}
 use lib.ListN.{getD, take, drop}
 use lib.Dec.{leb, ltb}
-use lib.IntN.{ℤ}
+use lib.IntN.{ℤ, natAbs}
 use Rattle.calculus.specs.Limits.{lengthLimit}
 use Rattle.calculus.specs.Facts.{Question, len, code}
 use Rattle.calculus.specs.Classes.{literalIn}
 use Rattle.calculus.specs.Model.{modelValue}
 use Rattle.calculus.specs.SaturationTest.{lowestVariable}
 use Rattle.calculus.specs.Strings.{eqString, freshFrom, fixedBy}
+use Rattle.question.specs.declared.Progress.{Progress}
+use Rattle.question.specs.Posed.{numbered}
 use Rattle.answer.specs.Table.{row}
 
 -- the first size characters, where there are at most 64
@@ -50,3 +52,7 @@ completed n p ls l characters sizes x = elim (stringIn characters sizes x) [
         | false ↦ freshFrom p n l (givenStrings characters sizes p) 0
       ]
 ]
+
+-- where the model gives the length
+abbrev pub completedBy : Progress → List ℕ → List ℤ → List ℕ → List ℕ → ℕ → List ℕ
+completedBy s ls m characters sizes x = completed (s .n) (s .p) ls (natAbs (modelValue (numbered s) m len x)) characters sizes x

@@ -17,8 +17,10 @@ ghost use Rattle.rows.specs.Work.{Within};
 ghost use Rattle.answer.specs.Table.{row, tableStrings, Table};
 ghost use Rattle.question.specs.Posed.{asked, numbered};
 ghost use Rattle.leaf.specs.Leaf.{Modelled, LeafReady};
-ghost use Rattle.strings.specs.Filling.{sized, stringIn, givenStrings, isIt, fixedAt, completed};
+ghost use Rattle.strings.specs.Filling.{sized, stringIn, givenStrings, isIt, fixedAt, completedBy};
 use classes::Lowest;
+use encoding::CODE;
+use encoding::LEN;
 use limits::LENGTH_LIMIT;
 use limits::NODE_COUNT;
 use limits::VARIABLE_LIMIT;
@@ -209,8 +211,8 @@ fn fill_fixed(
             literal.count
         }
         Lowest::Nothing => {
-            let len = leaf::value_of(model, s, 0, x);
-            let code = leaf::value_of(model, s, 1, x);
+            let len = leaf::value_of(model, s, LEN, x);
+            let code = leaf::value_of(model, s, CODE, x);
             fill_character(row, len, code)
         }
     }
@@ -252,8 +254,8 @@ fn complete(
     requires { ⌜ Modelled (now model) s × (1 ≤ s .n) × (s .n ≤ alphabetLimit) × (x < s .p) × (lengthLimit * s .p ≤ length (now characters)) ⌝ }
     requires { ⌜ natAbs (modelValue (numbered s) (now model) len x) ≤ lengthLimit ⌝ }
     requires { ⌜ ((y : ℕ) → y < x → getD sizes y 0 ≤ lengthLimit) ⌝ }
-    ensures { λ r. ⌜ now (characters .exit) ≡ sets (now (characters .entry)) (lengthLimit * x) (completed (s .n) (s .p) labels (natAbs (modelValue (numbered s) (now (model .entry)) len x)) (now (characters .entry)) sizes x) ⌝ }
-    ensures { λ r. ⌜ r ≡ length (completed (s .n) (s .p) labels (natAbs (modelValue (numbered s) (now (model .entry)) len x)) (now (characters .entry)) sizes x) ⌝ }
+    ensures { λ r. ⌜ now (characters .exit) ≡ sets (now (characters .entry)) (lengthLimit * x) (completedBy s labels (now (model .entry)) (now (characters .entry)) sizes x) ⌝ }
+    ensures { λ r. ⌜ r ≡ length (completedBy s labels (now (model .entry)) (now (characters .entry)) sizes x) ⌝ }
     ensures { λ r. ⌜ r ≤ lengthLimit ⌝ }
 {
     let own = sizes[x];
@@ -267,7 +269,7 @@ fn complete(
         store(characters, x, w, size);
         return size;
     }
-    let len = leaf::value_of(model, s, 0, x);
+    let len = leaf::value_of(model, s, LEN, x);
     let m = leaf::magnitude(len);
     let w = fresh(characters, sizes, s.p, s.n, m);
     store(characters, x, w, m);
@@ -286,7 +288,8 @@ pub fn give_strings(
     requires { ⌜ LeafReady (now ticket) (now model) s × (lengthLimit * s .p ≤ length (now characters)) ⌝ }
     requires { ⌜ Within valueLimit (now model) ⌝ }
     requires { ⌜ shortLengths (asked (now ticket) s) (now model) ≡ true ⌝ }
-    ensures { λ r. ⌜ ((b : Branch) → labels ≡ calculus.labels b → tableStrings (now (characters .exit)) r (s .p) ≡ strings (asked (now (ticket .entry)) s) b (now (model .entry))) ⌝ }
+    ensures { λ r. ⌜ ((b : Branch) → labels ≡ calculus.labels b
+        → tableStrings (now (characters .exit)) r (s .p) ≡ strings (asked (now (ticket .entry)) s) b (now (model .entry))) ⌝ }
     ensures { λ r. ⌜ Table (now (characters .exit)) r (s .p) ⌝ }
 {
     let mut sizes = give_fixed(ticket, model, s, labels, characters);

@@ -16,6 +16,10 @@ ghost use Rattle.rows.specs.Rows.{rowLength, factOf, branchOf};
 ghost use Rattle.rows.specs.Work.{Within, Fine};
 ghost use Rattle.sums.specs.Sums.{added, geRow, rowIn, factIn, sumFact};
 use limits::ROW_LENGTH;
+use rows::COEFFICIENTS;
+use rows::CONSTANT;
+use rows::TAG_EQ;
+use rows::TAG_GE;
 
 // Does a fact take the multiplier: at least 1 on a ≥ fact, nonzero on an equation?
 fn takes(row: &[i64], multiplier: i64) -> bool
@@ -23,10 +27,10 @@ fn takes(row: &[i64], multiplier: i64) -> bool
     ensures { λ r. ⌜ r ≡ fits (summand multiplier (factOf (now (row .entry)))) ⌝ }
 {
     let tag = rows::tag_of(row);
-    if tag == 0 {
+    if tag == TAG_GE {
         return multiplier > 0;
     }
-    if tag == 1 {
+    if tag == TAG_EQ {
         return multiplier != 0;
     }
     false
@@ -39,7 +43,7 @@ fn add_multiple(sum: &mut [i64], row: &[i64], multiplier: i64)
     requires { ⌜ (length (now sum) ≡ rowLength) × Within 7000000000000000000 (now sum) ⌝ }
     ensures { λ _. ⌜ now (sum .exit) ≡ added (now (sum .entry)) multiplier (now (row .entry)) ⌝ }
 {
-    let mut j = 1;
+    let mut j = CONSTANT;
     while j < ROW_LENGTH {
         let s = sum[j];
         let x = row[j];
@@ -87,7 +91,7 @@ fn divide(row: &mut [i64], d: i64) -> bool
     requires { ⌜ (pos 1 ≤ℤ d) × (length (now row) ≡ rowLength) × (getD (now row) 0 (pos 0) ≡ pos 0) ⌝ }
     ensures { λ r. ⌜ rowIn r (now (row .exit)) ≡ geRow (divided (natAbs d) (drop 1 (now (row .entry)))) ⌝ }
 {
-    let mut j = 2;
+    let mut j = COEFFICIENTS;
     while j < ROW_LENGTH {
         let x = row[j];
         let q = x / d;
@@ -97,8 +101,8 @@ fn divide(row: &mut [i64], d: i64) -> bool
         row[j] = q;
         j += 1;
     }
-    let c = row[1];
-    row[1] = floor_div(c, d);
+    let c = row[CONSTANT];
+    row[CONSTANT] = floor_div(c, d);
     true
 }
 

@@ -6,7 +6,7 @@ use lib.ListN.{length}
 use mathlib.Core.List.{List}
 use mathlib.Core.Path.{_≡_, sym}
 use native.Mathlib.Omega.{arith}
-use Rattle.answer.proofs.Written.{record-put}
+use Rattle.writing.proofs.Records.{record-put}
 use Rattle.format.proofs.Encoded.{length-characters, length-record}
 use Rattle.format.specs.Answer.{characterBytes}
 use Rattle.answer.proofs.put_string.Statement.{statement}

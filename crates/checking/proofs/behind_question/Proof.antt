@@ -43,12 +43,11 @@ add-prove-2 c = search needs
 
 prove-requires : tie.Need-prove-requires
 prove-requires c κs =
-    let s = c .before .before .before .before .before .before .before .before .before .before in (
-      posed (now (s .args .ticket)) (s .args .s) (s .args .at) (s .pre .0 .0) (s .pre .0 .2) (sym (c .before .before .before .before .before .before .before .claim-fault .ensures) ∙ c .before .before .before .before .before .before .if1 .left),
-      c .before .before .before .before .load .ensures .1,
-      c .before .before .before .before .load .ensures .0,
-      omega arith,
-    )
+    let loaded = c .before .before .before .before in
+    let tested = loaded .before .before in
+    let s = tested .before .before .before .before in
+    let claimed = sym (tested .before .claim-fault .ensures) ∙ tested .if1 .left in
+    ((posed (now (s .args .ticket)) (s .args .s) (s .args .at) (s .pre .0 .0) (s .pre .0 .2) claimed, loaded .load .ensures .1, loaded .load .ensures .0), omega arith)
 
 same-length : tie.Need-same-length
 same-length c = search needs
@@ -67,10 +66,11 @@ add-give-answer-2 c = search needs
 
 give-answer-requires : tie.Need-give-answer-requires
 give-answer-requires c κs =
-    let s = c .before .before .before .before .before .before .before .before .before .before .before in (
-      posed (now (s .args .ticket)) (s .args .s) (s .args .at) (s .pre .0 .0) (s .pre .0 .2) (sym (c .before .before .before .before .before .before .before .before .claim-fault .ensures) ∙ c .before .before .before .before .before .before .before .if1 .left),
-      c .before .before .before .before .before .load .ensures .1,
-      c .before .before .before .before .before .load .ensures .0,
+    let loaded = c .before .before .before .before .before in
+    let tested = loaded .before .before in
+    let s = tested .before .before .before .before in
+    let claimed = sym (tested .before .claim-fault .ensures) ∙ tested .if1 .left in (
+      (posed (now (s .args .ticket)) (s .args .s) (s .args .at) (s .pre .0 .0) (s .pre .0 .2) claimed, loaded .load .ensures .1, loaded .load .ensures .0),
       omega arith,
       s .pre .1 .1,
     )

@@ -22,7 +22,7 @@ unfolding LeafAt
 at-model-requires c κs =
     let s = c .before .before .before .before .before .before .before .before .before .before in
     let leaf = subst (LeafAt (now (s .args .ticket)) _) (c .before .before .before .to .given .1) (c .before .before .before .before .before .before .follow .ensures .1) in
-    (s .pre .0, leaf .model, leaf .whole, leaf .low, leaf .fine, s .pre .4)
+    (s .pre .0 .0, leaf .model, leaf .whole, leaf .low, leaf .fine, s .pre .2)
 
 same-length : tie.Need-same-length
 same-length c = search needs

@@ -18,24 +18,15 @@ abbrev μ-loop : tie.MeasureT-loop
 loop-holds : tie.Need-loop-holds Inv-loop μ-loop
 loop-holds c = (omega arith, refl)
 
-mul-same-class : tie.Need-mul-same-class Inv-loop μ-loop
-mul-same-class c = search needs
-
-mul-same-class-2 : tie.Need-mul-same-class-2 Inv-loop μ-loop
-mul-same-class-2 c = search needs
-
-add-same-class : tie.Need-add-same-class Inv-loop μ-loop
-add-same-class c = search needs
-
-same-class-requires : tie.Need-same-class-requires Inv-loop μ-loop
-same-class-requires c κs = search needs
+class-holds-requires : tie.Need-class-holds-requires Inv-loop μ-loop
+class-holds-requires c κs = search needs
 
 returns : tie.Need-returns Inv-loop μ-loop
 unfolding literalOf
 returns c =
     let l = c .before .before .before .loop in
     let s = c .before .before .before .before .args in
-    sym (lowest-yes (s .labels) (s .x) (l .l) (l .left) (omega arith) (sym (c .before .same-class .ensures) ∙ c .if1 .taken)) ∙ l .inv .1
+    sym (lowest-yes (s .labels) (s .x) (l .l) (l .left) (omega arith) (sym (c .before .class-holds .ensures) ∙ c .if1 .taken)) ∙ l .inv .1
 
 add-l : tie.Need-add-l Inv-loop μ-loop
 add-l c = search needs
@@ -50,7 +41,7 @@ loop-again : tie.Need-loop-again Inv-loop μ-loop
 loop-again c =
     let l = c .before .before .before .loop in
     let s = c .before .before .before .before .args in
-    (omega arith, sym (lowest-no (s .labels) (s .x) (l .l) (l .left) (omega arith) (sym (c .before .same-class .ensures) ∙ c .if1 .left)) ∙ l .inv .1)
+    (omega arith, sym (lowest-no (s .labels) (s .x) (l .l) (l .left) (omega arith) (sym (c .before .class-holds .ensures) ∙ c .if1 .left)) ∙ l .inv .1)
 
 returns-2 : tie.Need-returns-2 Inv-loop μ-loop
 unfolding literalOf
@@ -66,10 +57,7 @@ class-literal-spec =
     Inv-loop
     μ-loop
     loop-holds
-    mul-same-class
-    mul-same-class-2
-    add-same-class
-    same-class-requires
+    class-holds-requires
     returns
     add-l
     sub-left

@@ -2,7 +2,7 @@
 use Prim.Native.Nat.{_-_, _≤_, ℕ}
 use borrow.Author.Needs.{needs}
 use mathlib.Core.Bool.{false}
-use mathlib.Core.Path.{_∙_, _≡_, ap, refl, sym}
+use mathlib.Core.Path.{_∙_, _≡_, ap, ap₂, refl, sym}
 use native.Mathlib.Omega.{arith}
 use Rattle.lists.specs.Lists.{anyBelow}
 use Rattle.calculus.specs.Chains.{litNode}
@@ -17,29 +17,29 @@ Inv-loop labels i j₀ j = (j ≤ i) × (anyBelow j (λ k. sameClass labels (lit
 abbrev μ-loop : tie.MeasureT-loop
 μ-loop labels i j₀ j = i - j
 
+-- what the test says of the two literals
+said : (c : tie.After-same-class Inv-loop μ-loop)
+    → c .same-class .result
+    ≡ sameClass (c .before .before .before .before .before .args .labels) (litNode (c .before .before .before .before .before .args .i)) (litNode (c .before .before .before .before .loop .j))
+said c = c .same-class .ensures ∙ ap₂ (sameClass (c .before .before .before .before .before .args .labels)) (c .before .before .literal-node .ensures) (c .before .literal-node2 .ensures)
+
 loop-holds : tie.Need-loop-holds Inv-loop μ-loop
 loop-holds c = (omega arith, refl)
 
-mul-same-class : tie.Need-mul-same-class Inv-loop μ-loop
-mul-same-class c = search needs
+literal-node-requires : tie.Need-literal-node-requires Inv-loop μ-loop
+literal-node-requires c κs = search needs
 
-add-same-class : tie.Need-add-same-class Inv-loop μ-loop
-add-same-class c = search needs
-
-mul-same-class-2 : tie.Need-mul-same-class-2 Inv-loop μ-loop
-mul-same-class-2 c = search needs
-
-add-same-class-2 : tie.Need-add-same-class-2 Inv-loop μ-loop
-add-same-class-2 c = search needs
+literal-node-requires-2 : tie.Need-literal-node-requires-2 Inv-loop μ-loop
+literal-node-requires-2 c κs = search needs
 
 same-class-requires : tie.Need-same-class-requires Inv-loop μ-loop
 same-class-requires c κs = search needs
 
 returns : tie.Need-returns Inv-loop μ-loop
 returns c =
-    let l = c .before .before .before .loop in
-    let s = c .before .before .before .before .args in
-    sym (any-yes (λ k. sameClass (s .labels) (litNode (s .i)) (litNode k)) (s .i) (l .j) (omega arith) (sym (c .before .same-class .ensures) ∙ c .if1 .taken))
+    let l = c .before .before .before .before .before .loop in
+    let s = c .before .before .before .before .before .before .args in
+    sym (any-yes (λ k. sameClass (s .labels) (litNode (s .i)) (litNode k)) (s .i) (l .j) (omega arith) (sym (said (c .before)) ∙ c .if1 .taken))
 
 add-j : tie.Need-add-j Inv-loop μ-loop
 add-j c = search needs
@@ -49,9 +49,9 @@ loop-less c = search needs
 
 loop-again : tie.Need-loop-again Inv-loop μ-loop
 loop-again c =
-    let l = c .before .before .before .loop in
-    let s = c .before .before .before .before .args in
-    (omega arith, any-more (λ k. sameClass (s .labels) (litNode (s .i)) (litNode k)) (l .j) (l .inv .1) (sym (c .before .same-class .ensures) ∙ c .if1 .left))
+    let l = c .before .before .before .before .before .loop in
+    let s = c .before .before .before .before .before .before .args in
+    (omega arith, any-more (λ k. sameClass (s .labels) (litNode (s .i)) (litNode k)) (l .j) (l .inv .1) (sym (said (c .before)) ∙ c .if1 .left))
 
 returns-2 : tie.Need-returns-2 Inv-loop μ-loop
 returns-2 c =
@@ -67,10 +67,8 @@ literal-meets-spec =
     Inv-loop
     μ-loop
     loop-holds
-    mul-same-class
-    add-same-class
-    mul-same-class-2
-    add-same-class-2
+    literal-node-requires
+    literal-node-requires-2
     same-class-requires
     returns
     add-j

@@ -17,20 +17,14 @@ abbrev μ-loop : tie.MeasureT-loop
 loop-holds : tie.Need-loop-holds Inv-loop μ-loop
 loop-holds c = (omega arith, refl)
 
-mul-same-class : tie.Need-mul-same-class Inv-loop μ-loop
-mul-same-class c = search needs
-
-mul-same-class-2 : tie.Need-mul-same-class-2 Inv-loop μ-loop
-mul-same-class-2 c = search needs
-
-same-class-requires : tie.Need-same-class-requires Inv-loop μ-loop
-same-class-requires c κs = search needs
+one-class-requires : tie.Need-one-class-requires Inv-loop μ-loop
+one-class-requires c κs = search needs
 
 returns : tie.Need-returns Inv-loop μ-loop
 returns c =
     let l = c .before .before .before .loop in
     let s = c .before .before .before .before .args in
-    sym (first-yes (s .labels) (s .x) (l .y) (l .left) (omega arith) (sym (c .before .same-class .ensures) ∙ c .if1 .taken)) ∙ l .inv .1
+    sym (first-yes (s .labels) (s .x) (l .y) (l .left) (omega arith) (sym (c .before .one-class .ensures) ∙ c .if1 .taken)) ∙ l .inv .1
 
 add-y : tie.Need-add-y Inv-loop μ-loop
 add-y c = search needs
@@ -45,7 +39,7 @@ loop-again : tie.Need-loop-again Inv-loop μ-loop
 loop-again c =
     let l = c .before .before .before .loop in
     let s = c .before .before .before .before .args in
-    (omega arith, sym (first-no (s .labels) (s .x) (l .y) (l .left) (omega arith) (sym (c .before .same-class .ensures) ∙ c .if1 .left)) ∙ l .inv .1)
+    (omega arith, sym (first-no (s .labels) (s .x) (l .y) (l .left) (omega arith) (sym (c .before .one-class .ensures) ∙ c .if1 .left)) ∙ l .inv .1)
 
 returns-2 : tie.Need-returns-2 Inv-loop μ-loop
 returns-2 c =
@@ -60,9 +54,7 @@ lowest-variable-spec =
     Inv-loop
     μ-loop
     loop-holds
-    mul-same-class
-    mul-same-class-2
-    same-class-requires
+    one-class-requires
     returns
     add-y
     sub-left

@@ -28,14 +28,8 @@ returns c =
 labels-requires : tie.Need-labels-requires
 labels-requires c κs = search needs
 
-mul-same-class : tie.Need-mul-same-class
-mul-same-class c = search needs
-
-mul-same-class-2 : tie.Need-mul-same-class-2
-mul-same-class-2 c = search needs
-
-same-class-requires : tie.Need-same-class-requires
-same-class-requires c κs = search needs
+one-class-requires : tie.Need-one-class-requires
+one-class-requires c κs = search needs
 
 returns-2 : tie.Need-returns-2
 unfolding madeOf
@@ -43,7 +37,7 @@ returns-2 c =
     let s = c .before .before .before .before in
     let b = branchOf (now (s .args .work)) (s .args .count) in
     let t : sameClass (labels b) (varNode (s .args .x)) (varNode (s .args .y)) ≡ false =
-    ap (λ (ls : List ℕ). sameClass ls (varNode (s .args .x)) (varNode (s .args .y))) (sym (c .before .before .labels .ensures)) ∙ sym (c .before .same-class .ensures) ∙ not-true _ (c .if2 .taken) in
+    ap (λ (ls : List ℕ). sameClass ls (varNode (s .args .x)) (varNode (s .args .y))) (sym (c .before .before .labels .ensures)) ∙ sym (c .before .one-class .ensures) ∙ not-true _ (c .if2 .taken) in
     λ (u : Question) (ep : u .p ≡ s .args .p) (eq : u .q ≡ s .args .q). s-prop-other-class u b (functionOf (s .args .function)) (s .args .x) (s .args .y) (c .before .before .before .if1 .left) t
 
 column-of-requires : tie.Need-column-of-requires
@@ -65,7 +59,7 @@ returns-3 c =
     let a = s .args in
     let b = branchOf (now (a .work)) (a .count) in
     let t : sameClass (labels b) (varNode (a .x)) (varNode (a .y)) ≡ true =
-    ap (λ (ls : List ℕ). sameClass ls (varNode (a .x)) (varNode (a .y))) (sym (c .before .before .before .before .before .before .before .labels .ensures)) ∙ sym (c .before .before .before .before .before .before .same-class .ensures) ∙ not-false _ (c .before .before .before .before .before .if2 .left) in
+    ap (λ (ls : List ℕ). sameClass ls (varNode (a .x)) (varNode (a .y))) (sym (c .before .before .before .before .before .before .before .labels .ensures)) ∙ sym (c .before .before .before .before .before .before .one-class .ensures) ∙ not-false _ (c .before .before .before .before .before .if2 .left) in
     λ (u : Question) (ep : u .p ≡ a .p) (eq : u .q ≡ a .q).
     ap (λ (f : Fact). some (one f)) (c .before .fill-difference .ensures)
     ∙ ap some (s-prop-adds u (a .function) (a .x) (a .y) (c .before .before .before .column-of .result) (c .before .before .column-of2 .result) (c .before .before .before .before .before .before .before .before .if1 .left)
@@ -80,9 +74,7 @@ s-prop-spec =
     (tie.spec
     returns
     labels-requires
-    mul-same-class
-    mul-same-class-2
-    same-class-requires
+    one-class-requires
     returns-2
     column-of-requires
     column-of-requires-2

@@ -5,8 +5,8 @@ use denote.Ref.{now}
 use mathlib.Core.Path.{_∙_, ap, refl, sym}
 use Rattle.calculus.specs.Facts.{blank}
 use Rattle.question.specs.Posed.{asked}
-use Rattle.answer.proofs.Bounds.{outside-same}
-use Rattle.answer.specs.Form.{outsideOf}
+use Rattle.assignment.proofs.Bounds.{outside-same}
+use Rattle.assignment.specs.Form.{outsideOf}
 use Rattle.judging.proofs.Outcomes.{judged, out-of-range, unformed}
 use Rattle.judging.proofs.judge_behind.Statement.{statement}
 use Rattle.judging.proofs.judge_behind.Tie as tie

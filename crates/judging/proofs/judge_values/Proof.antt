@@ -4,9 +4,9 @@ use denote.Ref.{now}
 use lib.ListN.{length}
 use mathlib.Core.Path.{_∙_, ap, sym}
 use native.Mathlib.Omega.{arith}
-use Rattle.answer.proofs.Bounds.{small-columns}
-use Rattle.answer.proofs.Columns.{length-columns}
-use Rattle.answer.proofs.Read.{integers-there}
+use Rattle.assignment.proofs.Bounds.{small-columns}
+use Rattle.assignment.proofs.Columns.{length-columns}
+use Rattle.assignment.proofs.Read.{integers-there}
 use Rattle.calculus.proofs.Saturation.{enough}
 use Rattle.calculus.specs.Meaning.{columns}
 use Rattle.format.specs.Places.{texts}

@@ -7,7 +7,8 @@ use native.Mathlib.Omega.{arith}
 use Rattle.calculus.specs.Alphabet.{lastCharacter}
 use Rattle.calculus.specs.LinearForms.{eqℤ}
 use Rattle.leaf.proofs.Laws.{code-character, code-longer, code-negative}
-use Rattle.leaf.proofs.Signed.{equal-read, negative, not-negative}
+use Rattle.integers.proofs.Machine.{negative, not-negative}
+use Rattle.leaf.proofs.Signed.{equal-read}
 use Rattle.leaf.specs.Values.{codeFits}
 use Rattle.leaf.proofs.code_fits.Statement.{statement}
 use Rattle.leaf.proofs.code_fits.Tie as tie

@@ -5,7 +5,8 @@ use mathlib.Core.Path.{_∙_, ap, sym}
 use mir.Facts.{toZ-ofZ}
 use native.Mathlib.Numerals.{add-one}
 use native.Mathlib.Omega.{arith}
-use Rattle.leaf.proofs.Signed.{negative, not-negative, rest-fits, rest-is}
+use Rattle.integers.proofs.Machine.{negative, not-negative}
+use Rattle.leaf.proofs.Signed.{rest-fits, rest-is}
 use Rattle.leaf.proofs.magnitude.Statement.{statement}
 use Rattle.leaf.proofs.magnitude.Tie as tie
 

@@ -12,14 +12,8 @@ use Rattle.leaf.specs.Values.{pairFits}
 use Rattle.leaf.proofs.pair_fits.Statement.{statement}
 use Rattle.leaf.proofs.pair_fits.Tie as tie
 
-mul-same-class : tie.Need-mul-same-class
-mul-same-class c = search needs
-
-mul-same-class-2 : tie.Need-mul-same-class-2
-mul-same-class-2 c = search needs
-
-same-class-requires : tie.Need-same-class-requires
-same-class-requires c κs = search needs
+one-class-requires : tie.Need-one-class-requires
+one-class-requires c κs = search needs
 
 value-of-requires : tie.Need-value-of-requires
 value-of-requires c κs = search needs
@@ -46,15 +40,13 @@ returns c =
     let w : toZ w64 (ofZ w64 (c .before .before .before .value-of2 .result)) ≡ modelValue u m len (s .y) = toZ-ofZ (record { sfits = c .before .before .before .value-of2 .ok }) ∙ c .before .before .before .value-of2 .ensures in
     let p : toZ w64 (ofZ w64 (c .before .before .value-of3 .result)) ≡ modelValue u m code (s .x) = toZ-ofZ (record { sfits = c .before .before .value-of3 .ok }) ∙ c .before .before .value-of3 .ensures in
     let q : toZ w64 (ofZ w64 (c .before .value-of4 .result)) ≡ modelValue u m code (s .y) = toZ-ofZ (record { sfits = c .before .value-of4 .ok }) ∙ c .before .value-of4 .ensures in
-    c .pair-by .ensures ∙ rw (c .before .before .before .before .before .same-class .ensures, z, w, p, q)
+    c .pair-by .ensures ∙ rw (c .before .before .before .before .before .one-class .ensures, z, w, p, q)
 
 pub pair-fits-spec : {M : Type 1} → statement M
 pair-fits-spec =
     tie.close
     (tie.spec
-    mul-same-class
-    mul-same-class-2
-    same-class-requires
+    one-class-requires
     value-of-requires
     value-of-requires-2
     value-of-requires-3

@@ -20,14 +20,17 @@ fill-row-requires c κs = search needs
 shared-slice-copy-out-c : tie.Need-shared-slice-copy-out-c
 shared-slice-copy-out-c c = search needs
 
-slice-set-of-out : tie.Need-slice-set-of-out
-slice-set-of-out c = search needs
+cast-out : tie.Need-cast-out
+cast-out c = search needs
+
+slice-set-from-out : tie.Need-slice-set-from-out
+slice-set-from-out c = search needs
 
 sub-out : tie.Need-sub-out
 sub-out c = above-fits (getD (now (c .before .before .before .before .args .row)) 1 (pos 0)) 1000000000 (behind-tag (now (c .before .before .before .before .args .row)) 1 (c .before .before .before .before .pre .1) (omega arith)) (omega arith)
 
-slice-set-from-out : tie.Need-slice-set-from-out
-slice-set-from-out c = search needs
+slice-set-from-out-2 : tie.Need-slice-set-from-out-2
+slice-set-from-out-2 c = search needs
 
 same-length : tie.Need-same-length
 same-length c = search needs
@@ -46,8 +49,9 @@ fill-above-spec =
     (tie.spec
     fill-row-requires
     shared-slice-copy-out-c
-    slice-set-of-out
-    sub-out
+    cast-out
     slice-set-from-out
+    sub-out
+    slice-set-from-out-2
     same-length
     returns)

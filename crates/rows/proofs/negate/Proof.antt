@@ -24,7 +24,7 @@ Inv-loop row₀ j₀ row j =
 abbrev μ-loop : tie.MeasureT-loop
 μ-loop row₀ j₀ row j = 50 - j
 
--- the row with the tag 0, where the loop begins
+-- the row with the tag of ≥, where the loop begins
 module _ (row : List ℤ) (n : length row ≡ 50) where
   abbrev start : List ℤ
   start = set row 0 (pos 0)
@@ -52,8 +52,11 @@ module _ (c : tie.After-x Inv-loop μ-loop) where
       let w = ap (allWithin numberLimit) (form-kept row n) ∙ c .before .before .before .pre .1 in
       subst (λ (y : ℤ). natAbs y ≤ 1000000000) (sym was) (behind-tag (start row n) (c .before .before .loop .j) w (omega arith))
 
-slice-set-of-row : tie.Need-slice-set-of-row Inv-loop μ-loop
-slice-set-of-row c = search needs
+cast-row : tie.Need-cast-row Inv-loop μ-loop
+cast-row c = search needs
+
+slice-set-from-row : tie.Need-slice-set-from-row Inv-loop μ-loop
+slice-set-from-row c = search needs
 
 loop-holds : tie.Need-loop-holds Inv-loop μ-loop
 loop-holds c =
@@ -71,11 +74,11 @@ slice-copy-out-x c = search needs
 sub-row : tie.Need-sub-row Inv-loop μ-loop
 sub-row c = neg-fits (z c) 1000000000 (small c) (omega arith)
 
-mul-t6 : tie.Need-mul-t6 Inv-loop μ-loop
-mul-t6 c = search needs
+mul-t7 : tie.Need-mul-t7 Inv-loop μ-loop
+mul-t7 c = search needs
 
-slice-set-from-row : tie.Need-slice-set-from-row Inv-loop μ-loop
-slice-set-from-row c = search needs
+slice-set-from-row-2 : tie.Need-slice-set-from-row-2 Inv-loop μ-loop
+slice-set-from-row-2 c = search needs
 
 add-j : tie.Need-add-j Inv-loop μ-loop
 add-j c = search needs
@@ -115,13 +118,14 @@ negate-spec =
     (tie.spec
     Inv-loop
     μ-loop
-    slice-set-of-row
+    cast-row
+    slice-set-from-row
     loop-holds
     mul-x
     slice-copy-out-x
     sub-row
-    mul-t6
-    slice-set-from-row
+    mul-t7
+    slice-set-from-row-2
     add-j
     loop-less
     loop-again

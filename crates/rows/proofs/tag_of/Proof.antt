@@ -19,17 +19,32 @@ tag-is c n e h = from-bits (getD (now (c .before .args .row)) 0 (pos 0)) n (reco
 shared-slice-copy-out-tag : tie.Need-shared-slice-copy-out-tag
 shared-slice-copy-out-tag c = search needs
 
+cast-if1 : tie.Need-cast-if1
+cast-if1 c = search needs
+
 returns : tie.Need-returns
 returns c = sym (tag-known _ 0 (omega arith) (tag-is (c .before) 0 (c .if1 .taken) (omega arith)))
+
+cast-if2 : tie.Need-cast-if2
+cast-if2 c = search needs
 
 returns-2 : tie.Need-returns-2
 returns-2 c = sym (tag-known _ 1 (omega arith) (tag-is (c .before .before) 1 (c .if2 .taken) (omega arith)))
 
+cast-if3 : tie.Need-cast-if3
+cast-if3 c = search needs
+
 returns-3 : tie.Need-returns-3
 returns-3 c = sym (tag-known _ 3 (omega arith) (tag-is (c .before .before .before) 3 (c .if3 .taken) (omega arith)))
 
+cast-if4 : tie.Need-cast-if4
+cast-if4 c = search needs
+
 returns-4 : tie.Need-returns-4
 returns-4 c = sym (tag-known _ 4 (omega arith) (tag-is (c .before .before .before .before) 4 (c .if4 .taken) (omega arith)))
+
+cast-if5 : tie.Need-cast-if5
+cast-if5 c = search needs
 
 returns-5 : tie.Need-returns-5
 returns-5 c = sym (tag-known _ 5 (omega arith) (tag-is (c .before .before .before .before .before) 5 (c .if5 .taken) (omega arith)))
@@ -40,4 +55,16 @@ returns-6 c = sym (tag-other _ _ refl (c .before .before .before .before .if1 .l
 pub tag-of-spec : {M : Type 1} → statement M
 tag-of-spec =
     tie.close
-    (tie.spec shared-slice-copy-out-tag returns returns-2 returns-3 returns-4 returns-5 returns-6)
+    (tie.spec
+    shared-slice-copy-out-tag
+    cast-if1
+    returns
+    cast-if2
+    returns-2
+    cast-if3
+    returns-3
+    cast-if4
+    returns-4
+    cast-if5
+    returns-5
+    returns-6)
