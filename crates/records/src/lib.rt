@@ -5,6 +5,7 @@ ghost use lib.ListN.{length};
 ghost use lib.IntN.{natAbs};
 ghost use Rattle.format.specs.Fields.{u16, u32, i32, signed, within};
 ghost use Rattle.records.specs.Found.{foundAt};
+use encoding::RECORD_HEAD;
 
 // ---- "Fields are little-endian"
 
@@ -74,15 +75,15 @@ pub enum Found {
 pub fn record_at(b: &[u8], at: usize) -> Found
     ensures { λ r. ⌜ r ≡ foundAt (now (b .entry)) at ⌝ }
 {
-    if b.len() < 6 {
+    if b.len() < RECORD_HEAD {
         return Found::Nothing;
     }
-    if b.len() - 6 < at {
+    if b.len() - RECORD_HEAD < at {
         return Found::Nothing;
     }
     let size = u32_at(b, at);
     let kind = u16_at(b, at + 4);
-    if b.len() - at - 6 < size {
+    if b.len() - at - RECORD_HEAD < size {
         Found::Cut(kind)
     } else {
         Found::Whole(kind, size)

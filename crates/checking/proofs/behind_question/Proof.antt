@@ -23,7 +23,7 @@ returns c =
 load-requires : tie.Need-load-requires
 load-requires c κs =
     let s = c .before .before .before .before .before in
-    (posed (now (s .args .ticket)) (s .args .s) (s .args .at) (s .pre .0 .0) (s .pre .0 .2) (sym (c .before .before .claim-fault .ensures) ∙ c .before .if1 .left), s .pre .1 .0)
+    (posed (now (s .args .ticket)) (s .args .s) (s .args .at) (s .pre .0 .0) (s .pre .0 .2) (s .pre .0 .3) (sym (c .before .before .claim-fault .ensures) ∙ c .before .if1 .left), s .pre .1 .0)
 
 add-u16-at : tie.Need-add-u16-at
 add-u16-at c = search needs
@@ -44,7 +44,7 @@ add-prove-2 c = search needs
 prove-requires : tie.Need-prove-requires
 prove-requires c κs =
     let s = c .before .before .before .before .before .before .before .before .before .before in (
-      posed (now (s .args .ticket)) (s .args .s) (s .args .at) (s .pre .0 .0) (s .pre .0 .2) (sym (c .before .before .before .before .before .before .before .claim-fault .ensures) ∙ c .before .before .before .before .before .before .if1 .left),
+      posed (now (s .args .ticket)) (s .args .s) (s .args .at) (s .pre .0 .0) (s .pre .0 .2) (s .pre .0 .3) (sym (c .before .before .before .before .before .before .before .claim-fault .ensures) ∙ c .before .before .before .before .before .before .if1 .left),
       c .before .before .before .before .load .ensures .1,
       c .before .before .before .before .load .ensures .0,
       omega arith,
@@ -68,7 +68,7 @@ add-give-answer-2 c = search needs
 give-answer-requires : tie.Need-give-answer-requires
 give-answer-requires c κs =
     let s = c .before .before .before .before .before .before .before .before .before .before .before in (
-      posed (now (s .args .ticket)) (s .args .s) (s .args .at) (s .pre .0 .0) (s .pre .0 .2) (sym (c .before .before .before .before .before .before .before .before .claim-fault .ensures) ∙ c .before .before .before .before .before .before .before .if1 .left),
+      posed (now (s .args .ticket)) (s .args .s) (s .args .at) (s .pre .0 .0) (s .pre .0 .2) (s .pre .0 .3) (sym (c .before .before .before .before .before .before .before .before .claim-fault .ensures) ∙ c .before .before .before .before .before .before .before .if1 .left),
       c .before .before .before .before .before .load .ensures .1,
       c .before .before .before .before .before .load .ensures .0,
       omega arith,
