@@ -58,30 +58,42 @@ module _ (b : List ℕ) where
   formed : (x y : Bool) → Other (need 5 x (need 6 y 0))
   formed x y = then 3 x (then 4 y zero-other)
 
+  constraint-other : (p l c k at m : ℕ) → Other (question.constraintFault b p l c k at m)
+  unfolding question.constraintFault
+  constraint-other p l c k at m =
+      pick-other (eqb k question.stringKind) _ _ (formed (eqb m 6) (stringRange p l (u16 b at) (u16 b (at + 2)) (u16 b (at + 4))))
+      (pick-other (eqb k question.arithmeticKind) _ _ (formed (leb 6 m && (eqb (m % 6) 0 && leb (m / 6) (suc columnLimit))) (leb (u16 b at) 2 && formRange b c (at + 2) (m / 6 - 1)))
+      (number 2))
+
   body-other : (u : Question) (k at m : ℕ) → Other (question.questionBodyFault b u k at m)
   body-other u k at m =
-      pick-other (eqb k 1) _ _ (formed (eqb m 8) (headRange b at))
-      (pick-other (eqb k 2) _ _ (then 3 (leb 4 m && (leb m (4 * lengthLimit) && eqb (m % 4) 0)) (then 4 (allCharacters (u .n) (textOf b at m)) (then 5 (not (given (textOf b at m) (u .literals))) zero-other)))
-      (pick-other (eqb k 3) _ _ (formed (eqb m 6) (stringRange (u .p) (length (u .literals)) (u16 b at) (u16 b (at + 2)) (u16 b (at + 4))))
-      (formed (leb 6 m && (eqb (m % 6) 0 && leb (m / 6) (suc columnLimit))) (leb (u16 b at) 2 && formRange b (columnCount u) (at + 2) (m / 6 - 1)))))
+      pick-other (eqb (question.rankOf k) question.headRank) _ _ (formed (eqb m 8) (headRange b at))
+      (pick-other (eqb (question.rankOf k) question.literalRank) _ _ (then 3 (leb 4 m && (leb m (4 * lengthLimit) && eqb (m % 4) 0)) (then 4 (allCharacters (u .n) (textOf b at m)) (then 5 (not (given (textOf b at m) (u .literals))) zero-other)))
+      (constraint-other (u .p) (length (u .literals)) (columnCount u) k at m))
 
   crowded-other : (c : ℕ) (x : Bool) → Other c → Other (question.orCrowded c x)
   crowded-other zero x p = then 8 x zero-other
   crowded-other (suc c) x p = p
 
-  question-other : (s : Progress) (at : ℕ) → Other (question.questionFault b s at)
+  abbrev manner : question.Manner
+  manner = question.checkingManner
+
+  abbrev test : List ℕ → Progress → ℕ → ℕ
+  test = question.questionFault manner
+
+  question-other : (s : Progress) (at : ℕ) → Other (test b s at)
   unfolding question.questionFault question.formFault
   question-other s at =
-      crowded-other (question.formFault b s at) (question.roomFor (s .question) (kind b at))
-      (then 1 (whole b at) (then 2 (question.inPlace s (kind b at)) (body-other (s .question) (kind b at) (at + 6) (size b at))))
+      crowded-other (question.formFault (manner .greatest) b s at) (question.findsRoom manner s (kind b at))
+      (then 1 (whole b at) (then 2 (question.inPlace (manner .greatest) s (kind b at)) (body-other (s .question) (kind b at) (at + 6) (size b at))))
 
-  from-other : (ats : List ℕ) (s : Progress) (r : ℕ) → ReadingOther (question.readFrom question.questionFault b s r ats)
+  from-other : (ats : List ℕ) (s : Progress) (r : ℕ) → ReadingOther (question.readFrom test b s r ats)
   unfolding question.readFrom
   from-other [] s r = number 1
-  from-other (at ∷ ats) s r = go (question.ending (kind b at)) (question.questionFault b s at) (question-other s at) (from-other ats (question.questionAdvanced b s at) (suc r))
+  from-other (at ∷ ats) s r = go (question.ending (kind b at)) (test b s at) (question-other s at) (from-other ats (question.questionAdvanced b s at) (suc r))
     where
-      go : (x : Bool) (f : ℕ) → Other f → ReadingOther (question.readFrom question.questionFault b (question.questionAdvanced b s at) (suc r) ats)
-          → ReadingOther (elim x as (λ _. Reading) [ true ↦ Ended s at r | false ↦ elim f as (λ _. Reading) [ zero ↦ question.readFrom question.questionFault b (question.questionAdvanced b s at) (suc r) ats | suc c ↦ Stopped (suc c) r ] ])
+      go : (x : Bool) (f : ℕ) → Other f → ReadingOther (question.readFrom test b (question.questionAdvanced b s at) (suc r) ats)
+          → ReadingOther (elim x as (λ _. Reading) [ true ↦ Ended s at r | false ↦ elim f as (λ _. Reading) [ zero ↦ question.readFrom test b (question.questionAdvanced b s at) (suc r) ats | suc c ↦ Stopped (suc c) r ] ])
       go true f p q = tt
       go false zero p q = q
       go false (suc c) p q = p
@@ -90,7 +102,7 @@ module _ (b : List ℕ) where
   unfolding question.readBy
   reading-other = go (leb (length b) ticketBytes)
     where
-      go : (x : Bool) → ReadingOther (elim x as (λ _. Reading) [ false ↦ Stopped 2 0 | true ↦ question.readOn question.questionFault b unread 0 0 ])
+      go : (x : Bool) → ReadingOther (elim x as (λ _. Reading) [ false ↦ Stopped 2 0 | true ↦ question.readOn test b unread 0 0 ])
       go false = number 0
       go true = from-other (records b 0) unread 0
 

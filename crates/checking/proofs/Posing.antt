@@ -9,12 +9,12 @@ use lib.ListN.{length}
 use lib.Dec.{leb}
 use borrow.Author.Tests.{leb-true, leb-false, eqb-true, eq-eqb, ne-eqb}
 use Rattle.lists.proofs.Tests.{and-both}
-use Rattle.calculus.specs.Limits.{ticketBytes}
+use Rattle.calculus.specs.Limits.{ticketBytes, factLimit}
 use Rattle.calculus.specs.Facts.{Fact, Branch}
 use Rattle.calculus.specs.Walk.{working}
 use Rattle.format.specs.Records.{kind, size, next}
 use Rattle.format.specs.Question as format
-use Rattle.format.specs.Question.{questionFault, unread, ending, readOn, question, questionAdvanced}
+use Rattle.format.specs.Question.{checkingManner, questionFault, unread, ending, readOn, question, questionAdvanced}
 use Rattle.format.specs.Reading.{State, proving, taking, Ticket, claimFault, claimAt, begin, readClaim, stepsOn}
 use Rattle.format.specs.Checking.{checker}
 use Rattle.format.proofs.Faults.{none-applies, clash}
@@ -24,44 +24,49 @@ use Rattle.question.specs.declared.Progress.{Progress}
 use Rattle.question.specs.Progress.{progressOf}
 use Rattle.question.specs.Standing.{StandsTo}
 use Rattle.question.specs.Posed.{Posed, asked}
-use Rattle.question.proofs.Standing.{question-stands, question-short}
+use Rattle.question.proofs.Standing.{question-stands, question-short, question-few}
 
 -- ---- the question
 
+abbrev test : List ℕ → format.Progress → ℕ → ℕ
+test = questionFault checkingManner
+
 -- each record takes six bytes at least
-numbered : (d : ℕ) (b : List ℕ) (s t : format.Progress) (r at to q : ℕ) → length b ≤ at + d → r ≤ at → readOn questionFault b s r at ≡ format.Ended t to q → q ≤ to
-numbered zero b s t r at to q l h e = let g = read-none questionFault b s r at (omega arith) in clash cc
+numbered : (d : ℕ) (b : List ℕ) (s t : format.Progress) (r at to q : ℕ) → length b ≤ at + d → r ≤ at → readOn test b s r at ≡ format.Ended t to q → q ≤ to
+numbered zero b s t r at to q l h e = let g = read-none test b s r at (omega arith) in clash cc
 numbered (suc d) b s t r at to q l h e =
-    go (leb (at + 6) (length b)) (ending (kind b at)) (questionFault b s at) refl refl refl
+    go (leb (at + 6) (length b)) (ending (kind b at)) (test b s at) refl refl refl
     (numbered d b (questionAdvanced b s at) t (suc r) (next b at) to q (omega arith) (omega arith))
   where
-    go : (x y : Bool) (f : ℕ) → leb (at + 6) (length b) ≡ x → ending (kind b at) ≡ y → questionFault b s at ≡ f
-        → (readOn questionFault b (questionAdvanced b s at) (suc r) (next b at) ≡ format.Ended t to q → q ≤ to) → q ≤ to
-    go false y f ex ey ef later = let g = read-none questionFault b s r at (leb-false _ _ ex) in clash cc
+    go : (x y : Bool) (f : ℕ) → leb (at + 6) (length b) ≡ x → ending (kind b at) ≡ y → test b s at ≡ f
+        → (readOn test b (questionAdvanced b s at) (suc r) (next b at) ≡ format.Ended t to q → q ≤ to) → q ≤ to
+    go false y f ex ey ef later = let g = read-none test b s r at (leb-false _ _ ex) in clash cc
     go true true f ex ey ef later =
-        let g = read-ended questionFault b s r at (leb-true _ _ ex) ey in
+        let g = read-ended test b s r at (leb-true _ _ ex) ey in
         let here : at ≡ to = cc in
         let number : r ≡ q = cc in
         omega arith
-    go true false (suc f) ex ey ef later = let g = read-stopped questionFault b s r at f (leb-true _ _ ex) ey ef in clash cc
-    go true false zero ex ey ef later = later (sym (read-more questionFault b s r at (leb-true _ _ ex) ey ef) ∙ e)
+    go true false (suc f) ex ey ef later = let g = read-stopped test b s r at f (leb-true _ _ ex) ey ef in clash cc
+    go true false zero ex ey ef later = later (sym (read-more test b s r at (leb-true _ _ ex) ey ef) ∙ e)
 
 -- what holds where reading ended
 pub record Read (b : List ℕ) (s : Progress) (at r : ℕ) : Type 0 where
-  pub stands : StandsTo b s at
+  pub stands : StandsTo (checkingManner .greatest) b s at
   pub headed : at + 6 ≤ length b
   pub short : length b ≤ ticketBytes
+  pub few-constraints : s .constraints ≤ factLimit
   pub few : r ≤ at
 
 pub read-question : (b : List ℕ) (s : Progress) (at r : ℕ) → question b ≡ format.Ended (progressOf b s) at r → Read b s at r
 read-question b s at r e =
-    let (stands, headed) = question-stands b s at r e in
-    let short = question-short b (progressOf b s) at r e in
+    let (stands, headed) = question-stands checkingManner b s at r e in
+    let short = question-short checkingManner b (progressOf b s) at r e in
     record {
       stands = stands;
       headed = headed;
       short = short;
-      few = numbered (length b) b unread (progressOf b s) 0 0 at r (omega arith) (omega arith) (sym (read-begin questionFault b short) ∙ e);
+      few-constraints = question-few checkingManner refl b s at r e;
+      few = numbered (length b) b unread (progressOf b s) 0 0 at r (omega arith) (omega arith) (sym (read-begin test b short) ∙ e);
     }
 
 -- ---- the claim
@@ -83,8 +88,8 @@ claim-good b s at e =
       two = eqb-true _ _ sized;
     }
 
-pub posed : (b : List ℕ) (s : Progress) (at : ℕ) → StandsTo b s at → length b ≤ ticketBytes → claimFault b (progressOf b s) at ≡ 0 → Posed b s
-posed b s at h short e = record { to = at; stands = h; head = claim-good b (progressOf b s) at e .head; short = short }
+pub posed : (b : List ℕ) (s : Progress) (at : ℕ) → StandsTo (checkingManner .greatest) b s at → length b ≤ ticketBytes → s .constraints ≤ factLimit → claimFault b (progressOf b s) at ≡ 0 → Posed b s
+posed b s at h short few e = record { to = at; stands = h; head = claim-good b (progressOf b s) at e .head; short = short; few-constraints = few }
 
 -- ---- behind the claim
 

@@ -4,8 +4,9 @@ ghost use mathlib.Core.List.{List};
 ghost use Prim.Native.Nat.{ℕ, _+_, _≤_};
 ghost use lib.ListN.{length, replicate};
 ghost use lib.IntN.{pos};
-ghost use Rattle.calculus.specs.Limits.{workNumbers, answerBytes, ticketBytes};
+ghost use Rattle.calculus.specs.Limits.{workNumbers, answerBytes, ticketBytes, factLimit};
 ghost use Rattle.format.specs.Records.{kind, next};
+ghost use Rattle.format.specs.Question.{checkingManner};
 ghost use Rattle.format.specs.Reading.{taking};
 ghost use Rattle.question.specs.Posed.{Posed};
 ghost use Rattle.question.specs.Standing.{StandsTo};
@@ -25,6 +26,7 @@ use limits::ANSWER_BYTES;
 use limits::WORK_NUMBERS;
 use model::settle;
 use model::write;
+use question::CHECKING;
 use question::Progress;
 use question::Reading;
 use question::read_question;
@@ -118,7 +120,7 @@ fn behind_question(
     work: &mut [i64],
     answer: &mut [u8],
 ) -> Outcome
-    requires { ⌜ StandsTo (now ticket) s at × (at + 6 ≤ length (now ticket)) × (length (now ticket) ≤ ticketBytes) × (r ≤ at) ⌝ }
+    requires { ⌜ StandsTo (checkingManner .greatest) (now ticket) s at × (at + 6 ≤ length (now ticket)) × (length (now ticket) ≤ ticketBytes) × (s .constraints ≤ factLimit) × (r ≤ at) ⌝ }
     requires { ⌜ (workNumbers ≤ length (now work)) × (answerBytes ≤ length (now answer)) ⌝ }
     ensures { λ o. ⌜ Decided (claimedFrom (now (ticket .entry)) s at r) (now (answer .entry)) (now (answer .exit)) o ⌝ }
 {
@@ -139,7 +141,7 @@ fn decide(ticket: &[u8], work: &mut [i64], answer: &mut [u8]) -> Outcome
     requires { ⌜ (workNumbers ≤ length (now work)) × (answerBytes ≤ length (now answer)) ⌝ }
     ensures { λ o. ⌜ Decided (readWhole (now (ticket .entry))) (now (answer .entry)) (now (answer .exit)) o ⌝ }
 {
-    match read_question(ticket) {
+    match read_question(CHECKING, ticket) {
         Reading::Stopped(c, r) => Outcome::Refused(c, r),
         Reading::Ended(s, at, r) => behind_question(ticket, s, at, r, work, answer),
     }

@@ -2,7 +2,7 @@
 use Prim.Native.Nat.{ℕ, zero, suc, _+_, _-_, _/_, _%_, _≤_, _<_}
 use native.Mathlib.Omega.{arith}
 use native.Mathlib.Decide.{ℕ-discrete}
-use mathlib.Core.Path.{_≡_, refl, sym, _∙_, ap, ap₂}
+use mathlib.Core.Path.{_≡_, refl, _∙_, ap, ap₂}
 use mathlib.Core.Bool.{Bool, true, _&&_, cond}
 use mathlib.Core.List.{List, [], _∷_}
 use borrow.Author.Tests.{ltb-true, eq-eqb, ne-eqb, le-leb, lt-ltb}
@@ -13,29 +13,12 @@ use Rattle.lists.proofs.Tests.{and-both}
 use Rattle.calculus.specs.Limits.{variableLimit, literalLimit, columnLimit, numberLimit}
 use Rattle.calculus.specs.LinearForms.{zeros}
 use Rattle.format.specs.Fields.{u16, i32, pairsAt, within, allWithin}
-use Rattle.format.specs.Records.{size, kind, need}
-use Rattle.format.specs.Question.{stringRange, stringFact, stringFault, coefficientInRange, pairInRange, rising, formRange, fillCoefficients, formOf, arithmeticFault, constraintOf}
+use Rattle.format.specs.Records.{need}
+use Rattle.format.specs.Question.{stringRange, stringFact, stringFault, coefficientInRange, pairInRange, rising, formRange, fillCoefficients, formOf, arithmeticFault, constraintFault, constraintOf}
 use Rattle.format.specs.Checking.{factWithin}
 use Rattle.format.proofs.Faults.{passed}
-use Rattle.format.proofs.RecordFaults.{StringConstraint, string-constraint-formed, ArithmeticConstraint, arithmetic-constraint-formed}
+use Rattle.format.proofs.RecordFaults.{StringConstraint, ArithmeticConstraint, Constraint, on-strings, on-columns, constraint-formed}
 use Rattle.format.proofs.Sums.{ranged}
-use Rattle.question.specs.Standing.{ConstraintAt}
-use Rattle.constraints.specs.Constraints.{constraintFault}
-
--- ---- by the kind
-
-module _ (b : List ℕ) (k at m : ℕ) (h : constraintFault b k at m ≡ 0) where
-  pub string-ranges : k ≡ 3 → StringConstraint variableLimit literalLimit m (u16 b at) (u16 b (at + 2)) (u16 b (at + 4))
-  unfolding constraintFault
-  string-ranges e =
-      let f : stringFault b variableLimit literalLimit at m ≡ 0 = ap (λ t. cond t (stringFault b variableLimit literalLimit at m) (arithmeticFault b columnLimit at m)) (sym (eq-eqb k 3 e)) ∙ h in
-      string-constraint-formed b variableLimit literalLimit at m f
-
-  pub form-ranges : (k ≡ 3 → ⊥) → ArithmeticConstraint b columnLimit at m
-  unfolding constraintFault
-  form-ranges e =
-      let f : arithmeticFault b columnLimit at m ≡ 0 = ap (λ t. cond t (stringFault b variableLimit literalLimit at m) (arithmeticFault b columnLimit at m)) (sym (ne-eqb k 3 e)) ∙ h in
-      arithmetic-constraint-formed b columnLimit at m f
 
 -- the second operand is small whatever the relation
 pub second-small : {m r x y : ℕ} → StringConstraint variableLimit literalLimit m r x y → y < 16
@@ -44,13 +27,6 @@ second-small {m} {r} {x} {y} c = go (ℕ-discrete r 2)
     go : Dec (r ≡ 2) → y < 16
     go (yes e) = omega (arith, c .literal e)
     go (no e) = c .second e
-
-pub body-long : (b : List ℕ) (k at m : ℕ) → constraintFault b k at m ≡ 0 → 6 ≤ m
-body-long b k at m h = go (ℕ-discrete k 3)
-  where
-    go : Dec (k ≡ 3) → 6 ≤ m
-    go (yes e) = omega (arith, string-ranges b k at m h e .six)
-    go (no e) = form-ranges b k at m h e .at-least
 
 -- ---- the numbers of a constraint
 
@@ -84,12 +60,12 @@ string-within zero x y = refl
 string-within (suc zero) x y = refl
 string-within (suc (suc r)) x y = refl
 
-pub constraint-within : (b : List ℕ) (k at m : ℕ) → constraintFault b k at m ≡ 0 → factWithin (constraintOf b k at m) ≡ true
-constraint-within b k at m h = go (ℕ-discrete k 3)
+pub constraint-within : (b : List ℕ) (p l c k at m : ℕ) → constraintFault b p l c k at m ≡ 0 → factWithin (constraintOf b k at m) ≡ true
+constraint-within b p l c k at m h = go (constraint-formed b p l c k at m h)
   where
-    go : Dec (k ≡ 3) → factWithin (constraintOf b k at m) ≡ true
-    go (yes e) = rw (eq-eqb k 3 e) (string-within (u16 b at) (u16 b (at + 2)) (u16 b (at + 4)))
-    go (no e) = rw (ne-eqb k 3 e) (form-within b columnLimit (at + 2) (m / 6 - 1) (form-ranges b k at m h e .in-range))
+    go : Constraint b p l c k at m → factWithin (constraintOf b k at m) ≡ true
+    go (on-strings e s i) = ap factWithin i ∙ string-within (u16 b at) (u16 b (at + 2)) (u16 b (at + 4))
+    go (on-columns e s i) = ap factWithin i ∙ form-within b c (at + 2) (m / 6 - 1) (s .in-range)
 
 -- ---- from the question's own variables, literals and columns
 
@@ -114,27 +90,26 @@ string-range-more {p} {l} {m} {r} {x} {y} h g c = ap₂ _&&_ (le-leb r 2 (c .rel
     second (yes e) = rw (eq-eqb r 2 e) (le-leb y literalLimit (omega (arith, c .literal e)))
     second (no e) = rw (ne-eqb r 2 e) (lt-ltb y variableLimit (omega (arith, c .second e)))
 
-string-more : (b : List ℕ) (p l at m : ℕ) → l ≤ literalLimit → p ≤ variableLimit → stringFault b p l at m ≡ 0 → stringFault b variableLimit literalLimit at m ≡ 0
-string-more b p l at m h g f =
-    let c = string-constraint-formed b p l at m f in
+string-more : (b : List ℕ) (p l at m : ℕ) → l ≤ literalLimit → p ≤ variableLimit → StringConstraint p l m (u16 b at) (u16 b (at + 2)) (u16 b (at + 4))
+    → stringFault b variableLimit literalLimit at m ≡ 0
+string-more b p l at m h g c =
     let range : Bool = stringRange variableLimit literalLimit (u16 b at) (u16 b (at + 2)) (u16 b (at + 4)) in
     passed 5 (eqb m 6) (need 6 range 0) (eq-eqb m 6 (c .six)) ∙ passed 6 range 0 (string-range-more h g c)
 
-form-more : (b : List ℕ) (c at m : ℕ) → c ≤ columnLimit → arithmeticFault b c at m ≡ 0 → arithmeticFault b columnLimit at m ≡ 0
-form-more b c at m h f =
-    let a = arithmetic-constraint-formed b c at m f in
+form-more : (b : List ℕ) (c at m : ℕ) → c ≤ columnLimit → ArithmeticConstraint b c at m → arithmeticFault b columnLimit at m ≡ 0
+form-more b c at m h a =
     let constant = and-both (within numberLimit (i32 b (at + 2))) (rising c 0 (pairsAt b (at + 2 + 4) (m / 6 - 1))) (a .in-range) .0 in
     let range : Bool = leb (u16 b at) 2 && formRange b columnLimit (at + 2) (m / 6 - 1) in
     passed 5 (leb 6 m && (eqb (m % 6) 0 && leb (m / 6) (suc columnLimit))) (need 6 range 0)
     (ap₂ _&&_ (le-leb 6 m (a .at-least)) (ap₂ _&&_ (eq-eqb (m % 6) 0 (a .pairs-whole)) (le-leb (m / 6) (suc columnLimit) (a .few-pairs))))
     ∙ passed 6 range 0 (ap₂ _&&_ (le-leb (u16 b at) 2 (a .relation)) (ap₂ _&&_ constant (form-rises b c (at + 2) (m / 6 - 1) h (a .in-range))))
 
--- a constraint of a question that stands
-pub constraint-formed : (b : List ℕ) (p q l at : ℕ) → p ≤ variableLimit → q ≤ variableLimit → l ≤ literalLimit → ConstraintAt b p q l at
-    → constraintFault b (kind b at) (at + 6) (size b at) ≡ 0
+-- a constraint over a question's own variables, literals and columns, over as many as there may be
+pub constraint-more : (b : List ℕ) (p l c k at m : ℕ) → p ≤ variableLimit → l ≤ literalLimit → c ≤ columnLimit → constraintFault b p l c k at m ≡ 0
+    → constraintFault b variableLimit literalLimit columnLimit k at m ≡ 0
 unfolding constraintFault
-constraint-formed b p q l at hp hq hl c = go (ℕ-discrete (kind b at) 3)
+constraint-more b p l c k at m hp hl hc h = go (constraint-formed b p l c k at m h)
   where
-    go : Dec (kind b at ≡ 3) → constraintFault b (kind b at) (at + 6) (size b at) ≡ 0
-    go (yes e) = rw (eq-eqb _ _ e) (string-more b p l (at + 6) (size b at) hl hp (c .string-formed e))
-    go (no e) = rw (ne-eqb _ _ e) (form-more b (q + (p + p)) (at + 6) (size b at) (omega arith) (c .arithmetic-formed (omega (arith, c .at-least, c .at-most))))
+    go : Constraint b p l c k at m → constraintFault b variableLimit literalLimit columnLimit k at m ≡ 0
+    go (on-strings e s i) = rw e (string-more b p l at m hl hp s)
+    go (on-columns e s i) = rw e (form-more b c at m hc s)

@@ -4,14 +4,16 @@ ghost use mathlib.Core.Bool.{true};
 ghost use mathlib.Core.List.{[], _∷_, _++_};
 ghost use Prim.Native.Nat.{_+_, _*_, _≤_, _<_};
 ghost use lib.ListN.{length};
-ghost use Rattle.calculus.specs.Limits.{columnLimit, factLimit, workNumbers};
+ghost use Rattle.calculus.specs.Limits.{variableLimit, literalLimit, columnLimit, factLimit, workNumbers};
 ghost use Rattle.calculus.specs.Facts.{arithmetic};
 ghost use Rattle.format.specs.Fields.{pairsAt};
-ghost use Rattle.format.specs.Question.{rising, relationOf, formOf, constraintOf};
+ghost use Rattle.format.specs.Question.{rising, relationOf, formOf, constraintFault, constraintOf};
 ghost use Rattle.rows.specs.Rows.{rowLength, factOf, branchOf};
 ghost use Rattle.rows.specs.Work.{Fine};
 ghost use Rattle.question.specs.Posed.{asked, Posed};
-ghost use Rattle.constraints.specs.Constraints.{constraintFault};
+use encoding::KIND_ARITHMETIC;
+use encoding::KIND_STRING;
+use encoding::RECORD_HEAD;
 use limits::ROW_LENGTH;
 use question::Progress;
 
@@ -47,20 +49,22 @@ fn put_form(work: &mut [i64], k: usize, b: &[u8], relation: usize, at: usize, pa
     fill_form(&mut work[from..to], b, relation, at, pairs);
 }
 
-// The constraint of a record of kind 3 or 4, by its body, behind the first k facts.
+// The constraint of a record, by its kind and body, behind the first k facts. A kind that is no constraint's does not come here.
 fn put_constraint(work: &mut [i64], k: usize, b: &[u8], kind: usize, at: usize, size: usize)
     requires { ⌜ (k < factLimit) × (workNumbers ≤ length (now work)) ⌝ }
-    requires { ⌜ (at + size ≤ length (now b)) × (constraintFault (now b) kind at size ≡ 0) ⌝ }
+    requires { ⌜ (at + size ≤ length (now b)) × (constraintFault (now b) variableLimit literalLimit columnLimit kind at size ≡ 0) ⌝ }
     ensures { λ _. ⌜ branchOf (now (work .exit)) (k + 1) ≡ branchOf (now (work .entry)) k ++ (constraintOf (now (b .entry)) kind at size ∷ []) ⌝ }
 {
     let relation = records::u16_at(b, at);
-    if kind == 3 {
-        let x = records::u16_at(b, at + 2);
-        let y = records::u16_at(b, at + 4);
-        rows::put_string(work, k, relation, x, y);
-        return;
+    match kind {
+        KIND_STRING => {
+            let x = records::u16_at(b, at + 2);
+            let y = records::u16_at(b, at + 4);
+            rows::put_string(work, k, relation, x, y);
+        }
+        KIND_ARITHMETIC => put_form(work, k, b, relation, at + 2, size / 6 - 1),
+        _ => {}
     }
-    put_form(work, k, b, relation, at + 2, size / 6 - 1);
 }
 
 // "Its constraints are facts 0, 1 and on": each goes into its row, in the order of the records.
@@ -75,8 +79,8 @@ pub fn load(ticket: &[u8], s: Progress, work: &mut [i64])
     while k < count {
         let size = records::u32_at(ticket, at);
         let kind = records::u16_at(ticket, at + 4);
-        put_constraint(work, k, ticket, kind, at + 6, size);
-        at = at + 6 + size;
+        put_constraint(work, k, ticket, kind, at + RECORD_HEAD, size);
+        at = at + RECORD_HEAD + size;
         k += 1;
     }
 }

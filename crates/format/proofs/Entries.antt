@@ -1,7 +1,7 @@
 -- A record of a question that has no fault of its form: a head, a literal or a constraint, each of which leaves the question in range.
 use Prim.Native.Nat.{ℕ, zero, suc, _+_, _*_, _-_, _/_, _%_, _<_, _≤_}
 use native.Mathlib.Omega.{arith}
-use mathlib.Core.Path.{_≡_, refl, sym, ap}
+use mathlib.Core.Path.{_≡_, refl, sym, ap, subst}
 use mathlib.Core.Logic.{_≢_, inl, inr}
 use mathlib.Core.Bool.{Bool, true, false, not, _&&_, _||_, cond}
 use mathlib.Core.List.{List, [], _∷_, _++_}
@@ -18,11 +18,11 @@ use Rattle.calculus.specs.Strings.{given}
 use Rattle.calculus.proofs.InRange.{HeadInRange, FactInRange, FactsInRange}
 use Rattle.calculus.proofs.Words.{over→, →given}
 use Rattle.format.specs.Fields.{u16, u32s}
-use Rattle.format.specs.Records.{size, kind, whole, need}
-use Rattle.format.specs.Question.{Progress, withLiteral, withFact, headFault, headOf, textOf, literalFault, stringFact, stringFault, formOf, relationOf, arithmeticFault, inPlace, questionBodyFault, formFault, questionAdvanced}
+use Rattle.format.specs.Records.{size, kind, need}
+use Rattle.format.specs.Question.{headRank, literalRank, rankOf, Progress, withLiteral, withFact, headFault, headOf, textOf, literalFault, stringFact, constraintFault, constraintOf, rankInPlace, formFault, questionAdvanced}
 use Rattle.format.proofs.Faults.{none-applies}
 use Rattle.format.proofs.Fields.{length-u32s, length-form}
-use Rattle.format.proofs.RecordFaults.{head-formed, StringConstraint, string-constraint-formed}
+use Rattle.format.proofs.RecordFaults.{passed, head-first, behind-head, head-formed, StringConstraint, Constraint, on-strings, on-columns, constraint-formed}
 
 not-empty : (b : List ℕ) (at k : ℕ) → 1 ≤ k → [] ≢ u32s b at k
 not-empty b at k h e = omega (arith, ap length e, length-u32s b at k)
@@ -112,60 +112,45 @@ string-in-range u m (suc zero) x y c = (c .first, c .second (λ e. omega arith))
 string-in-range u m (suc (suc zero)) x y c = (c .first, c .literal refl)
 string-in-range u m (suc (suc (suc r))) x y c = absurd (omega (arith, c .relation))
 
+-- a constraint's body without fault
+constraint-in-range : (b : List ℕ) (u : Question) (k at m : ℕ) → Constraint b (u .p) (length (u .literals)) (columnCount u) k at m → FactInRange u (constraintOf b k at m)
+constraint-in-range b u k at m (on-strings e c i) = subst (FactInRange u) (sym i) (string-in-range u m (u16 b at) (u16 b (at + 2)) (u16 b (at + 4)) c)
+constraint-in-range b u k at m (on-columns e c i) = subst (FactInRange u) (sym i) (length-form b (at + 2) (m / 6 - 1))
+
 -- ---- one record
 
 -- a record that the question v stands behind, where s was read before it
 pub data Entry (b : List ℕ) (s : Progress) (at : ℕ) (v : Question) : Type 0 where
-  head : kind b at ≡ 1 → s .last ≡ 0 → length (v .constraints) ≡ 0 → QuestionInRange v → Entry b s at v
-  literal : kind b at ≡ 2 → 1 ≤ s .last → length (v .constraints) ≡ length (s .question .constraints) → (QuestionInRange (s .question) → QuestionInRange v) → Entry b s at v
-  constraint : 3 ≤ kind b at → 1 ≤ s .last → length (v .constraints) ≡ suc (length (s .question .constraints)) → (QuestionInRange (s .question) → QuestionInRange v) → Entry b s at v
+  head : rankOf (kind b at) ≡ headRank → s .last ≡ 0 → length (v .constraints) ≡ 0 → QuestionInRange v → Entry b s at v
+  literal : rankOf (kind b at) ≡ literalRank → headRank ≤ s .last → length (v .constraints) ≡ length (s .question .constraints) → (QuestionInRange (s .question) → QuestionInRange v) → Entry b s at v
+  constraint : literalRank < rankOf (kind b at) → headRank ≤ s .last → length (v .constraints) ≡ suc (length (s .question .constraints)) → (QuestionInRange (s .question) → QuestionInRange v) → Entry b s at v
 
-module _ (b : List ℕ) (s : Progress) (at : ℕ) where
+module _ (greatest : ℕ) (b : List ℕ) (s : Progress) (at : ℕ) where
   abbrev u : Question
   u = s .question
 
-  -- the literals are few where a literal comes
-  abbrev few : Bool → Bool
-  few y = not y || ltb (length (u .literals)) literalLimit
+  abbrev r : ℕ
+  r = rankOf (kind b at)
 
-  abbrev behindHead : Bool → Bool
-  behindHead y = leb 1 (s .last) && (leb 2 (kind b at) && (leb (s .last) (kind b at) && (leb (kind b at) 4 && few y)))
+  abbrev m : ℕ
+  m = size b at
 
-  behind : (y : Bool) → behindHead y ≡ true → (1 ≤ s .last) × (2 ≤ kind b at) × (few y ≡ true)
-  behind y e =
-      let a1 = and-both (leb 1 (s .last)) (leb 2 (kind b at) && (leb (s .last) (kind b at) && (leb (kind b at) 4 && few y))) e in
-      let a2 = and-both (leb 2 (kind b at)) (leb (s .last) (kind b at) && (leb (kind b at) 4 && few y)) (a1 .1) in
-      let a4 = and-both (leb (kind b at) 4) (few y) (and-both (leb (s .last) (kind b at)) (leb (kind b at) 4 && few y) (a2 .1) .1) in
-      (leb-true 1 (s .last) (a1 .0), leb-true 2 (kind b at) (a2 .0), a4 .1)
+  abbrev fact : Fact
+  fact = constraintOf b (kind b at) (at + 6) m
 
-  three : (y : Bool) → eqb (kind b at) 2 ≡ false → behindHead y ≡ true → (1 ≤ s .last) × (3 ≤ kind b at)
-  three y q t = let (l, k, _) = behind y t in (l, omega (arith, eqb-false (kind b at) 2 q))
+  -- by the tests of the record's rank
+  by-rank : (x y : Bool) → eqb r headRank ≡ x → eqb r literalRank ≡ y → rankInPlace greatest (s .last) (length (u .literals)) r ≡ true
+      → cond x (headFault b (at + 6) m) (cond y (literalFault b (u .n) (u .literals) (at + 6) m) (constraintFault b (u .p) (length (u .literals)) (columnCount u) (kind b at) (at + 6) m)) ≡ 0
+      → Entry b s at (cond x (headOf b (at + 6)) (cond y (withLiteral u (textOf b (at + 6) m)) (withFact u fact)))
+  by-rank true y p q t e = head (eqb-true _ _ p) (head-first greatest (s .last) (length (u .literals)) r t (eqb-true _ _ p)) refl (head-in-range b (at + 6) m e)
+  by-rank false true p q t e =
+      let w = behind-head greatest (s .last) (length (u .literals)) r t (eqb-false _ _ p) in
+      literal (eqb-true _ _ q) (w .head-read) refl (λ d. literal-in-range b u (at + 6) m d (w .few-literals (eqb-true _ _ q)) e)
+  by-rank false false p q t e =
+      let w = behind-head greatest (s .last) (length (u .literals)) r t (eqb-false _ _ p) in
+      constraint (omega (arith, w .at-least, eqb-false r literalRank q)) (w .head-read) (omega (arith, length-append (u .constraints) (fact ∷ [])))
+      (λ d. fact-in-range u fact d (constraint-in-range b u (kind b at) (at + 6) m (constraint-formed b _ _ _ _ _ _ e)))
 
-  more : (f : Fact) → length (u .constraints ++ (f ∷ [])) ≡ suc (length (u .constraints))
-  more f = omega (arith, length-append (u .constraints) (f ∷ []))
-
-  -- by the tests of the record's kind
-  by-kind : (x y z : Bool) → eqb (kind b at) 1 ≡ x → eqb (kind b at) 2 ≡ y → cond x (eqb (s .last) 0) (behindHead y) ≡ true
-      → cond x (headFault b (at + 6) (size b at)) (cond y (literalFault b (u .n) (u .literals) (at + 6) (size b at)) (cond z (stringFault b (u .p) (length (u .literals)) (at + 6) (size b at)) (arithmeticFault b (columnCount u) (at + 6) (size b at)))) ≡ 0
-      → Entry b s at (cond x (headOf b (at + 6)) (cond y (withLiteral u (textOf b (at + 6) (size b at))) (withFact u
-      (cond z (stringFact (u16 b (at + 6)) (u16 b (at + 6 + 2)) (u16 b (at + 6 + 4))) (arithmetic (relationOf (u16 b (at + 6))) (formOf b (at + 6 + 2) (size b at / 6 - 1)))))))
-  by-kind true y z p q t e = head (eqb-true _ _ p) (eqb-true _ _ t) refl (head-in-range b (at + 6) (size b at) e)
-  by-kind false true z p q t e =
-      let (l, _, f) = behind true t in
-      literal (eqb-true _ _ q) l refl (λ d. literal-in-range b u (at + 6) (size b at) d (ltb-true _ _ f) e)
-  by-kind false false true p q t e =
-      let (l, k) = three false q t in
-      let f : Fact = stringFact (u16 b (at + 6)) (u16 b (at + 6 + 2)) (u16 b (at + 6 + 4)) in
-      let c = string-constraint-formed b (u .p) (length (u .literals)) (at + 6) (size b at) e in
-      constraint k l (more f) (λ d. fact-in-range u f d (string-in-range u (size b at) (u16 b (at + 6)) (u16 b (at + 6 + 2)) (u16 b (at + 6 + 4)) c))
-  by-kind false false false p q t e =
-      let (l, k) = three false q t in
-      let f : Fact = arithmetic (relationOf (u16 b (at + 6))) (formOf b (at + 6 + 2) (size b at / 6 - 1)) in
-      constraint k l (more f) (λ d. fact-in-range u f d (length-form b (at + 6 + 2) (size b at / 6 - 1)))
-
-  pub entry : formFault b s at ≡ 0 → Entry b s at (questionAdvanced b s at .question)
-  unfolding formFault questionAdvanced
-  entry e =
-      let body : ℕ = questionBodyFault b u (kind b at) (at + 6) (size b at) in
-      let a4 = none-applies 3 (inPlace s (kind b at)) body (none-applies 2 (whole b at) (need 4 (inPlace s (kind b at)) body) e .1) in
-      by-kind (eqb (kind b at) 1) (eqb (kind b at) 2) (eqb (kind b at) 3) refl refl (a4 .0) (a4 .1)
+  pub entry : formFault greatest b s at ≡ 0 → Entry b s at (questionAdvanced b s at .question)
+  unfolding questionAdvanced
+  entry e = let w = passed greatest b s at e in by-rank (eqb r headRank) (eqb r literalRank) refl refl (w .in-place) (w .body-formed)

@@ -8,9 +8,10 @@ use mathlib.Core.List.{List, [], _∷_, _++_}
 use lib.ListN.{length, getD}
 use lib.Dec.{eqb}
 use Rattle.lists.proofs.Lists.{placeAfter-suc, length-valuesAlong, getD-valuesAlong, valuesAlong-snoc, down}
+use Rattle.calculus.specs.Facts.{Question}
 use Rattle.format.specs.Fields.{u16, u32}
 use Rattle.format.specs.Records.{size, kind, next}
-use Rattle.format.specs.Question.{Progress, withLiteral, withFact, headOf, textOf, constraintOf, extended, questionAdvanced}
+use Rattle.format.specs.Question.{headRank, literalRank, rankOf, byRank, Progress, withLiteral, withFact, headOf, textOf, questionAdvanced}
 use Rattle.format.specs.Places.{skip, texts, constraintsAt, literalsFrom, readTo, textAt, constraintAt}
 
 -- ---- positions
@@ -75,28 +76,38 @@ constraints-snoc b k at = valuesAlong-snoc (next b) (constraintAt b) at k
 
 -- ---- the head, a literal and a constraint move the numbers only
 
-pub read-head : (b : List ℕ) (s : Progress) (at : ℕ) → kind b at ≡ 1 → readTo b 1 (u32 b (at + 6)) (u16 b (at + 6 + 4)) (u16 b (at + 6 + 6)) 0 0 ≡ questionAdvanced b s at
+pub read-head : (b : List ℕ) (s : Progress) (at : ℕ) → rankOf (kind b at) ≡ headRank
+    → readTo b headRank (u32 b (at + 6)) (u16 b (at + 6 + 4)) (u16 b (at + 6 + 6)) 0 0 ≡ questionAdvanced b s at
 unfolding questionAdvanced texts constraintsAt
-read-head b s at e = sym (ap (λ k. record { last = k; question = extended b (s .question) k (at + 6) (size b at) }) e)
+read-head b s at e =
+    let u : Question = s .question in
+    sym (ap (λ r. record {
+      last = r;
+      question = byRank r (headOf b (at + 6)) (withLiteral u (textOf b (at + 6) (size b at))) (withFact u (constraintAt b at));
+    }) e)
 
-pub read-literal : (b : List ℕ) (last n p q k at : ℕ) → kind b at ≡ 2 → at ≡ skip b k literalsFrom → readTo b 2 n p q (k + 1) 0 ≡ questionAdvanced b (readTo b last n p q k 0) at
+pub read-literal : (b : List ℕ) (last n p q k at : ℕ) → rankOf (kind b at) ≡ literalRank → at ≡ skip b k literalsFrom
+    → readTo b literalRank n p q (k + 1) 0 ≡ questionAdvanced b (readTo b last n p q k 0) at
 unfolding questionAdvanced constraintsAt
 read-literal b last n p q k at e g =
-    ap (λ ts. record { last = 2; question = record { n = n; p = p; q = q; literals = ts; constraints = [] } }) (ap (λ m. texts b m literalsFrom) (add-one k) ∙ texts-snoc b k literalsFrom)
-    ∙ sym (ap (λ z. record { last = z; question = extended b (readTo b last n p q k 0 .question) z (at + 6) (size b at) }) e
-    ∙ ap (λ z. record { last = 2; question = withLiteral (readTo b last n p q k 0 .question) (textOf b (z + 6) (size b z)) }) g)
+    let u : Question = readTo b last n p q k 0 .question in
+    ap (λ ts. record { last = literalRank; question = record { n = n; p = p; q = q; literals = ts; constraints = [] } }) (ap (λ m. texts b m literalsFrom) (add-one k) ∙ texts-snoc b k literalsFrom)
+    ∙ sym (ap (λ r. record {
+      last = r;
+      question = byRank r (headOf b (at + 6)) (withLiteral u (textOf b (at + 6) (size b at))) (withFact u (constraintAt b at));
+    }) e
+    ∙ ap (λ z. record { last = literalRank; question = withLiteral u (textOf b (z + 6) (size b z)) }) g)
 
-pub read-constraint : (b : List ℕ) (last n p q k m at : ℕ) → eqb (kind b at) 1 ≡ false → eqb (kind b at) 2 ≡ false → at ≡ skip b m (skip b k literalsFrom)
-    → readTo b (kind b at) n p q k (m + 1) ≡ questionAdvanced b (readTo b last n p q k m) at
+pub read-constraint : (b : List ℕ) (last n p q k m at : ℕ) → eqb (rankOf (kind b at)) headRank ≡ false → eqb (rankOf (kind b at)) literalRank ≡ false → at ≡ skip b m (skip b k literalsFrom)
+    → readTo b (rankOf (kind b at)) n p q k (m + 1) ≡ questionAdvanced b (readTo b last n p q k m) at
 unfolding questionAdvanced
 read-constraint b last n p q k m at x y g =
-    ap (λ fs. record { last = kind b at; question = record { n = n; p = p; q = q; literals = texts b k literalsFrom; constraints = fs } })
+    let u : Question = readTo b last n p q k m .question in
+    let r : ℕ = rankOf (kind b at) in
+    ap (λ fs. record { last = r; question = record { n = n; p = p; q = q; literals = texts b k literalsFrom; constraints = fs } })
     (ap (λ j. constraintsAt b j (skip b k literalsFrom)) (add-one m) ∙ constraints-snoc b m (skip b k literalsFrom))
     ∙ sym (ap₂ (λ v w. record {
-      last = kind b at;
-      question = cond v (headOf b (at + 6)) (cond w (withLiteral (readTo b last n p q k m .question) (textOf b (at + 6) (size b at))) (withFact (readTo b last n p q k m .question) (constraintOf b (kind b at) (at + 6) (size b at))));
+      last = r;
+      question = cond v (headOf b (at + 6)) (cond w (withLiteral u (textOf b (at + 6) (size b at))) (withFact u (constraintAt b at)));
     }) x y
-    ∙ ap (λ z. record {
-      last = kind b at;
-      question = withFact (readTo b last n p q k m .question) (constraintOf b (kind b z) (z + 6) (size b z));
-    }) g)
+    ∙ ap (λ z. record { last = r; question = withFact u (constraintAt b z) }) g)

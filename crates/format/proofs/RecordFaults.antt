@@ -10,92 +10,99 @@ use borrow.Author.Tests.{ltb-true, leb-true, eqb-true, le-leb, lt-leb, eq-eqb, n
 use Rattle.lists.proofs.Tests.{and-both}
 use Rattle.calculus.specs.Limits.{alphabetLimit, variableLimit, literalLimit, lengthLimit, columnLimit}
 use Rattle.calculus.specs.Alphabet.{allCharacters}
+use Rattle.calculus.specs.Facts.{arithmetic}
 use Rattle.calculus.specs.Strings.{given}
 use Rattle.format.specs.Fields.{u16, u32}
 use Rattle.format.specs.Records.{size, kind, next, whole, need}
-use Rattle.format.specs.Question.{Progress, headRange, headFault, textOf, literalFault, stringRange, stringFault, formRange, arithmeticFault, kindInPlace, inPlace, questionBodyFault, formFault, roomFor, orCrowded, questionFault}
+use Rattle.format.specs.Question.{stringKind, arithmeticKind, headRank, literalRank, Progress, Manner, headRange, headFault, textOf, literalFault, stringRange, stringFact, stringFault, formRange, formOf, relationOf, arithmeticFault, constraintFault, constraintOf, rankInPlace, inPlace, questionBodyFault, formFault, findsRoom, orCrowded, questionFault}
 use Rattle.format.proofs.Faults.{none-applies}
 
--- ---- a whole record, of a kind k and a size m
+-- ---- a whole record, of a kind k and a size n
 
-module _ (b : List ℕ) (s : Progress) (at k m : ℕ) (ek : k ≡ kind b at) (em : m ≡ size b at) (h : at + 6 + m ≤ length b) where
-  abbrev numbered : ℕ
-  numbered = orCrowded (need 4 (inPlace s k) (questionBodyFault b (s .question) k (at + 6) m)) (roomFor (s .question) k)
+module _ (m : Manner) (b : List ℕ) (s : Progress) (at k n : ℕ) (ek : k ≡ kind b at) (en : n ≡ size b at) (h : at + 6 + n ≤ length b) where
+  abbrev body : ℕ
+  body = questionBodyFault b (s .question) k (at + 6) n
 
-  by-tests : numbered ≡ questionFault b s at
+  by-tests : orCrowded (need 4 (inPlace (m .greatest) s k) body) (findsRoom m s k) ≡ questionFault m b s at
   unfolding questionFault formFault
-  by-tests = rw (ek, em) (rw (le-leb (next b at) (length b) (rw em at h)))
+  by-tests = rw (ek, en) (rw (le-leb (next b at) (length b) (rw en at h)))
 
-  pub out-of-place : inPlace s k ≡ false → 4 ≡ questionFault b s at
-  out-of-place e = sym (ap (λ t. orCrowded (need 4 t (questionBodyFault b (s .question) k (at + 6) m)) (roomFor (s .question) k)) e) ∙ by-tests
+  pub out-of-place : inPlace (m .greatest) s k ≡ false → 4 ≡ questionFault m b s at
+  out-of-place e = sym (ap (λ t. orCrowded (need 4 t body) (findsRoom m s k)) e) ∙ by-tests
 
-  module _ (f : ℕ) (e : inPlace s k ≡ true) (ef : f ≡ questionBodyFault b (s .question) k (at + 6) m) where
-    by-body : orCrowded f (roomFor (s .question) k) ≡ questionFault b s at
-    by-body = ap (λ c. orCrowded c (roomFor (s .question) k)) ef
-        ∙ sym (ap (λ t. orCrowded (need 4 t (questionBodyFault b (s .question) k (at + 6) m)) (roomFor (s .question) k)) e) ∙ by-tests
+  module _ (f : ℕ) (e : inPlace (m .greatest) s k ≡ true) (ef : f ≡ questionBodyFault b (s .question) k (at + 6) n) where
+    by-body : orCrowded f (findsRoom m s k) ≡ questionFault m b s at
+    by-body = ap (λ c. orCrowded c (findsRoom m s k)) ef ∙ sym (ap (λ t. orCrowded (need 4 t body) (findsRoom m s k)) e) ∙ by-tests
 
-    pub ill-formed : (f ≡ 0 → ⊥) → f ≡ questionFault b s at
+    pub ill-formed : (f ≡ 0 → ⊥) → f ≡ questionFault m b s at
     ill-formed z = other f z ∙ by-body
       where
-        other : (f : ℕ) → (f ≡ 0 → ⊥) → f ≡ orCrowded f (roomFor (s .question) k)
+        other : (f : ℕ) → (f ≡ 0 → ⊥) → f ≡ orCrowded f (findsRoom m s k)
         other zero z = absurd (z refl)
         other (suc f) z = refl
 
-    pub by-room : (room : Bool) → f ≡ 0 → roomFor (s .question) k ≡ room → need 10 room 0 ≡ questionFault b s at
-    by-room room z e = sym (ap (λ t. need 10 t 0) e) ∙ sym (ap (λ c. orCrowded c (roomFor (s .question) k)) z) ∙ by-body
+    pub by-room : (room : Bool) → f ≡ 0 → findsRoom m s k ≡ room → need 10 room 0 ≡ questionFault m b s at
+    by-room room z e = sym (ap (λ t. need 10 t 0) e) ∙ sym (ap (λ c. orCrowded c (findsRoom m s k)) z) ∙ by-body
 
 -- ---- a record that is cut
 
-pub cut-short : (b : List ℕ) (s : Progress) (at : ℕ) → length b < next b at → questionFault b s at ≡ 3
+pub cut-short : (m : Manner) (b : List ℕ) (s : Progress) (at : ℕ) → length b < next b at → questionFault m b s at ≡ 3
 unfolding questionFault formFault
-cut-short b s at h = rw (lt-leb (next b at) (length b) h)
+cut-short m b s at h = rw (lt-leb (next b at) (length b) h)
 
 -- ---- no number applies
 
-pub record Passed (b : List ℕ) (s : Progress) (at : ℕ) : Type 0 where
-  pub all-there : next b at ≤ length b
-  pub in-place : inPlace s (kind b at) ≡ true
-  pub body-formed : questionBodyFault b (s .question) (kind b at) (at + 6) (size b at) ≡ 0
-  pub room : roomFor (s .question) (kind b at) ≡ true
-
-pub passed : (b : List ℕ) (s : Progress) (at : ℕ) → questionFault b s at ≡ 0 → Passed b s at
-unfolding questionFault formFault
-passed b s at e =
-    let body : ℕ = questionBodyFault b (s .question) (kind b at) (at + 6) (size b at) in
-    let (form, roomy) = uncrowded _ _ e in
-    let a3 = none-applies 2 (whole b at) (need 4 (inPlace s (kind b at)) body) form in
-    let a4 = none-applies 3 (inPlace s (kind b at)) body (a3 .1) in
-    record { all-there = leb-true _ _ (a3 .0); in-place = a4 .0; body-formed = a4 .1; room = roomy }
+-- the form has no fault, and the record finds room
+pub uncrowded : (m : Manner) (b : List ℕ) (s : Progress) (at : ℕ) → questionFault m b s at ≡ 0 → (formFault (m .greatest) b s at ≡ 0) × (findsRoom m s (kind b at) ≡ true)
+unfolding questionFault
+uncrowded m b s at e = go (formFault (m .greatest) b s at) e
   where
-    uncrowded : (c : ℕ) (r : Bool) → orCrowded c r ≡ 0 → (c ≡ 0) × (r ≡ true)
-    uncrowded zero r e = (refl, none-applies 9 r 0 e .0)
-    uncrowded (suc c) r e = absurd (omega arith)
+    go : (c : ℕ) → orCrowded c (findsRoom m s (kind b at)) ≡ 0 → (c ≡ 0) × (findsRoom m s (kind b at) ≡ true)
+    go zero e = (refl, none-applies 9 (findsRoom m s (kind b at)) 0 e .0)
+    go (suc c) e = absurd (omega arith)
 
--- a kind in its place: the head is the first, and others stand behind it
-pub record Behind (last literals k : ℕ) : Type 0 where
-  pub head-read : 1 ≤ last
-  pub at-least : 2 ≤ k
-  pub no-earlier : last ≤ k
-  pub at-most : k ≤ 4
-  pub few-literals : k ≡ 2 → literals < literalLimit
+pub →uncrowded : (m : Manner) (b : List ℕ) (s : Progress) (at : ℕ) → formFault (m .greatest) b s at ≡ 0 → findsRoom m s (kind b at) ≡ true → questionFault m b s at ≡ 0
+unfolding questionFault
+→uncrowded m b s at e r = ap (λ c. orCrowded c (findsRoom m s (kind b at))) e ∙ ap (λ x. need 10 x 0) r
 
-module _ (last literals k : ℕ) (e : kindInPlace last literals k ≡ true) where
-  pub head-first : k ≡ 1 → last ≡ 0
-  head-first h = eqb-true last 0 (rw (eq-eqb k 1 h) at e)
+pub record Passed (greatest : ℕ) (b : List ℕ) (s : Progress) (at : ℕ) : Type 0 where
+  pub all-there : next b at ≤ length b
+  pub in-place : inPlace greatest s (kind b at) ≡ true
+  pub body-formed : questionBodyFault b (s .question) (kind b at) (at + 6) (size b at) ≡ 0
 
-  pub behind-head : (k ≡ 1 → ⊥) → Behind last literals k
+pub passed : (greatest : ℕ) (b : List ℕ) (s : Progress) (at : ℕ) → formFault greatest b s at ≡ 0 → Passed greatest b s at
+unfolding formFault
+passed greatest b s at e =
+    let body : ℕ = questionBodyFault b (s .question) (kind b at) (at + 6) (size b at) in
+    let a3 = none-applies 2 (whole b at) (need 4 (inPlace greatest s (kind b at)) body) e in
+    let a4 = none-applies 3 (inPlace greatest s (kind b at)) body (a3 .1) in
+    record { all-there = leb-true _ _ (a3 .0); in-place = a4 .0; body-formed = a4 .1 }
+
+-- a rank in its place: the head is the first, and others stand behind it
+pub record Behind (greatest last literals r : ℕ) : Type 0 where
+  pub head-read : headRank ≤ last
+  pub at-least : literalRank ≤ r
+  pub no-earlier : last ≤ r
+  pub at-most : r ≤ greatest
+  pub few-literals : r ≡ literalRank → literals < literalLimit
+
+module _ (greatest last literals r : ℕ) (e : rankInPlace greatest last literals r ≡ true) where
+  pub head-first : r ≡ headRank → last ≡ 0
+  head-first h = eqb-true last 0 (rw (eq-eqb r headRank h) at e)
+
+  pub behind-head : (r ≡ headRank → ⊥) → Behind greatest last literals r
   behind-head h =
-      let few : Bool = not (eqb k 2) || ltb literals literalLimit in
-      let a1 = and-both (leb 1 last) (leb 2 k && (leb last k && (leb k 4 && few))) (rw (ne-eqb k 1 h) at e) in
-      let a2 = and-both (leb 2 k) (leb last k && (leb k 4 && few)) (a1 .1) in
-      let a3 = and-both (leb last k) (leb k 4 && few) (a2 .1) in
-      let a4 = and-both (leb k 4) few (a3 .1) in
+      let few : Bool = not (eqb r literalRank) || ltb literals literalLimit in
+      let a1 = and-both (leb headRank last) (leb literalRank r && (leb last r && (leb r greatest && few))) (rw (ne-eqb r headRank h) at e) in
+      let a2 = and-both (leb literalRank r) (leb last r && (leb r greatest && few)) (a1 .1) in
+      let a3 = and-both (leb last r) (leb r greatest && few) (a2 .1) in
+      let a4 = and-both (leb r greatest) few (a3 .1) in
       record {
         head-read = leb-true _ _ (a1 .0);
         at-least = leb-true _ _ (a2 .0);
         no-earlier = leb-true _ _ (a3 .0);
         at-most = leb-true _ _ (a4 .0);
-        few-literals = λ g. ltb-true literals literalLimit (rw (eq-eqb k 2 g) at (a4 .1));
+        few-literals = λ g. ltb-true literals literalLimit (rw (eq-eqb r literalRank g) at (a4 .1));
       }
 
 -- ---- a body without fault
@@ -186,3 +193,19 @@ arithmetic-constraint-formed b c at m e =
       relation = leb-true _ _ (r1 .0);
       in-range = r1 .1;
     }
+
+-- a constraint of kind k and what it says
+pub data Constraint (b : List ℕ) (p l c k at m : ℕ) : Type 0 where
+  on-strings : k ≡ stringKind → StringConstraint p l m (u16 b at) (u16 b (at + 2)) (u16 b (at + 4)) → constraintOf b k at m ≡ stringFact (u16 b at) (u16 b (at + 2)) (u16 b (at + 4))
+      → Constraint b p l c k at m
+  on-columns : k ≡ arithmeticKind → ArithmeticConstraint b c at m → constraintOf b k at m ≡ arithmetic (relationOf (u16 b at)) (formOf b (at + 2) (m / 6 - 1))
+      → Constraint b p l c k at m
+
+pub constraint-formed : (b : List ℕ) (p l c k at m : ℕ) → constraintFault b p l c k at m ≡ 0 → Constraint b p l c k at m
+unfolding constraintFault
+constraint-formed b p l c k at m e = go (eqb k stringKind) (eqb k arithmeticKind) refl refl e
+  where
+    go : (x y : Bool) → eqb k stringKind ≡ x → eqb k arithmeticKind ≡ y → cond x (stringFault b p l at m) (cond y (arithmeticFault b c at m) 4) ≡ 0 → Constraint b p l c k at m
+    go true y ex ey f = on-strings (eqb-true _ _ ex) (string-constraint-formed b p l at m f) (rw ex)
+    go false true ex ey f = on-columns (eqb-true _ _ ey) (arithmetic-constraint-formed b c at m f) (rw ex)
+    go false false ex ey f = absurd (omega arith)

@@ -6,11 +6,10 @@ use mathlib.Core.Option.{none, some}
 use mathlib.Core.List.{List}
 use Rattle.lists.specs.Lists.{all}
 use lib.ListN.{getElem?}
-use lib.Dec.{leb}
 use Rattle.calculus.specs.Facts.{Question, Fact, same, notSame, isLiteral, arithmetic, Branch, holds, literal}
 use Rattle.calculus.specs.Meaning.{Assignment, str, value}
 use Rattle.calculus.specs.Strings.{eqString}
-use Rattle.format.specs.Question.{Reading, Stopped, Ended, question}
+use Rattle.format.specs.Question.{Reading, Stopped, Ended, judgedQuestion, headRead}
 use Rattle.format.specs.Answer.{answerForm, outside, assignmentOf}
 
 -- Refused: the number and the record. Judged: the question, and the strings and integers of the answer.
@@ -28,10 +27,10 @@ judgeAnswer u v = elim (answerForm v (u .p) (u .q) 0) [
 -- "one with no head before it gives 4"
 abbrev pub judgeBehind : Reading → List ℕ → Judging
 judgeBehind (Stopped c r) v = Refused c r
-judgeBehind (Ended s at r) v = elim (leb 1 (s .last)) [ false ↦ Refused 4 r | true ↦ judgeAnswer (s .question) v ]
+judgeBehind (Ended s at r) v = elim (headRead s) [ false ↦ Refused 4 r | true ↦ judgeAnswer (s .question) v ]
 
 unfoldable pub judging : List ℕ → List ℕ → Judging
-judging b v = judgeBehind (question b) v
+judging b v = judgeBehind (judgedQuestion b) v
 
 -- ---- constraints
 

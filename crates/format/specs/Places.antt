@@ -28,7 +28,7 @@ constraintsAt b k at = valuesAlong (next b) (constraintAt b) at k
 abbrev pub literalsFrom : ℕ
 literalsFrom = 14
 
--- what was read, from numbers alone: the last kind, n, p and q, and how many literals and, behind them, constraints stand in the bytes.
+-- what was read, from numbers alone: the last rank, n, p and q, and how many literals and, behind them, constraints stand in the bytes.
 -- A loop that keeps these numbers keeps the question.
 abbrev pub readTo : List ℕ → ℕ → ℕ → ℕ → ℕ → ℕ → ℕ → Progress
 readTo b last n p q literals constraints = record {

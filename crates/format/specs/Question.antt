@@ -14,7 +14,52 @@ use Rattle.calculus.specs.Limits.{ticketBytes, alphabetLimit, variableLimit, li
 use Rattle.format.specs.Fields.{u16, u32, i32, u32s, pairsAt, within}
 use Rattle.format.specs.Records.{size, kind, whole, records, need}
 
--- what was read so far: the kind of the last record, 0 before the head, and the question
+-- ---- kinds and their order
+
+-- the kinds of the question's records
+abbrev pub headKind : ℕ
+headKind = 1
+
+abbrev pub literalKind : ℕ
+literalKind = 2
+
+abbrev pub stringKind : ℕ
+stringKind = 3
+
+abbrev pub arithmeticKind : ℕ
+arithmeticKind = 4
+
+-- "They stand in order of kind": the ranks of the records in this order; 0 stands before the head
+abbrev pub headRank : ℕ
+headRank = 1
+
+abbrev pub literalRank : ℕ
+literalRank = 2
+
+abbrev pub stringRank : ℕ
+stringRank = 3
+
+abbrev pub arithmeticRank : ℕ
+arithmeticRank = 4
+
+-- the rank of a kind, 0 for a kind that has no place in a question
+unfoldable pub rankOf : ℕ → ℕ
+rankOf k =
+    cond (eqb k headKind) headRank
+    (cond (eqb k literalKind) literalRank
+    (cond (eqb k stringKind) stringRank
+    (cond (eqb k arithmeticKind) arithmeticRank
+    0)))
+
+-- constraints stand behind the literals
+abbrev pub isConstraint : ℕ → Bool
+isConstraint r = ltb literalRank r
+
+-- by a record's rank: what holds for a head, for a literal, and for a constraint
+abbrev pub byRank : {A : Type 0} → ℕ → A → A → A → A
+byRank r head literal constraint = cond (eqb r headRank) head (cond (eqb r literalRank) literal constraint)
+
+-- what was read so far: the rank of the last record, 0 before the head, and the question
 pub record Progress : Type 0 where
   pub last : ℕ
   pub question : Question
@@ -98,51 +143,87 @@ arithmeticFault b c at m =
     need 5 (leb 6 m && (eqb (m % 6) 0 && leb (m / 6) (suc columnLimit)))
     (need 6 (leb (u16 b at) 2 && formRange b c (at + 2) (m / 6 - 1)) 0)
 
+-- ---- constraints by kind: a kind has one row in each of the two
+
+-- the first of 5 and 6 that applies to the body of a constraint of kind k, over p string variables, l literals besides the empty one and c columns; 4 for a
+-- kind that is no constraint's
+unfoldable pub constraintFault : List ℕ → ℕ → ℕ → ℕ → ℕ → ℕ → ℕ → ℕ
+constraintFault b p l c k at m =
+    cond (eqb k stringKind) (stringFault b p l at m)
+    (cond (eqb k arithmeticKind) (arithmeticFault b c at m)
+    4)
+
+-- what the body says where it has no fault
 abbrev pub constraintOf : List ℕ → ℕ → ℕ → ℕ → Fact
-constraintOf b k at m = cond (eqb k 3) (stringFact (u16 b at) (u16 b (at + 2)) (u16 b (at + 4))) (arithmetic (relationOf (u16 b at)) (formOf b (at + 2) (m / 6 - 1)))
+constraintOf b k at m =
+    cond (eqb k stringKind) (stringFact (u16 b at) (u16 b (at + 2)) (u16 b (at + 4)))
+    (arithmetic (relationOf (u16 b at)) (formOf b (at + 2) (m / 6 - 1)))
+
+-- ---- how a question is read
+
+pub record Manner : Type 0 where
+  -- whether 10 is looked for
+  pub limited : Bool
+  -- the greatest rank that is taken: a kind of a greater one is out of its place
+  pub greatest : ℕ
+
+-- "2 to 7 and 10 for the question": in checking and in judging
+abbrev pub checkingManner : Manner
+checkingManner = record { limited = true; greatest = arithmeticRank }
+
+abbrev pub judgingManner : Manner
+judgingManner = record { limited = true; greatest = arithmeticRank }
+
+-- proper form asks for "none of 2 to 7"
+abbrev pub formManner : Manner
+formManner = record { limited = false; greatest = arithmeticRank }
 
 -- ---- one record
 
--- "They stand in order of kind"; "4 when a kind is unknown or out of its place (a 16th literal .. included)": kind k behind the kind last
--- and so many literals
-abbrev pub kindInPlace : ℕ → ℕ → ℕ → Bool
-kindInPlace last literals k =
-    cond (eqb k 1) (eqb last 0) (leb 1 last && (leb 2 k && (leb last k && (leb k 4 && (not (eqb k 2) || ltb literals literalLimit)))))
+-- "They stand in order of kind"; "4 when a kind is unknown or out of its place (a 16th literal .. included)": a record of rank r behind the rank last and so
+-- many literals, where ranks up to the greatest are taken
+abbrev pub rankInPlace : ℕ → ℕ → ℕ → ℕ → Bool
+rankInPlace greatest last literals r =
+    cond (eqb r headRank) (eqb last 0)
+    (leb headRank last && (leb literalRank r && (leb last r && (leb r greatest && (not (eqb r literalRank) || ltb literals literalLimit)))))
 
-abbrev pub inPlace : Progress → ℕ → Bool
-inPlace s k = kindInPlace (s .last) (length (s .question .literals)) k
+abbrev pub inPlace : ℕ → Progress → ℕ → Bool
+inPlace greatest s k = rankInPlace greatest (s .last) (length (s .question .literals)) (rankOf k)
 
 -- the first of 5 to 7 that applies to a body of kind k, of m bytes at a position
 abbrev pub questionBodyFault : List ℕ → Question → ℕ → ℕ → ℕ → ℕ
 questionBodyFault b u k at m =
-    cond (eqb k 1) (headFault b at m)
-    (cond (eqb k 2) (literalFault b (u .n) (u .literals) at m)
-    (cond (eqb k 3) (stringFault b (u .p) (length (u .literals)) at m) (arithmeticFault b (columnCount u) at m)))
+    byRank (rankOf k)
+    (headFault b at m)
+    (literalFault b (u .n) (u .literals) at m)
+    (constraintFault b (u .p) (length (u .literals)) (columnCount u) k at m)
 
 -- the first of 3 to 7 that applies to the record at a position, 0 for none
-unfoldable pub formFault : List ℕ → Progress → ℕ → ℕ
-formFault b s at = need 3 (whole b at) (need 4 (inPlace s (kind b at)) (questionBodyFault b (s .question) (kind b at) (at + 6) (size b at)))
+unfoldable pub formFault : ℕ → List ℕ → Progress → ℕ → ℕ
+formFault greatest b s at = need 3 (whole b at) (need 4 (inPlace greatest s (kind b at)) (questionBodyFault b (s .question) (kind b at) (at + 6) (size b at)))
 
--- "At most 128 facts stand on a branch": a constraint finds room
-abbrev pub roomFor : Question → ℕ → Bool
-roomFor u k = leb k 2 || ltb (length (u .constraints)) factLimit
+-- "At most 128 facts stand on a branch": where 10 is looked for, a constraint must find room behind those before it
+abbrev pub roomFor : Bool → ℕ → ℕ → Bool
+roomFor limited r constraints = not limited || (not (isConstraint r) || ltb constraints factLimit)
+
+abbrev pub findsRoom : Manner → Progress → ℕ → Bool
+findsRoom m s k = roomFor (m .limited) (rankOf k) (length (s .question .constraints))
 
 -- 10 behind the numbers of the form
 abbrev pub orCrowded : ℕ → Bool → ℕ
 orCrowded zero room = need 10 room 0
 orCrowded (suc c) room = suc c
 
--- the first number that applies to the record at a position, 0 for none
-unfoldable pub questionFault : List ℕ → Progress → ℕ → ℕ
-questionFault b s at = orCrowded (formFault b s at) (roomFor (s .question) (kind b at))
+-- the first number that applies to the record at a position in a manner of reading, 0 for none
+unfoldable pub questionFault : Manner → List ℕ → Progress → ℕ → ℕ
+questionFault m b s at = orCrowded (formFault (m .greatest) b s at) (findsRoom m s (kind b at))
 
 -- the question after a record of kind k that has no fault
 abbrev pub extended : List ℕ → Question → ℕ → ℕ → ℕ → Question
-extended b u k at m =
-    cond (eqb k 1) (headOf b at) (cond (eqb k 2) (withLiteral u (textOf b at m)) (withFact u (constraintOf b k at m)))
+extended b u k at m = byRank (rankOf k) (headOf b at) (withLiteral u (textOf b at m)) (withFact u (constraintOf b k at m))
 
 unfoldable pub questionAdvanced : List ℕ → Progress → ℕ → Progress
-questionAdvanced b s at = record { last = kind b at; question = extended b (s .question) (kind b at) (at + 6) (size b at) }
+questionAdvanced b s at = record { last = rankOf (kind b at); question = extended b (s .question) (kind b at) (at + 6) (size b at) }
 
 -- ---- the whole question
 
@@ -170,16 +251,26 @@ readOn test b s r at = readFrom test b s r (records b at)
 unfoldable pub readBy : (List ℕ → Progress → ℕ → ℕ) → List ℕ → Reading
 readBy test b = elim (leb (length b) ticketBytes) [ false ↦ Stopped 2 0 | true ↦ readOn test b unread 0 0 ]
 
--- the question as checking and judging read it, with 10, and as proper form reads it, without
+-- the question as it is read in a manner
+abbrev pub readIn : Manner → List ℕ → Reading
+readIn m b = readBy (questionFault m) b
+
 abbrev pub question : List ℕ → Reading
-question b = readBy questionFault b
+question b = readIn checkingManner b
+
+abbrev pub judgedQuestion : List ℕ → Reading
+judgedQuestion b = readIn judgingManner b
 
 abbrev pub questionForm : List ℕ → Reading
-questionForm b = readBy formFault b
+questionForm b = readIn formManner b
+
+-- a head stands before
+abbrev pub headRead : Progress → Bool
+headRead s = leb headRank (s .last)
 
 abbrev pub questionIn : Reading → Option Question
 questionIn (Stopped c r) = none
-questionIn (Ended s at r) = cond (leb 1 (s .last)) (some (s .question)) none
+questionIn (Ended s at r) = cond (headRead s) (some (s .question)) none
 
 -- the question that bytes put: none without a head
 abbrev pub questionOf : List ℕ → Option Question

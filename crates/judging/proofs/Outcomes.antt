@@ -8,7 +8,7 @@ use lib.Dec.{leb}
 use borrow.Author.Tests.{le-leb, lt-leb}
 use native.Mathlib.Omega.{arith}
 use Rattle.calculus.specs.Facts.{Question}
-use Rattle.format.specs.Question.{Progress, Reading, Stopped, Ended, question}
+use Rattle.format.specs.Question.{Progress, Reading, Stopped, Ended, judgedQuestion}
 use Rattle.format.specs.Answer.{answerForm, assignmentOf, outside}
 use Rattle.format.specs.Judging.{Judging, Refused, Judged, judgeAnswer, judgeBehind, judging, Judgement, Refusal, Says}
 use Rattle.question.specs.declared.Progress as code
@@ -36,20 +36,20 @@ module _ (u : Question) (v : List ℕ) where
 -- ---- the question
 
 module _ (b v : List ℕ) where
-  pub stopped : {c r : ℕ} → question b ≡ Stopped c r → Says (judging b v) (Refusal c r)
+  pub stopped : {c r : ℕ} → judgedQuestion b ≡ Stopped c r → Says (judging b v) (Refusal c r)
   unfolding judging
   stopped {c} {r} e = subst (λ (g : Reading). Says (judgeBehind g v) (Refusal c r)) (sym e) refl
 
   abbrev byHead : Progress → ℕ → Bool → Judging
   byHead s r t = elim t as (λ _. Judging) [ false ↦ Refused 4 r | true ↦ judgeAnswer (s .question) v ]
 
-  ended : {s : Progress} {at r : ℕ} {t : Bool} (j : Judgement) → question b ≡ Ended s at r → leb 1 (s .last) ≡ t → Says (byHead s r t) j → Says (judging b v) j
+  ended : {s : Progress} {at r : ℕ} {t : Bool} (j : Judgement) → judgedQuestion b ≡ Ended s at r → leb 1 (s .last) ≡ t → Says (byHead s r t) j → Says (judging b v) j
   unfolding judging
   ended {s} {at} {r} j e f h = subst (λ (g : Reading). Says (judgeBehind g v) j) (sym e) (subst (λ (x : Bool). Says (byHead s r x) j) (sym f) h)
 
   -- "one with no head before it gives 4"
-  pub headless : {s : Progress} {at r : ℕ} → question b ≡ Ended s at r → s .last ≡ 0 → Says (judging b v) (Refusal 4 r)
+  pub headless : {s : Progress} {at r : ℕ} → judgedQuestion b ≡ Ended s at r → s .last ≡ 0 → Says (judging b v) (Refusal 4 r)
   headless {s} {at} {r} e f = ended (Refusal 4 r) e (lt-leb 1 (s .last) (omega arith)) refl
 
-  pub headed : {s : Progress} {at r : ℕ} (j : Judgement) → question b ≡ Ended s at r → 1 ≤ s .last → Says (judgeAnswer (s .question) v) j → Says (judging b v) j
+  pub headed : {s : Progress} {at r : ℕ} (j : Judgement) → judgedQuestion b ≡ Ended s at r → 1 ≤ s .last → Says (judgeAnswer (s .question) v) j → Says (judging b v) j
   headed {s} {at} {r} j e f h = ended j e (le-leb 1 (s .last) f) h

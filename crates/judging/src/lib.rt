@@ -11,18 +11,25 @@ ghost use Rattle.calculus.specs.Facts.{holds};
 ghost use Rattle.calculus.specs.Strings.{eqString};
 ghost use Rattle.format.specs.Fields.{u16};
 ghost use Rattle.format.specs.Records.{size as sizeAt, kind as kindAt, next};
-ghost use Rattle.format.specs.Question.{stringFault, stringFact, formOf, relationOf, constraintOf};
+ghost use Rattle.format.specs.Question.{judgingManner, stringFault, stringFact, formOf, relationOf, constraintOf};
 ghost use Rattle.format.specs.Places.{skip, texts, literalsFrom, textAt};
 ghost use Rattle.format.specs.Answer.{answerForm, outside};
 ghost use Rattle.format.specs.Judging.{meets, judgeAnswer, judging, Says};
 ghost use Rattle.question.specs.Standing.{ConstraintAt};
-ghost use Rattle.question.specs.Posed.{asked, Posed};
+ghost use Rattle.question.specs.Posed.{asked, PosedToJudge};
 ghost use Rattle.judging.specs.Ready.{valuesOf, FormIn, Texts, Judgeable};
 ghost use Rattle.judging.specs.Judgements.{judgementOf, firstUnmet};
 use assignment::Outside;
 use assignment::answer_formed;
 use assignment::column_values;
 use assignment::first_outside;
+use encoding::IS_LITERAL;
+use encoding::KIND_ARITHMETIC;
+use encoding::KIND_STRING;
+use encoding::RECORD_HEAD;
+use encoding::SAME;
+use question::HEAD_RANK;
+use question::JUDGING;
 use question::Progress;
 use question::Reading;
 use question::behind_literals;
@@ -44,7 +51,7 @@ fn same_strings(v: &[u8], x: usize, y: usize) -> bool
 {
     let m = u32_at(v, x) / 4;
     let k = u32_at(v, y) / 4;
-    same_text(v, x + 6, m, v, y + 6, k)
+    same_text(v, x + RECORD_HEAD, m, v, y + RECORD_HEAD, k)
 }
 
 // Whether the string at a place of the answer is literal l of the question.
@@ -54,7 +61,7 @@ fn is_literal(b: &[u8], v: &[u8], x: usize, l: usize) -> bool
 {
     let m = u32_at(v, x) / 4;
     let text = literal_text(b, l);
-    same_text(v, x + 6, m, b, text.at, text.count)
+    same_text(v, x + RECORD_HEAD, m, b, text.at, text.count)
 }
 
 // Whether the answer meets the string constraint with its body at a position.
@@ -67,11 +74,11 @@ fn string_met(b: &[u8], v: &[u8], s: Progress, places: &[usize], at: usize) -> b
     let x = u16_at(b, at + 2);
     let y = u16_at(b, at + 4);
     let i = places[x];
-    if relation == 2 {
+    if relation == IS_LITERAL {
         return is_literal(b, v, i, y);
     }
     let same = same_strings(v, i, places[y]);
-    if relation == 0 { same } else { !same }
+    if relation == SAME { same } else { !same }
 }
 
 // ---- arithmetic constraints
@@ -106,7 +113,7 @@ fn arithmetic_met(b: &[u8], at: usize, size: usize, values: &[i64]) -> bool
 
 // ---- all constraints
 
-// "it meets a constraint when the relation holds for those values with their len and code"
+// "it meets a constraint when the relation holds for those values with their len and code". A kind that is no constraint's does not come here.
 fn constraint_met(
     b: &[u8],
     v: &[u8],
@@ -115,16 +122,17 @@ fn constraint_met(
     values: &[i64],
     at: usize,
 ) -> bool
-    requires { ⌜ Judgeable (now b) (now v) s (now places) (now values) × ConstraintAt (now b) (s .p) (s .q) (s .literals) at ⌝ }
+    requires { ⌜ Judgeable (now b) (now v) s (now places) (now values) × ConstraintAt (judgingManner .greatest) (now b) (s .p) (s .q) (s .literals) at ⌝ }
     ensures { λ r. ⌜ r ≡ meets (asked (now (b .entry)) s) (valuesOf (now (b .entry)) (now (v .entry)) s)
         (constraintOf (now (b .entry)) (kindAt (now (b .entry)) at) (at + 6) (sizeAt (now (b .entry)) at)) ⌝ }
 {
     let size = u32_at(b, at);
     let kind = u16_at(b, at + 4);
-    if kind == 3 {
-        return string_met(b, v, s, places, at + 6);
+    match kind {
+        KIND_STRING => string_met(b, v, s, places, at + RECORD_HEAD),
+        KIND_ARITHMETIC => arithmetic_met(b, at + RECORD_HEAD, size, values),
+        _ => false,
     }
-    arithmetic_met(b, at + 6, size, values)
 }
 
 pub enum Judgement {
@@ -147,7 +155,7 @@ fn first_unmet(b: &[u8], v: &[u8], s: Progress, places: &[usize], values: &[i64]
         if !constraint_met(b, v, s, places, values, at) {
             return Judgement::Unmet(k);
         }
-        at = at + 6 + u32_at(b, at);
+        at = at + RECORD_HEAD + u32_at(b, at);
         k += 1;
     }
     Judgement::AllMet
@@ -157,7 +165,7 @@ fn first_unmet(b: &[u8], v: &[u8], s: Progress, places: &[usize], values: &[i64]
 
 // An answer of its form and in its ranges: its strings' places and its columns' values are found once.
 fn judge_values(b: &[u8], v: &[u8], s: Progress) -> Judgement
-    requires { ⌜ Posed (now b) s × (answerForm (now v) (s .p) (s .q) 0 ≡ true) × (outside (now v) (asked (now b) s) (s .p) 0 0 ≡ none) ⌝ }
+    requires { ⌜ PosedToJudge (now b) s × (answerForm (now v) (s .p) (s .q) 0 ≡ true) × (outside (now v) (asked (now b) s) (s .p) 0 0 ≡ none) ⌝ }
     ensures { λ r. ⌜ judgementOf r ≡ firstUnmet (asked (now (b .entry)) s) (valuesOf (now (b .entry)) (now (v .entry)) s) (asked (now (b .entry)) s .constraints) 0 ⌝ }
 {
     let p = s.p;
@@ -170,7 +178,7 @@ fn judge_values(b: &[u8], v: &[u8], s: Progress) -> Judgement
 
 // "then 15 (record 0) when the answer is not exactly of its form, 16 (the answer's first such record) .."
 fn judge_behind(b: &[u8], v: &[u8], s: Progress) -> Judgement
-    requires { ⌜ Posed (now b) s ⌝ }
+    requires { ⌜ PosedToJudge (now b) s ⌝ }
     ensures { λ r. ⌜ Says (judgeAnswer (asked (now (b .entry)) s) (now (v .entry))) (judgementOf r) ⌝ }
 {
     if !answer_formed(v, s.p, s.q) {
@@ -186,11 +194,11 @@ fn judge_behind(b: &[u8], v: &[u8], s: Progress) -> Judgement
 pub fn judge_answer(question: &[u8], answer: &[u8]) -> Judgement
     ensures { λ r. ⌜ Says (judging (now (question .entry)) (now (answer .entry))) (judgementOf r) ⌝ }
 {
-    match read_question(question) {
+    match read_question(JUDGING, question) {
         Reading::Stopped(c, r) => Judgement::Refused(c, r),
         Reading::Ended(s, _, r) => {
             let last = s.last;
-            if last == 0 {
+            if last < HEAD_RANK {
                 Judgement::Refused(4, r)
             } else {
                 judge_behind(question, answer, s)

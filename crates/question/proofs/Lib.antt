@@ -2,4 +2,5 @@ pub mod Loops
 pub mod Texts
 pub mod Standing
 pub mod Columns
+pub mod Constraints
 pub mod Posed

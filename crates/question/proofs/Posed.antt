@@ -5,10 +5,10 @@ use mathlib.Core.List.{List}
 use lib.ListN.{length}
 use Rattle.format.specs.Places.{skip, literalsFrom}
 use Rattle.question.specs.declared.Progress.{Progress}
-use Rattle.question.specs.Posed.{Posed}
+use Rattle.question.specs.Posed.{PosedTo}
 use Rattle.question.proofs.Standing.{literals-within}
 
-module _ {b : List ℕ} {s : Progress} (h : Posed b s) where
+module _ {greatest : ℕ} {b : List ℕ} {s : Progress} (h : PosedTo greatest b s) where
   pub some-character : 1 ≤ s .n
   some-character = h .stands .some-character (h .head)
 

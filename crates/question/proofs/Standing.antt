@@ -1,29 +1,30 @@
 -- A question that is read stands in the bytes: what holds where reading began holds after each record, and where it ended.
 use mathlib.Core.Path.{_≡_, refl, sym, _∙_, ap, subst}
-use mathlib.Core.Bool.{Bool, true, false, cond}
+use mathlib.Core.Bool.{Bool, true, false}
 use mathlib.Core.List.{List}
 use Prim.Native.Nat.{ℕ, zero, suc, _+_, _≤_, _<_}
 use native.Mathlib.Omega.{arith}
 use native.Mathlib.Numerals.{add-one}
 use native.Mathlib.Decide.{ℕ-discrete}
 use lib.ListN.{length}
-use lib.Dec.{leb, eqb}
+use lib.Dec.{leb}
 use borrow.Author.Count.{below-more}
-use borrow.Author.Tests.{leb-true, leb-false, ltb-true, lt-leb, eq-eqb, ne-eqb}
+use borrow.Author.Tests.{leb-true, leb-false, eq-eqb, ne-eqb}
 use Rattle.calculus.specs.Limits.{ticketBytes, factLimit}
 use Rattle.format.specs.Fields.{u16, u32}
 use Rattle.format.specs.Records.{size, kind, next}
 use Rattle.format.specs.Question as format
-use Rattle.format.specs.Question.{questionFault, questionAdvanced, unread, ending, readOn, question}
+use Rattle.format.specs.Question.{headRank, literalRank, rankOf, byRank, questionFault, questionAdvanced, unread, ending, readOn, readIn}
 use Rattle.format.specs.Places.{skip, texts, constraintsAt, literalsFrom}
 use Rattle.format.proofs.Places.{skip-far, skip-snoc, skip-up, length-texts, length-constraints, read-head, read-literal, read-constraint}
 use Rattle.format.proofs.Turns.{read-none, read-ended, read-stopped, read-more, read-long, read-begin}
 use Rattle.question.specs.declared.Progress.{Progress}
 use Rattle.question.specs.Progress.{progressOf}
-use Rattle.question.specs.Standing.{LiteralAt, ConstraintAt, StandsTo}
-use Rattle.question.specs.Posed.{Posed}
-use Rattle.format.proofs.RecordFaults.{Passed, passed, head-first, Behind, behind-head, Head, head-formed, literal-formed}
+use Rattle.question.specs.Standing.{LiteralAt, ConstraintAt, StandsTo, NextAt}
+use Rattle.question.specs.Posed.{PosedTo}
+use Rattle.format.proofs.RecordFaults.{uncrowded, Passed, passed, head-first, Behind, behind-head, Head, head-formed, literal-formed}
 use Rattle.format.proofs.Faults.{clash}
+use Rattle.format.proofs.Asked.{read-few}
 
 -- ---- the numbers are all that is kept
 
@@ -40,41 +41,50 @@ same-numbers b s t e =
 
 -- ---- positions
 
-pub literals-within : (b : List ℕ) (s : Progress) (at l : ℕ) → StandsTo b s at → 1 ≤ s .last → l ≤ s .literals → skip b l literalsFrom ≤ length b
+pub literals-within : {greatest : ℕ} (b : List ℕ) (s : Progress) (at l : ℕ) → StandsTo greatest b s at → headRank ≤ s .last → l ≤ s .literals → skip b l literalsFrom ≤ length b
 literals-within b s at l h g few =
     omega (arith, h .ends-here g, skip-up b l (s .literals) literalsFrom few, skip-far b (s .constraints) (skip b (s .literals) literalsFrom), h .within)
 
 -- ---- one record more
 
--- the numbers after the record at a position
+-- the numbers after the record at a position: a head, a literal, a constraint
+abbrev pub headed : List ℕ → ℕ → Progress
+headed b at = record { last = headRank; n = u32 b (at + 6); p = u16 b (at + 6 + 4); q = u16 b (at + 6 + 6); literals = 0; constraints = 0 }
+
+abbrev pub withLiteral : Progress → Progress
+withLiteral s = record { last = literalRank; n = s .n; p = s .p; q = s .q; literals = s .literals + 1; constraints = s .constraints }
+
+abbrev pub withConstraint : Progress → ℕ → Progress
+withConstraint s r = record { last = r; n = s .n; p = s .p; q = s .q; literals = s .literals; constraints = s .constraints + 1 }
+
 abbrev pub after : List ℕ → Progress → ℕ → Progress
-after b s at =
-    cond (eqb (kind b at) 1) (record { last = 1; n = u32 b (at + 6); p = u16 b (at + 6 + 4); q = u16 b (at + 6 + 6); literals = 0; constraints = 0 })
-    (cond (eqb (kind b at) 2) (record { last = 2; n = s .n; p = s .p; q = s .q; literals = s .literals + 1; constraints = s .constraints })
-    (record { last = kind b at; n = s .n; p = s .p; q = s .q; literals = s .literals; constraints = s .constraints + 1 }))
+after b s at = byRank (rankOf (kind b at)) (headed b at) (withLiteral s) (withConstraint s (rankOf (kind b at)))
 
-module _ (b : List ℕ) (s : Progress) (at : ℕ) (h : StandsTo b s at) (e : questionFault b (progressOf b s) at ≡ 0) where
-  no-fault : Passed b (progressOf b s) at
-  no-fault = passed b (progressOf b s) at e
+module _ (b : List ℕ) (s : Progress) (at : ℕ) (w : NextAt b s at) where
+  abbrev rank : ℕ
+  rank = rankOf (kind b at)
 
-  behind : (kind b at ≡ 1 → ⊥) → Behind (s .last) (length (texts b (s .literals) literalsFrom)) (kind b at)
-  behind x = behind-head _ _ _ (no-fault .in-place) x
+  no-fault : Passed (w .greatest) b (progressOf b s) at
+  no-fault = passed (w .greatest) b (progressOf b s) at (w .formed)
+
+  behind : (rank ≡ headRank → ⊥) → Behind (w .greatest) (s .last) (length (texts b (s .literals) literalsFrom)) rank
+  behind x = behind-head _ _ _ _ (no-fault .in-place) x
 
   -- a literal stands behind the others, before any constraint
-  literal-here : kind b at ≡ 2 → (at ≡ skip b (s .literals) literalsFrom) × (s .constraints ≡ 0)
+  literal-here : rank ≡ literalRank → (at ≡ skip b (s .literals) literalsFrom) × (s .constraints ≡ 0)
   unfolding skip
   literal-here k =
       let g = behind (λ z. absurd (omega arith)) in
-      let none : s .constraints ≡ 0 = h .literals-first (omega (arith, g .no-earlier)) in
-      (h .ends-here (g .head-read) ∙ ap (λ m. skip b m (skip b (s .literals) literalsFrom)) none, none)
+      let none : s .constraints ≡ 0 = w .stands .literals-first (omega (arith, g .no-earlier)) in
+      (w .stands .ends-here (g .head-read) ∙ ap (λ m. skip b m (skip b (s .literals) literalsFrom)) none, none)
 
-  constraint-here : (kind b at ≡ 1 → ⊥) → at ≡ skip b (s .constraints) (skip b (s .literals) literalsFrom)
-  constraint-here x = h .ends-here (behind x .head-read)
+  constraint-here : (rank ≡ headRank → ⊥) → at ≡ skip b (s .constraints) (skip b (s .literals) literalsFrom)
+  constraint-here x = w .stands .ends-here (behind x .head-read)
 
   pub after-advanced : progressOf b (after b s at) ≡ questionAdvanced b (progressOf b s) at
-  after-advanced = go (ℕ-discrete (kind b at) 1) (ℕ-discrete (kind b at) 2)
+  after-advanced = go (ℕ-discrete rank headRank) (ℕ-discrete rank literalRank)
     where
-      go : Dec (kind b at ≡ 1) → Dec (kind b at ≡ 2) → progressOf b (after b s at) ≡ questionAdvanced b (progressOf b s) at
+      go : Dec (rank ≡ headRank) → Dec (rank ≡ literalRank) → progressOf b (after b s at) ≡ questionAdvanced b (progressOf b s) at
       go (yes k) d = rw (eq-eqb _ _ k) (read-head b (progressOf b s) at k)
       go (no x) (yes k) =
           let (here, none) = literal-here k in
@@ -84,17 +94,17 @@ module _ (b : List ℕ) (s : Progress) (at : ℕ) (h : StandsTo b s at) (e : que
           (read-constraint b (s .last) (s .n) (s .p) (s .q) (s .literals) (s .constraints) at (ne-eqb _ _ x) (ne-eqb _ _ y) (constraint-here x))
 
   -- a head that was read
-  head-here : kind b at ≡ 1 → (at ≡ 0) × Head b (at + 6) (size b at)
+  head-here : rank ≡ headRank → (at ≡ 0) × Head b (at + 6) (size b at)
   head-here k = (
-    h .nothing-yet (head-first _ (length (texts b (s .literals) literalsFrom)) _ (no-fault .in-place) k),
+    w .stands .nothing-yet (head-first _ _ (length (texts b (s .literals) literalsFrom)) _ (no-fault .in-place) k),
     head-formed b (at + 6) (size b at) (rw (eq-eqb _ _ k) at (no-fault .body-formed)),
   )
 
   -- its body is within the bytes
-  pub head-size : kind b at ≡ 1 → at + 6 + 8 ≤ length b
+  pub head-size : rank ≡ headRank → at + 6 + 8 ≤ length b
   head-size k = omega (arith, head-here k .1 .eight, no-fault .all-there)
 
-  after-head : kind b at ≡ 1 → StandsTo b (record { last = 1; n = u32 b (at + 6); p = u16 b (at + 6 + 4); q = u16 b (at + 6 + 6); literals = 0; constraints = 0 }) (next b at)
+  after-head : rank ≡ headRank → StandsTo (w .greatest) b (headed b at) (next b at)
   unfolding skip
   after-head k =
       let (first, f) = head-here k in
@@ -105,7 +115,7 @@ module _ (b : List ℕ) (s : Progress) (at : ℕ) (h : StandsTo b s at) (e : que
         few-strings = f .few-strings;
         few-integers = f .few-integers;
         few-literals = omega arith;
-        few-constraints = omega arith;
+        counted = omega arith;
         nothing-yet = λ z. absurd (omega arith);
         ends-here = λ _. omega (arith, first, f .eight);
         literals-first = λ _. refl;
@@ -113,10 +123,10 @@ module _ (b : List ℕ) (s : Progress) (at : ℕ) (h : StandsTo b s at) (e : que
         constraints-stand = λ j l. absurd (omega arith);
       }
 
-  after-literal : kind b at ≡ 2 → StandsTo b (record { last = 2; n = s .n; p = s .p; q = s .q; literals = s .literals + 1; constraints = s .constraints }) (next b at)
+  after-literal : rank ≡ literalRank → StandsTo (w .greatest) b (withLiteral s) (next b at)
   unfolding skip
   after-literal k =
-      let other : (kind b at ≡ 1 → ⊥) = λ z. omega arith in
+      let other : (rank ≡ headRank → ⊥) = λ z. omega arith in
       let g = behind other in
       let (here, none) = literal-here k in
       let f = literal-formed b (s .n) (texts b (s .literals) literalsFrom) (at + 6) (size b at) (rw (ne-eqb _ _ other, eq-eqb _ _ k) at (no-fault .body-formed)) in
@@ -131,62 +141,56 @@ module _ (b : List ℕ) (s : Progress) (at : ℕ) (h : StandsTo b s at) (e : que
       } in
       record {
         within = no-fault .all-there;
-        some-character = λ _. h .some-character (g .head-read);
-        few-characters = h .few-characters;
-        few-strings = h .few-strings;
-        few-integers = h .few-integers;
+        some-character = λ _. w .stands .some-character (g .head-read);
+        few-characters = w .stands .few-characters;
+        few-strings = w .stands .few-strings;
+        few-integers = w .stands .few-integers;
         few-literals = omega (arith, g .few-literals k, length-texts b (s .literals) literalsFrom);
-        few-constraints = h .few-constraints;
+        counted = omega (arith, w .stands .counted);
         nothing-yet = λ z. absurd (omega arith);
         ends-here = λ _. there ∙ ap (λ m. skip b m (skip b (s .literals + 1) literalsFrom)) (sym none);
         literals-first = λ _. none;
-        literals-stand = below-more (λ j. LiteralAt b (s .n) (skip b j literalsFrom)) (s .literals) (h .literals-stand) (subst (LiteralAt b (s .n)) here literal);
+        literals-stand = below-more (λ j. LiteralAt b (s .n) (skip b j literalsFrom)) (s .literals) (w .stands .literals-stand) (subst (LiteralAt b (s .n)) here literal);
         constraints-stand = λ j l. absurd (omega (arith, none, l));
       }
 
-  after-constraint : (kind b at ≡ 1 → ⊥) → (kind b at ≡ 2 → ⊥)
-      → StandsTo b (record { last = kind b at; n = s .n; p = s .p; q = s .q; literals = s .literals; constraints = s .constraints + 1 }) (next b at)
+  after-constraint : (rank ≡ headRank → ⊥) → (rank ≡ literalRank → ⊥) → StandsTo (w .greatest) b (withConstraint s rank) (next b at)
   after-constraint x y =
       let g = behind x in
       let from : ℕ = skip b (s .literals) literalsFrom in
       let here = constraint-here x in
-      let three : 3 ≤ kind b at = omega (arith, g .at-least, y) in
       let there : next b at ≡ skip b (s .constraints + 1) from = ap (next b) here ∙ sym (skip-snoc b (s .constraints) from) ∙ ap (λ m. skip b m from) (sym (add-one (s .constraints))) in
-      let roomy : length (constraintsAt b (s .constraints) (skip b (s .literals) literalsFrom)) < factLimit = ltb-true _ _ (rw (lt-leb (kind b at) 2 three) at (no-fault .room)) in
-      let few : s .constraints < factLimit = omega (arith, length-constraints b (s .constraints) (skip b (s .literals) literalsFrom)) in
-      let constraint : ConstraintAt b (s .p) (s .q) (s .literals) at = record {
+      let constraint : ConstraintAt (w .greatest) b (s .p) (s .q) (s .literals) at = record {
         whole = no-fault .all-there;
-        at-least = three;
-        at-most = g .at-most;
-        string-formed = λ k. rw (ne-eqb _ _ x, ne-eqb _ _ y, eq-eqb _ _ k, length-texts) at (no-fault .body-formed);
-        arithmetic-formed = λ k. rw (ne-eqb _ _ x, ne-eqb _ _ y, ne-eqb (kind b at) 3 (λ z. omega arith)) at (no-fault .body-formed);
+        taken = g .at-most;
+        formed = rw (ne-eqb _ _ x, ne-eqb _ _ y, length-texts) at (no-fault .body-formed);
       } in
       record {
         within = no-fault .all-there;
-        some-character = λ _. h .some-character (g .head-read);
-        few-characters = h .few-characters;
-        few-strings = h .few-strings;
-        few-integers = h .few-integers;
-        few-literals = h .few-literals;
-        few-constraints = omega arith;
+        some-character = λ _. w .stands .some-character (g .head-read);
+        few-characters = w .stands .few-characters;
+        few-strings = w .stands .few-strings;
+        few-integers = w .stands .few-integers;
+        few-literals = w .stands .few-literals;
+        counted = omega (arith, w .stands .counted);
         nothing-yet = λ z. absurd (omega arith);
         ends-here = λ _. there;
-        literals-first = λ l. absurd (omega arith);
-        literals-stand = h .literals-stand;
-        constraints-stand = below-more (λ j. ConstraintAt b (s .p) (s .q) (s .literals) (skip b j from)) (s .constraints) (h .constraints-stand) (subst (ConstraintAt b (s .p) (s .q) (s .literals)) here constraint);
+        literals-first = λ l. absurd (omega (arith, g .at-least, y));
+        literals-stand = w .stands .literals-stand;
+        constraints-stand = below-more (λ j. ConstraintAt (w .greatest) b (s .p) (s .q) (s .literals) (skip b j from)) (s .constraints) (w .stands .constraints-stand) (subst (ConstraintAt (w .greatest) b (s .p) (s .q) (s .literals)) here constraint);
       }
 
-  pub after-stands : StandsTo b (after b s at) (next b at)
-  after-stands = go (ℕ-discrete (kind b at) 1) (ℕ-discrete (kind b at) 2)
+  pub after-stands : StandsTo (w .greatest) b (after b s at) (next b at)
+  after-stands = go (ℕ-discrete rank headRank) (ℕ-discrete rank literalRank)
     where
-      go : Dec (kind b at ≡ 1) → Dec (kind b at ≡ 2) → StandsTo b (after b s at) (next b at)
+      go : Dec (rank ≡ headRank) → Dec (rank ≡ literalRank) → StandsTo (w .greatest) b (after b s at) (next b at)
       go (yes k) d = rw (eq-eqb _ _ k) (after-head k)
       go (no x) (yes k) = rw (ne-eqb _ _ x, eq-eqb _ _ k) (after-literal k)
       go (no x) (no y) = rw (ne-eqb _ _ x, ne-eqb _ _ y) (after-constraint x y)
 
   -- and so do the numbers that are known to be those after the record
-  pub advanced-stands : (t : Progress) → progressOf b t ≡ questionAdvanced b (progressOf b s) at → StandsTo b t (next b at)
-  advanced-stands t g = subst (λ (u : Progress). StandsTo b u (next b at)) (same-numbers b (after b s at) t (after-advanced ∙ sym g)) after-stands
+  pub advanced-stands : (t : Progress) → progressOf b t ≡ questionAdvanced b (progressOf b s) at → StandsTo (w .greatest) b t (next b at)
+  advanced-stands t g = subst (λ (u : Progress). StandsTo (w .greatest) b u (next b at)) (same-numbers b (after b s at) t (after-advanced ∙ sym g)) after-stands
 
 -- ---- all records
 
@@ -198,15 +202,15 @@ pub begun-fresh : (b : List ℕ) → progressOf b begun ≡ unread
 unfolding texts constraintsAt
 begun-fresh b = refl
 
-pub begun-stands : (b : List ℕ) → StandsTo b begun 0
-begun-stands b = record {
+pub begun-stands : (greatest : ℕ) (b : List ℕ) → StandsTo greatest b begun 0
+begun-stands greatest b = record {
   within = omega arith;
   some-character = λ z. absurd (omega arith);
   few-characters = omega arith;
   few-strings = omega arith;
   few-integers = omega arith;
   few-literals = omega arith;
-  few-constraints = omega arith;
+  counted = omega arith;
   nothing-yet = λ _. refl;
   ends-here = λ z. absurd (omega arith);
   literals-first = λ _. refl;
@@ -214,42 +218,60 @@ begun-stands b = record {
   constraints-stand = λ j l. absurd (omega arith);
 }
 
--- where reading ended
-abbrev pub Ends : List ℕ → Progress → ℕ → Type 0
-Ends b t to = StandsTo b t to × (to + 6 ≤ length b)
+-- a record without fault in a manner is the next one
+abbrev pub next-at : (m : format.Manner) {b : List ℕ} {s : Progress} {at : ℕ} → StandsTo (m .greatest) b s at → questionFault m b (progressOf b s) at ≡ 0 → NextAt b s at
+next-at m {b} {s} {at} h e = record { greatest = m .greatest; stands = h; formed = uncrowded m b (progressOf b s) at e .0 }
 
-read-stands : (d : ℕ) (b : List ℕ) (s t : Progress) (r at to q : ℕ) → length b ≤ at + d → StandsTo b s at
-    → readOn questionFault b (progressOf b s) r at ≡ format.Ended (progressOf b t) to q → Ends b t to
-read-stands zero b s t r at to q l h e = let g = read-none questionFault b (progressOf b s) r at (omega arith) in clash cc
-read-stands (suc d) b s t r at to q l h e =
-    go (leb (at + 6) (length b)) (ending (kind b at)) (questionFault b (progressOf b s) at) refl refl refl
-    (λ k. read-stands d b (after b s at) t (suc r) (next b at) to q (omega arith) (after-stands b s at h k))
-  where
-    go : (x y : Bool) (f : ℕ) → leb (at + 6) (length b) ≡ x → ending (kind b at) ≡ y → questionFault b (progressOf b s) at ≡ f
-        → (questionFault b (progressOf b s) at ≡ 0 → readOn questionFault b (progressOf b (after b s at)) (suc r) (next b at) ≡ format.Ended (progressOf b t) to q → Ends b t to) → Ends b t to
-    go false y f ex ey ef later = let g = read-none questionFault b (progressOf b s) r at (leb-false _ _ ex) in clash cc
-    go true true f ex ey ef later =
-        let g = read-ended questionFault b (progressOf b s) r at (leb-true _ _ ex) ey in
-        let here : at ≡ to = cc in
-        let known : progressOf b s ≡ progressOf b t = cc in
-        (subst (λ (u : Progress). StandsTo b u to) (same-numbers b s t known) (subst (StandsTo b s) here h), subst (λ z. z + 6 ≤ length b) here (leb-true _ _ ex))
-    go true false (suc f) ex ey ef later = let g = read-stopped questionFault b (progressOf b s) r at f (leb-true _ _ ex) ey ef in clash cc
-    go true false zero ex ey ef later =
-        later ef (ap (λ (u : format.Progress). readOn questionFault b u (suc r) (next b at)) (after-advanced b s at h ef) ∙ sym (read-more questionFault b (progressOf b s) r at (leb-true _ _ ex) ey ef) ∙ e)
+module _ (m : format.Manner) where
+  abbrev test : List ℕ → format.Progress → ℕ → ℕ
+  test = questionFault m
 
--- a question is read from a ticket that is not too long
-pub question-short : (b : List ℕ) (t : format.Progress) (to q : ℕ) → question b ≡ format.Ended t to q → length b ≤ ticketBytes
-question-short b t to q e = go (leb (length b) ticketBytes) refl
-  where
-    go : (x : Bool) → leb (length b) ticketBytes ≡ x → length b ≤ ticketBytes
-    go false ex = let g = read-long questionFault b (leb-false _ _ ex) in clash cc
-    go true ex = leb-true _ _ ex
+  -- where reading ended
+  abbrev pub Ends : List ℕ → Progress → ℕ → Type 0
+  Ends b t to = StandsTo (m .greatest) b t to × (to + 6 ≤ length b)
 
--- it stands in the bytes, up to the six leading bytes where reading ended
-pub question-stands : (b : List ℕ) (t : Progress) (to q : ℕ) → question b ≡ format.Ended (progressOf b t) to q → Ends b t to
-question-stands b t to q e =
-    read-stands (length b) b begun t 0 0 to q (omega arith) (begun-stands b)
-    (ap (λ (u : format.Progress). readOn questionFault b u 0 0) (begun-fresh b) ∙ sym (read-begin questionFault b (question-short b (progressOf b t) to q e)) ∙ e)
+  read-stands : (d : ℕ) (b : List ℕ) (s t : Progress) (r at to q : ℕ) → length b ≤ at + d → StandsTo (m .greatest) b s at
+      → readOn test b (progressOf b s) r at ≡ format.Ended (progressOf b t) to q → Ends b t to
+  read-stands zero b s t r at to q l h e = let g = read-none test b (progressOf b s) r at (omega arith) in clash cc
+  read-stands (suc d) b s t r at to q l h e =
+      go (leb (at + 6) (length b)) (ending (kind b at)) (test b (progressOf b s) at) refl refl refl
+      (λ k. read-stands d b (after b s at) t (suc r) (next b at) to q (omega arith) (after-stands b s at (next-at m h k)))
+    where
+      go : (x y : Bool) (f : ℕ) → leb (at + 6) (length b) ≡ x → ending (kind b at) ≡ y → test b (progressOf b s) at ≡ f
+          → (test b (progressOf b s) at ≡ 0 → readOn test b (progressOf b (after b s at)) (suc r) (next b at) ≡ format.Ended (progressOf b t) to q → Ends b t to) → Ends b t to
+      go false y f ex ey ef later = let g = read-none test b (progressOf b s) r at (leb-false _ _ ex) in clash cc
+      go true true f ex ey ef later =
+          let g = read-ended test b (progressOf b s) r at (leb-true _ _ ex) ey in
+          let here : at ≡ to = cc in
+          let known : progressOf b s ≡ progressOf b t = cc in
+          (subst (λ (u : Progress). StandsTo (m .greatest) b u to) (same-numbers b s t known) (subst (StandsTo (m .greatest) b s) here h), subst (λ z. z + 6 ≤ length b) here (leb-true _ _ ex))
+      go true false (suc f) ex ey ef later = let g = read-stopped test b (progressOf b s) r at f (leb-true _ _ ex) ey ef in clash cc
+      go true false zero ex ey ef later =
+          later ef (ap (λ (u : format.Progress). readOn test b u (suc r) (next b at)) (after-advanced b s at (next-at m h ef)) ∙ sym (read-more test b (progressOf b s) r at (leb-true _ _ ex) ey ef) ∙ e)
 
-pub question-posed : (b : List ℕ) (t : Progress) (to q : ℕ) → question b ≡ format.Ended (progressOf b t) to q → 1 ≤ t .last → Posed b t
-question-posed b t to q e h = record { to = to; stands = question-stands b t to q e .0; head = h; short = question-short b (progressOf b t) to q e }
+  -- a question is read from a ticket that is not too long
+  pub question-short : (b : List ℕ) (t : format.Progress) (to q : ℕ) → readIn m b ≡ format.Ended t to q → length b ≤ ticketBytes
+  question-short b t to q e = go (leb (length b) ticketBytes) refl
+    where
+      go : (x : Bool) → leb (length b) ticketBytes ≡ x → length b ≤ ticketBytes
+      go false ex = let g = read-long test b (leb-false _ _ ex) in clash cc
+      go true ex = leb-true _ _ ex
+
+  -- it stands in the bytes, up to the six leading bytes where reading ended
+  pub question-stands : (b : List ℕ) (t : Progress) (to q : ℕ) → readIn m b ≡ format.Ended (progressOf b t) to q → Ends b t to
+  question-stands b t to q e =
+      read-stands (length b) b begun t 0 0 to q (omega arith) (begun-stands (m .greatest) b)
+      (ap (λ (u : format.Progress). readOn test b u 0 0) (begun-fresh b) ∙ sym (read-begin test b (question-short b (progressOf b t) to q e)) ∙ e)
+
+  -- where 10 is looked for, all its constraints find room on a branch
+  pub question-few : m .limited ≡ true → (b : List ℕ) (t : Progress) (to q : ℕ) → readIn m b ≡ format.Ended (progressOf b t) to q → t .constraints ≤ factLimit
+  question-few l b t to q e = omega (arith, read-few m l b e, length-constraints b (t .constraints) (skip b (t .literals) literalsFrom))
+
+  pub question-posed : m .limited ≡ true → (b : List ℕ) (t : Progress) (to q : ℕ) → readIn m b ≡ format.Ended (progressOf b t) to q → headRank ≤ t .last → PosedTo (m .greatest) b t
+  question-posed l b t to q e h = record {
+    to = to;
+    stands = question-stands b t to q e .0;
+    head = h;
+    short = question-short b (progressOf b t) to q e;
+    few-constraints = question-few l b t to q e;
+  }

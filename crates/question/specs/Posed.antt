@@ -2,7 +2,8 @@
 use Prim.Native.Nat.{ℕ, _≤_}
 use mathlib.Core.List.{List}
 use lib.ListN.{length}
-use Rattle.calculus.specs.Limits.{ticketBytes}
+use Rattle.calculus.specs.Limits.{ticketBytes, factLimit}
+use Rattle.format.specs.Question.{headRank, checkingManner, judgingManner}
 use Rattle.question.specs.declared.Progress.{Progress}
 use Rattle.calculus.specs.Facts.{Question, blank}
 use Rattle.question.specs.Progress.{progressOf}
@@ -16,9 +17,17 @@ asked b s = progressOf b s .question
 abbrev pub numbered : Progress → Question
 numbered s = blank (s .n) (s .p) (s .q)
 
--- it stands, with its head, in a ticket that is not too long
-pub record Posed (b : List ℕ) (s : Progress) : Type 0 where
+-- it stands, with its head, in a ticket that is not too long, and leaves room for every constraint on a branch
+pub record PosedTo (greatest : ℕ) (b : List ℕ) (s : Progress) : Type 0 where
   pub to : ℕ
-  pub stands : StandsTo b s to
-  pub head : 1 ≤ s .last
+  pub stands : StandsTo greatest b s to
+  pub head : headRank ≤ s .last
   pub short : length b ≤ ticketBytes
+  pub few-constraints : s .constraints ≤ factLimit
+
+-- as checking reads it, and as judging does
+abbrev pub Posed : List ℕ → Progress → Type 0
+Posed b s = PosedTo (checkingManner .greatest) b s
+
+abbrev pub PosedToJudge : List ℕ → Progress → Type 0
+PosedToJudge b s = PosedTo (judgingManner .greatest) b s

@@ -3,9 +3,13 @@ use Prim.Native.Nat.{ℕ}
 use mathlib.Core.List.{List}
 use Rattle.format.specs.Question as format
 use Rattle.format.specs.Places.{readTo}
+use Rattle.question.specs.declared.Manner.{Manner}
 use Rattle.question.specs.declared.Progress.{Progress}
 use Rattle.question.specs.declared.Reading.{Reading}
 use Rattle.question.specs.declared.Reading.the-variants.{Stopped, Ended}
+
+abbrev pub mannerOf : Manner → format.Manner
+mannerOf m = record { limited = m .limited; greatest = m .greatest }
 
 abbrev pub progressOf : List ℕ → Progress → format.Progress
 progressOf b s = readTo b (s .last) (s .n) (s .p) (s .q) (s .literals) (s .constraints)

@@ -5,41 +5,48 @@ use mathlib.Core.Bool.{true}
 use mathlib.Core.List.{List}
 use lib.ListN.{length}
 use Rattle.calculus.specs.Alphabet.{allCharacters}
-use Rattle.calculus.specs.Limits.{alphabetLimit, variableLimit, literalLimit, lengthLimit, factLimit}
+use Rattle.calculus.specs.Limits.{alphabetLimit, variableLimit, literalLimit, lengthLimit}
 use Rattle.format.specs.Records.{size, kind, next}
-use Rattle.format.specs.Question.{textOf, stringFault, arithmeticFault}
+use Rattle.format.specs.Question.{headRank, literalRank, rankOf, textOf, constraintFault, formFault}
 use Rattle.format.specs.Places.{skip, literalsFrom}
 use Rattle.question.specs.declared.Progress.{Progress}
+use Rattle.question.specs.Progress.{progressOf}
 
 -- the record at a position is a literal over n characters
 pub record LiteralAt (b : List ℕ) (n at : ℕ) : Type 0 where
-  pub literal : kind b at ≡ 2
+  pub literal : rankOf (kind b at) ≡ literalRank
   pub whole : next b at ≤ length b
   pub some-character : 4 ≤ size b at
   pub short : size b at ≤ 4 * lengthLimit
   pub characters-whole : size b at % 4 ≡ 0
   pub characters-over : allCharacters n (textOf b (at + 6) (size b at)) ≡ true
 
--- the record at a position is a constraint over p string and q integer variables and k literals besides the empty one
-pub record ConstraintAt (b : List ℕ) (p q k at : ℕ) : Type 0 where
+-- the record at a position is a constraint over p string and q integer variables and k literals besides the empty one, of a rank that is taken
+pub record ConstraintAt (greatest : ℕ) (b : List ℕ) (p q k at : ℕ) : Type 0 where
   pub whole : next b at ≤ length b
-  pub at-least : 3 ≤ kind b at
-  pub at-most : kind b at ≤ 4
-  pub string-formed : kind b at ≡ 3 → stringFault b p k (at + 6) (size b at) ≡ 0
-  pub arithmetic-formed : kind b at ≡ 4 → arithmeticFault b (q + (p + p)) (at + 6) (size b at) ≡ 0
+  pub taken : rankOf (kind b at) ≤ greatest
+  pub formed : constraintFault b p k (q + (p + p)) (kind b at) (at + 6) (size b at) ≡ 0
 
-pub record StandsTo (b : List ℕ) (s : Progress) (at : ℕ) : Type 0 where
+-- ranks up to the greatest were taken
+pub record StandsTo (greatest : ℕ) (b : List ℕ) (s : Progress) (at : ℕ) : Type 0 where
   pub within : at ≤ length b
   -- behind the head there is a character
-  pub some-character : 1 ≤ s .last → 1 ≤ s .n
+  pub some-character : headRank ≤ s .last → 1 ≤ s .n
   pub few-characters : s .n ≤ alphabetLimit
   pub few-strings : s .p ≤ variableLimit
   pub few-integers : s .q ≤ variableLimit
   pub few-literals : s .literals ≤ literalLimit
-  pub few-constraints : s .constraints ≤ factLimit
+  -- each constraint takes bytes
+  pub counted : s .constraints ≤ at
   -- nothing was read yet, or the literals stand behind the head and the constraints behind the literals, up to here
   pub nothing-yet : s .last ≡ 0 → at ≡ 0
-  pub ends-here : 1 ≤ s .last → at ≡ skip b (s .constraints) (skip b (s .literals) literalsFrom)
-  pub literals-first : s .last ≤ 2 → s .constraints ≡ 0
+  pub ends-here : headRank ≤ s .last → at ≡ skip b (s .constraints) (skip b (s .literals) literalsFrom)
+  pub literals-first : s .last ≤ literalRank → s .constraints ≡ 0
   pub literals-stand : (j : ℕ) → j < s .literals → LiteralAt b (s .n) (skip b j literalsFrom)
-  pub constraints-stand : (j : ℕ) → j < s .constraints → ConstraintAt b (s .p) (s .q) (s .literals) (skip b j (skip b (s .literals) literalsFrom))
+  pub constraints-stand : (j : ℕ) → j < s .constraints → ConstraintAt greatest b (s .p) (s .q) (s .literals) (skip b j (skip b (s .literals) literalsFrom))
+
+-- the record at the position where reading arrived has no fault of its form: it is the next one
+pub record NextAt (b : List ℕ) (s : Progress) (at : ℕ) : Type 0 where
+  pub greatest : ℕ
+  pub stands : StandsTo greatest b s at
+  pub formed : formFault greatest b (progressOf b s) at ≡ 0

@@ -1,5 +1,5 @@
-// The question: "Kinds 1 to 4 are the question". Checking and judging read it with this one reader, by position: what is kept of it is numbers,
-// and its literals and constraints stay where they stand in the bytes.
+// The question: "Kinds 1 to 4 are the question". Checking and judging read it with this one reader, each in its manner, by position: what is kept of it is
+// numbers, and its literals and constraints stay where they stand in the bytes.
 ghost use mathlib.Core.Path.{_≡_};
 ghost use mathlib.Core.List.{[], _∷_};
 ghost use Prim.Native.Nat.{ℕ, _+_, _*_, _<_, _≤_};
@@ -11,11 +11,21 @@ ghost use Rattle.calculus.specs.Facts.{codeOf};
 ghost use Rattle.calculus.specs.Strings.{eqString, given};
 ghost use Rattle.format.specs.Fields.{u32s, signed, pairsAt};
 ghost use Rattle.format.specs.Records.{kind as kindAt, size as sizeAt};
-ghost use Rattle.format.specs.Question.{headFault, textOf, literalFault, stringRange, stringFault, coefficientInRange, pairInRange, rising, formRange, arithmeticFault, kindInPlace, questionBodyFault, questionFault, questionAdvanced, ending, question};
+ghost use Rattle.format.specs.Question.{literalRank, rankOf, headFault, textOf, literalFault, stringRange, stringFault, coefficientInRange, pairInRange, rising, formRange, arithmeticFault, constraintFault, rankInPlace, questionBodyFault, roomFor, questionFault, questionAdvanced, ending, readBy};
 ghost use Rattle.format.specs.Places.{skip, texts, literalsFrom};
-ghost use Rattle.question.specs.Progress.{progressOf, readingOf};
-ghost use Rattle.question.specs.Standing.{StandsTo};
+ghost use Rattle.question.specs.Progress.{mannerOf, progressOf, readingOf};
+ghost use Rattle.question.specs.Standing.{StandsTo, NextAt};
 ghost use Rattle.question.specs.Columns.{columnAt};
+use encoding::IS_LITERAL;
+use encoding::KIND_ARITHMETIC;
+use encoding::KIND_CLAIM;
+use encoding::KIND_END;
+use encoding::KIND_HEAD;
+use encoding::KIND_LITERAL;
+use encoding::KIND_STRING;
+use encoding::LEN;
+use encoding::NE;
+use encoding::RECORD_HEAD;
 use limits::ALPHABET_LIMIT;
 use limits::COLUMN_LIMIT;
 use limits::FACT_LIMIT;
@@ -120,10 +130,10 @@ fn repeats(b: &[u8], k: usize, at: usize, size: usize) -> bool
     let mut left = k;
     while 0 < left {
         let other = u32_at(b, j);
-        if same_text(b, at, size / 4, b, j + 6, other / 4) {
+        if same_text(b, at, size / 4, b, j + RECORD_HEAD, other / 4) {
             return true;
         }
-        j = j + 6 + other;
+        j = j + RECORD_HEAD + other;
         left -= 1;
     }
     false
@@ -156,13 +166,13 @@ fn literal_fault(b: &[u8], n: usize, k: usize, at: usize, size: usize) -> usize
 fn string_in_range(p: usize, k: usize, relation: usize, x: usize, y: usize) -> bool
     ensures { λ r. ⌜ r ≡ stringRange p k relation x y ⌝ }
 {
-    if 2 < relation {
+    if IS_LITERAL < relation {
         return false;
     }
     if p <= x {
         return false;
     }
-    if relation == 2 {
+    if relation == IS_LITERAL {
         if k < y { false } else { true }
     } else {
         if p <= y { false } else { true }
@@ -262,7 +272,7 @@ fn arithmetic_fault(b: &[u8], c: usize, at: usize, size: usize) -> usize
         return 5;
     }
     let relation = u16_at(b, at);
-    if 2 < relation {
+    if NE < relation {
         return 6;
     }
     if form_in_range(b, c, at + 2, sixths - 1) {
@@ -272,9 +282,73 @@ fn arithmetic_fault(b: &[u8], c: usize, at: usize, size: usize) -> usize
     }
 }
 
+// The first of 5 and 6 that applies to the body of a constraint, over p string variables, k literals besides the empty one and c columns; 4 for a kind that is
+// no constraint's.
+fn constraint_fault(
+    b: &[u8],
+    p: usize,
+    k: usize,
+    c: usize,
+    kind: usize,
+    at: usize,
+    size: usize,
+) -> usize
+    requires { ⌜ at + size ≤ length (now b) ⌝ }
+    ensures { λ r. ⌜ r ≡ constraintFault (now (b .entry)) p k c kind at size ⌝ }
+{
+    match kind {
+        KIND_STRING => string_fault(b, p, k, at, size),
+        KIND_ARITHMETIC => arithmetic_fault(b, c, at, size),
+        _ => 4,
+    }
+}
+
+// ---- kinds and their order
+
+// "They stand in order of kind": the ranks of the records in this order; 0 stands before the head.
+pub const HEAD_RANK: usize = 1;
+
+const LITERAL_RANK: usize = 2;
+
+const STRING_RANK: usize = 3;
+
+const ARITHMETIC_RANK: usize = 4;
+
+// The rank of a kind, 0 for a kind that has no place in a question.
+fn rank_of(kind: usize) -> usize
+    ensures { λ r. ⌜ r ≡ rankOf kind ⌝ }
+{
+    match kind {
+        KIND_HEAD => HEAD_RANK,
+        KIND_LITERAL => LITERAL_RANK,
+        KIND_STRING => STRING_RANK,
+        KIND_ARITHMETIC => ARITHMETIC_RANK,
+        _ => 0,
+    }
+}
+
+// How a question is read.
+pub struct Manner {
+    // Whether 10 is looked for.
+    pub limited: bool,
+    // The greatest rank that is taken: a kind of a greater one is out of its place.
+    pub greatest: usize,
+}
+
+// "2 to 7 and 10 for the question": in checking and in judging.
+pub const CHECKING: Manner = Manner {
+    limited: true,
+    greatest: ARITHMETIC_RANK,
+};
+
+pub const JUDGING: Manner = Manner {
+    limited: true,
+    greatest: ARITHMETIC_RANK,
+};
+
 // ---- one record
 
-// What was read so far: the kind of the last record, 0 before the head, and the question by its numbers.
+// What was read so far: the rank of the last record, 0 before the head, and the question by its numbers.
 pub struct Progress {
     pub last: usize,
     pub n: usize,
@@ -284,81 +358,91 @@ pub struct Progress {
     pub constraints: usize,
 }
 
-// "They stand in order of kind"; "4 when a kind is unknown or out of its place (a 16th literal .. included)"
-fn in_place(last: usize, literals: usize, k: usize) -> bool
-    ensures { λ r. ⌜ r ≡ kindInPlace last literals k ⌝ }
+// "They stand in order of kind"; "4 when a kind is unknown or out of its place (a 16th literal .. included)": a record of a rank behind the rank last and so many
+// literals, where ranks up to the greatest are taken.
+fn in_place(greatest: usize, last: usize, literals: usize, rank: usize) -> bool
+    ensures { λ r. ⌜ r ≡ rankInPlace greatest last literals rank ⌝ }
 {
-    if k == 1 {
+    if rank == HEAD_RANK {
         return last == 0;
     }
-    if last < 1 {
+    if last < HEAD_RANK {
         return false;
     }
-    if k < 2 {
+    if rank < LITERAL_RANK {
         return false;
     }
-    if k < last {
+    if rank < last {
         return false;
     }
-    if 4 < k {
+    if greatest < rank {
         return false;
     }
-    if k != 2 {
+    if rank != LITERAL_RANK {
         return true;
     }
     literals < LITERAL_LIMIT
 }
 
-// The first of 5 to 7 that applies to a body of kind k.
-fn body_fault(b: &[u8], s: Progress, k: usize, at: usize, size: usize) -> usize
-    requires { ⌜ (at + size ≤ length (now b)) × (k ≡ 2 → skip (now b) (s .literals) literalsFrom ≤ length (now b)) × (s .p ≤ variableLimit) × (s .q ≤ variableLimit) ⌝ }
-    ensures { λ r. ⌜ r ≡ questionBodyFault (now (b .entry)) (progressOf (now (b .entry)) s .question) k at size ⌝ }
+// The first of 5 to 7 that applies to a body of a kind.
+fn body_fault(b: &[u8], s: Progress, kind: usize, at: usize, size: usize) -> usize
+    requires { ⌜ (at + size ≤ length (now b)) × (rankOf kind ≡ literalRank → skip (now b) (s .literals) literalsFrom ≤ length (now b)) × (s .p ≤ variableLimit) × (s .q ≤ variableLimit) ⌝ }
+    ensures { λ r. ⌜ r ≡ questionBodyFault (now (b .entry)) (progressOf (now (b .entry)) s .question) kind at size ⌝ }
 {
-    if k == 1 {
-        return head_fault(b, at, size);
+    match rank_of(kind) {
+        HEAD_RANK => head_fault(b, at, size),
+        LITERAL_RANK => literal_fault(b, s.n, s.literals, at, size),
+        _ => constraint_fault(b, s.p, s.literals, s.q + (s.p + s.p), kind, at, size),
     }
-    if k == 2 {
-        return literal_fault(b, s.n, s.literals, at, size);
+}
+
+// "At most 128 facts stand on a branch": where 10 is looked for, a constraint must find room behind those before it.
+fn has_room(limited: bool, rank: usize, constraints: usize) -> bool
+    ensures { λ r. ⌜ r ≡ roomFor limited rank constraints ⌝ }
+{
+    if !limited {
+        return true;
     }
-    if k == 3 {
-        return string_fault(b, s.p, s.literals, at, size);
+    if rank <= LITERAL_RANK {
+        return true;
     }
-    arithmetic_fault(b, s.q + (s.p + s.p), at, size)
+    constraints < FACT_LIMIT
 }
 
 // The first number that applies to a whole record, 10 behind the others.
-fn record_fault(b: &[u8], s: Progress, k: usize, at: usize, size: usize) -> usize
-    requires { ⌜ StandsTo (now b) s at ⌝ }
-    requires { ⌜ (k ≡ kindAt (now b) at) × (size ≡ sizeAt (now b) at) × (at + 6 + size ≤ length (now b)) ⌝ }
-    ensures { λ r. ⌜ r ≡ questionFault (now (b .entry)) (progressOf (now (b .entry)) s) at ⌝ }
+fn record_fault(m: Manner, b: &[u8], s: Progress, kind: usize, at: usize, size: usize) -> usize
+    requires { ⌜ StandsTo (m .greatest) (now b) s at ⌝ }
+    requires { ⌜ (kind ≡ kindAt (now b) at) × (size ≡ sizeAt (now b) at) × (at + 6 + size ≤ length (now b)) ⌝ }
+    ensures { λ r. ⌜ r ≡ questionFault (mannerOf m) (now (b .entry)) (progressOf (now (b .entry)) s) at ⌝ }
 {
-    if !in_place(s.last, s.literals, k) {
+    let rank = rank_of(kind);
+    if !in_place(m.greatest, s.last, s.literals, rank) {
         return 4;
     }
-    let f = body_fault(b, s, k, at + 6, size);
+    let f = body_fault(b, s, kind, at + RECORD_HEAD, size);
     if f != 0 {
         return f;
     }
-    if k <= 2 {
-        return 0;
+    if has_room(m.limited, rank, s.constraints) {
+        0
+    } else {
+        10
     }
-    let constraints = s.constraints;
-    if constraints < FACT_LIMIT { 0 } else { 10 }
 }
 
 // What was read after a record without fault.
-fn advance(b: &[u8], s: Progress, k: usize, at: usize) -> Progress
-    requires { ⌜ StandsTo (now b) s at ⌝ }
-    requires { ⌜ (k ≡ kindAt (now b) at) × (questionFault (now b) (progressOf (now b) s) at ≡ 0) ⌝ }
+fn advance(b: &[u8], s: Progress, kind: usize, at: usize) -> Progress
+    requires { ⌜ NextAt (now b) s at × (kind ≡ kindAt (now b) at) ⌝ }
     ensures { λ r. ⌜ progressOf (now (b .entry)) r ≡ questionAdvanced (now (b .entry)) (progressOf (now (b .entry)) s) at ⌝ }
 {
-    if k == 1 {
-        let body = at + 6;
+    let rank = rank_of(kind);
+    if rank == HEAD_RANK {
+        let body = at + RECORD_HEAD;
         let n = u32_at(b, body);
         let p = u16_at(b, body + 4);
         let q = u16_at(b, body + 6);
         return Progress {
-            last: 1,
+            last: HEAD_RANK,
             n: n,
             p: p,
             q: q,
@@ -366,9 +450,9 @@ fn advance(b: &[u8], s: Progress, k: usize, at: usize) -> Progress
             constraints: 0,
         };
     }
-    if k == 2 {
+    if rank == LITERAL_RANK {
         return Progress {
-            last: 2,
+            last: LITERAL_RANK,
             n: s.n,
             p: s.p,
             q: s.q,
@@ -377,7 +461,7 @@ fn advance(b: &[u8], s: Progress, k: usize, at: usize) -> Progress
         };
     }
     Progress {
-        last: k,
+        last: rank,
         n: s.n,
         p: s.p,
         q: s.q,
@@ -399,15 +483,15 @@ pub enum Reading {
 fn ends_question(k: usize) -> bool
     ensures { λ r. ⌜ r ≡ ending k ⌝ }
 {
-    if k == 5 {
+    if k == KIND_CLAIM {
         return true;
     }
-    k == 8
+    k == KIND_END
 }
 
-// "reading ends at the six leading bytes of the first claim or end record"
-pub fn read_question(b: &[u8]) -> Reading
-    ensures { λ r. ⌜ readingOf (now (b .entry)) r ≡ question (now (b .entry)) ⌝ }
+// The question of the bytes, read in a manner; "reading ends at the six leading bytes of the first claim or end record".
+pub fn read_question(m: Manner, b: &[u8]) -> Reading
+    ensures { λ r. ⌜ readingOf (now (b .entry)) r ≡ readBy (questionFault (mannerOf m)) (now (b .entry)) ⌝ }
 {
     if TICKET_BYTES < b.len() {
         return Reading::Stopped(2, 0);
@@ -435,13 +519,13 @@ pub fn read_question(b: &[u8]) -> Reading
                 if ends_question(k) {
                     return Reading::Ended(s, at, r);
                 }
-                let f = record_fault(b, s, k, at, size);
+                let f = record_fault(m, b, s, k, at, size);
                 if f != 0 {
                     return Reading::Stopped(f, r);
                 }
                 let t = advance(b, s, k, at);
                 s = t;
-                at = at + 6 + size;
+                at = at + RECORD_HEAD + size;
                 r += 1;
             }
         }
@@ -458,7 +542,7 @@ pub fn behind_literals(b: &[u8], l: usize) -> usize
     let mut j = LITERALS_FROM;
     let mut left = l;
     while 0 < left {
-        j = j + 6 + u32_at(b, j);
+        j = j + RECORD_HEAD + u32_at(b, j);
         left -= 1;
     }
     j
@@ -481,7 +565,7 @@ pub fn literal_text(b: &[u8], l: usize) -> Text
     let from = behind_literals(b, l - 1);
     let size = u32_at(b, from);
     Text {
-        at: from + 6,
+        at: from + RECORD_HEAD,
         count: size / 4,
     }
 }
@@ -505,7 +589,7 @@ pub fn column_of(p: usize, q: usize, function: usize, x: usize) -> usize
     requires { ⌜ (p ≤ variableLimit) × (q ≤ variableLimit) × (x < variableLimit) ⌝ }
     ensures { λ r. ⌜ (r ≡ columnAt p q function x) × (r < columnLimit) ⌝ }
 {
-    if function == 0 {
+    if function == LEN {
         return q + x;
     }
     q + (p + x)

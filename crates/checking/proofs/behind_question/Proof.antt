@@ -23,7 +23,7 @@ returns c =
 load-requires : tie.Need-load-requires
 load-requires c κs =
     let s = c .before .before .before .before .before in
-    (posed (now (s .args .ticket)) (s .args .s) (s .args .at) (s .pre .0 .0) (s .pre .0 .2) (sym (c .before .before .claim-fault .ensures) ∙ c .before .if1 .left), s .pre .1 .0)
+    (posed (now (s .args .ticket)) (s .args .s) (s .args .at) (s .pre .0 .0) (s .pre .0 .2) (s .pre .0 .3) (sym (c .before .before .claim-fault .ensures) ∙ c .before .if1 .left), s .pre .1 .0)
 
 add-u16-at : tie.Need-add-u16-at
 add-u16-at c = search needs
@@ -47,7 +47,7 @@ prove-requires c κs =
     let tested = loaded .before .before in
     let s = tested .before .before .before .before in
     let claimed = sym (tested .before .claim-fault .ensures) ∙ tested .if1 .left in
-    ((posed (now (s .args .ticket)) (s .args .s) (s .args .at) (s .pre .0 .0) (s .pre .0 .2) claimed, loaded .load .ensures .1, loaded .load .ensures .0), omega arith)
+    ((posed (now (s .args .ticket)) (s .args .s) (s .args .at) (s .pre .0 .0) (s .pre .0 .2) (s .pre .0 .3) claimed, loaded .load .ensures .1, loaded .load .ensures .0), omega arith)
 
 same-length : tie.Need-same-length
 same-length c = search needs
@@ -70,7 +70,7 @@ give-answer-requires c κs =
     let tested = loaded .before .before in
     let s = tested .before .before .before .before in
     let claimed = sym (tested .before .claim-fault .ensures) ∙ tested .if1 .left in (
-      (posed (now (s .args .ticket)) (s .args .s) (s .args .at) (s .pre .0 .0) (s .pre .0 .2) claimed, loaded .load .ensures .1, loaded .load .ensures .0),
+      (posed (now (s .args .ticket)) (s .args .s) (s .args .at) (s .pre .0 .0) (s .pre .0 .2) (s .pre .0 .3) claimed, loaded .load .ensures .1, loaded .load .ensures .0),
       omega arith,
       s .pre .1 .1,
     )

@@ -26,7 +26,7 @@ behind-question-requires c κs =
     let b = now (s .ticket) in
     let end = c .before .before .before .s .given .0 in
     let read = read-question b (end .0) (end .1 .0) (end .1 .1 .0) (sym (c .before .before .before .before .before .read-question .ensures) ∙ ap (readingOf b) (c .before .before .before .s .given .1)) in
-    ((read .stands, read .headed, read .short, read .few), c .before .before .before .before .before .before .before .before .pre)
+    ((read .stands, read .headed, read .short, read .few-constraints, read .few), c .before .before .before .before .before .before .before .before .pre)
 
 returns : tie.Need-returns
 unfolding readingOf

@@ -11,7 +11,8 @@ use native.Mathlib.Omega.{arith}
 use Rattle.calculus.specs.Facts.{Fact}
 use Rattle.format.proofs.Places.{skip-snoc}
 use Rattle.format.specs.Places.{constraintsAt, skip}
-use Rattle.format.specs.Question.{constraintOf}
+use Rattle.calculus.specs.Limits.{variableLimit, literalLimit, columnLimit}
+use Rattle.format.specs.Question.{checkingManner, constraintFault, constraintOf}
 use Rattle.format.specs.Records.{kind, next, size}
 use Rattle.question.proofs.Posed.{literals-whole}
 use Rattle.question.specs.Posed.{asked}
@@ -19,9 +20,8 @@ use Rattle.question.specs.Standing.{ConstraintAt}
 use Rattle.rows.proofs.Small.{fine-put, fine-start}
 use Rattle.rows.specs.Rows.{branchOf}
 use Rattle.rows.specs.Work.{Fine}
-use Rattle.constraints.specs.Constraints.{constraintFault}
 use Rattle.constraints.proofs.Loading.{loaded-all, loaded-more}
-use Rattle.constraints.proofs.Ranges.{constraint-formed, constraint-within}
+use Rattle.constraints.proofs.Ranges.{constraint-more, constraint-within}
 use Rattle.constraints.proofs.load.Statement.{statement}
 use Rattle.constraints.proofs.load.Tie as tie
 
@@ -44,16 +44,20 @@ loop-holds c =
     (omega arith, refl, refl, fine-start (now (s .args .work)) (s .pre .1), rw e)
 
 -- the record in turn
-stands : (c : tie.In-loop Inv-loop μ-loop) → ConstraintAt (now (c .before .before .before .before .args .ticket)) (c .before .before .before .before .args .s .p) (c .before .before .before .before .args .s .q) (c .before .before .before .before .args .s .literals) (c .before .loop .at)
+stands : (c : tie.In-loop Inv-loop μ-loop) →
+    let a = c .before .before .before .before .args in
+    ConstraintAt (checkingManner .greatest) (now (a .ticket)) (a .s .p) (a .s .q) (a .s .literals) (c .before .loop .at)
 stands c =
     let s = c .before .before .before .before in
     rw (c .before .loop .inv .1, c .before .before .behind-literals .ensures) (s .pre .0 .stands .constraints-stand (c .before .loop .k) (omega arith))
 
-formed : (c : tie.In-loop Inv-loop μ-loop) → constraintFault (now (c .before .before .before .before .args .ticket)) (kind (now (c .before .before .before .before .args .ticket)) (c .before .loop .at)) (c .before .loop .at + 6) (size (now (c .before .before .before .before .args .ticket)) (c .before .loop .at)) ≡ 0
+formed : (c : tie.In-loop Inv-loop μ-loop) →
+    let b = now (c .before .before .before .before .args .ticket) in
+    let at' = c .before .loop .at in
+    constraintFault b variableLimit literalLimit columnLimit (kind b at') (at' + 6) (size b at') ≡ 0
 formed c =
-    let s = c .before .before .before .before in
-    let h = s .pre .0 .stands in
-    constraint-formed (now (s .args .ticket)) (s .args .s .p) (s .args .s .q) (s .args .s .literals) (c .before .loop .at) (h .few-strings) (h .few-integers) (h .few-literals) (stands c)
+    let h = c .before .before .before .before .pre .0 .stands in
+    constraint-more _ _ _ _ _ _ _ (h .few-strings) (h .few-literals) (omega (arith, h .few-strings, h .few-integers)) (stands c .formed)
 
 u32-at-requires : tie.Need-u32-at-requires Inv-loop μ-loop
 u32-at-requires c κs = omega (arith, stands c .whole)
@@ -71,7 +75,7 @@ put-constraint-requires : tie.Need-put-constraint-requires Inv-loop μ-loop
 put-constraint-requires c κs =
     let l = c .before .before .before .before .loop in
     let s = c .before .before .before .before .before .before .before in
-    ((omega (arith, s .pre .0 .stands .few-constraints), l .inv .3 .room), rw (c .before .u16-at .ensures .0, c .before .before .u32-at .ensures .0) (omega (arith, stands (c .before .before .before) .whole), formed (c .before .before .before)))
+    ((omega (arith, s .pre .0 .few-constraints), l .inv .3 .room), rw (c .before .u16-at .ensures .0, c .before .before .u32-at .ensures .0) (omega (arith, stands (c .before .before .before) .whole), formed (c .before .before .before)))
 
 add-at : tie.Need-add-at Inv-loop μ-loop
 add-at c = omega (arith, stands (c .before .before .before .before .before) .whole)
@@ -98,12 +102,12 @@ loop-again c =
     c .before .put-constraint .ensures ∙ ap₂ (λ (k m : ℕ). branchOf (l .work) (l .k) ++ (constraintOf b k (l .at + 6) m ∷ [])) (c .before .before .before .u16-at .ensures .0) size-is in
     let kept : length v ≡ length (l .work) = c .before .put-constraint .kept .0 in
     let less : s .args .s .constraints - l .k - 1 ≡ s .args .s .constraints - (l .k + 1) = omega arith in
-    let few = s .pre .0 .stands .few-constraints in
+    let few = s .pre .0 .few-constraints in
     rw size-is (
       omega arith,
       ap (next b) (l .inv .1) ∙ sym (skip-snoc b (l .k) from) ∙ ap (λ (k : ℕ). skip b k from) (sym (add-one (l .k))),
       kept ∙ l .inv .2,
-      fine-put (l .work) v (l .k) f (l .inv .3) (omega arith) kept put (constraint-within b (kind b (l .at)) (l .at + 6) (size b (l .at)) (formed (c .before .before .before .before .before))),
+      fine-put (l .work) v (l .k) f (l .inv .3) (omega arith) kept put (constraint-within b _ _ _ (kind b (l .at)) (l .at + 6) (size b (l .at)) (formed (c .before .before .before .before .before))),
       rw (put, ← less) (loaded-more b (l .at) (s .args .s .constraints - l .k) (branchOf (l .work) (l .k)) (omega arith)) ∙ l .inv .4,
     )
 

@@ -1,8 +1,9 @@
 -- `judging::judge_answer` meets its contract.
 use borrow.Author.Needs.{needs}
 use denote.Ref.{now}
-use mathlib.Core.Path.{_∙_, ap, sym}
+use mathlib.Core.Path.{_∙_, ap, refl, sym}
 use native.Mathlib.Omega.{arith}
+use Rattle.format.specs.Question.{judgingManner}
 use Rattle.question.proofs.Standing.{question-posed}
 use Rattle.judging.proofs.Outcomes.{headed, headless, stopped}
 use Rattle.judging.specs.Judgements.{judgementOf}
@@ -24,7 +25,7 @@ judge-behind-requires : tie.Need-judge-behind-requires
 unfolding readingOf
 judge-behind-requires c κs =
     let s = c .before .before .before .before .before .before .before .args in
-    question-posed (now (s .question)) (c .before .before .s .given .0 .0) _ _ (sym (c .before .before .before .before .read-question .ensures) ∙ ap (readingOf (now (s .question))) (c .before .before .s .given .1)) (omega arith)
+    question-posed judgingManner refl (now (s .question)) (c .before .before .s .given .0 .0) _ _ (sym (c .before .before .before .before .read-question .ensures) ∙ ap (readingOf (now (s .question))) (c .before .before .s .given .1)) (omega arith)
 
 returns : tie.Need-returns
 unfolding readingOf
@@ -36,7 +37,7 @@ returns-2 : tie.Need-returns-2
 unfolding readingOf
 returns-2 c =
     let s = c .before .before .before .before .before .before .before .args in
-    headless (now (s .question)) (now (s .answer)) (sym (c .before .before .before .before .read-question .ensures) ∙ ap (readingOf (now (s .question))) (c .before .before .s .given .1)) (c .if1 .taken)
+    headless (now (s .question)) (now (s .answer)) (sym (c .before .before .before .before .read-question .ensures) ∙ ap (readingOf (now (s .question))) (c .before .before .s .given .1)) (omega arith)
 
 returns-3 : tie.Need-returns-3
 unfolding readingOf asked

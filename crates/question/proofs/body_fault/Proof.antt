@@ -1,51 +1,51 @@
 -- `question::body_fault` meets its contract.
 use borrow.Author.Needs.{needs}
-use borrow.Author.Tests.{eq-eqb, ne-eqb}
+use borrow.Author.Tests.{ne-eqb}
+use mathlib.Core.Path.{_∙_, sym}
 use Rattle.format.proofs.Places.{length-texts}
 use Rattle.question.proofs.body_fault.Statement.{statement}
 use Rattle.question.proofs.body_fault.Tie as tie
+
+rank-of-requires : tie.Need-rank-of-requires
+rank-of-requires c κs = search needs
 
 head-fault-requires : tie.Need-head-fault-requires
 head-fault-requires c κs = search needs
 
 returns : tie.Need-returns
-returns c = rw (eq-eqb _ _ (c .before .if1 .taken)) (c .head-fault .ensures)
+returns c = rw (sym (c .before .before .rank-of .ensures) ∙ c .before .match .keys1) (c .head-fault .ensures)
 
 literal-fault-requires : tie.Need-literal-fault-requires
-literal-fault-requires c κs = (c .before .before .before .pre .0, c .before .before .before .pre .1 (c .if2 .taken))
+literal-fault-requires c κs = let s = c .before .before .before in (s .pre .0, s .pre .1 (sym (c .before .rank-of .ensures) ∙ c .match .keys2))
 
 returns-2 : tie.Need-returns-2
-returns-2 c = rw (ne-eqb _ _ (c .before .before .if1 .left), eq-eqb _ _ (c .before .if2 .taken)) (c .literal-fault .ensures)
+returns-2 c = rw (sym (c .before .before .rank-of .ensures) ∙ c .before .match .keys2) (c .literal-fault .ensures)
 
-string-fault-requires : tie.Need-string-fault-requires
-string-fault-requires c κs = search needs
+add-constraint-fault : tie.Need-add-constraint-fault
+add-constraint-fault c = search needs
+
+add-constraint-fault-2 : tie.Need-add-constraint-fault-2
+add-constraint-fault-2 c = search needs
+
+constraint-fault-requires : tie.Need-constraint-fault-requires
+constraint-fault-requires c κs = search needs
 
 returns-3 : tie.Need-returns-3
-returns-3 c = rw (ne-eqb _ _ (c .before .before .before .if1 .left), ne-eqb _ _ (c .before .before .if2 .left), eq-eqb _ _ (c .before .if3 .taken), length-texts) (c .string-fault .ensures)
-
-add-arithmetic-fault : tie.Need-add-arithmetic-fault
-add-arithmetic-fault c = search needs
-
-add-arithmetic-fault-2 : tie.Need-add-arithmetic-fault-2
-add-arithmetic-fault-2 c = search needs
-
-arithmetic-fault-requires : tie.Need-arithmetic-fault-requires
-arithmetic-fault-requires c κs = search needs
-
-returns-4 : tie.Need-returns-4
-returns-4 c = rw (ne-eqb _ _ (c .before .before .before .before .before .if1 .left), ne-eqb _ _ (c .before .before .before .before .if2 .left), ne-eqb _ _ (c .before .before .before .if3 .left)) (c .arithmetic-fault .ensures)
+returns-3 c =
+    let arm = c .before .before .before in
+    let rank = arm .before .rank-of .ensures in
+    rw (ne-eqb _ _ (λ z. arm .match .rest .0 .1 (rank ∙ z)), ne-eqb _ _ (λ z. arm .match .rest .1 (rank ∙ z)), length-texts) (c .constraint-fault .ensures)
 
 pub body-fault-spec : {M : Type 1} → statement M
 body-fault-spec =
     tie.close
     (tie.spec
+    rank-of-requires
     head-fault-requires
-    returns
     literal-fault-requires
+    add-constraint-fault
+    add-constraint-fault-2
+    constraint-fault-requires
+    returns
     returns-2
-    string-fault-requires
-    returns-3
-    add-arithmetic-fault
-    add-arithmetic-fault-2
-    arithmetic-fault-requires
-    returns-4)
+    returns-3)
