@@ -10,7 +10,7 @@ use Rattle.lists.proofs.Lists.{all-append, all-left, all-right, all-at, down}
 use Rattle.calculus.specs.Facts.{Question, Fact, Branch}
 use Rattle.calculus.specs.Steps.{Step}
 use Rattle.calculus.specs.Children.{childAt}
-use Rattle.calculus.specs.Rules.{then, children}
+use Rattle.calculus.specs.Rules.{RuleSet, then, children}
 use Rattle.calculus.specs.Instances.{Instance, StepInRange}
 use Rattle.calculus.specs.Walk.{Waiting, Walk, working, closed, wait, cutBack, enter}
 use Rattle.calculus.specs.Derivations.{Closes, by, ClosesAll, none-left, child, Takes, Path}
@@ -28,12 +28,15 @@ Pending = List (Waiting Branch (List Fact))
 abbrev pub State : Type 0
 State = Walk Branch (List Fact)
 
--- the steps fit one after another, and with the last the last branch closes
-unfoldable pub Walked : Question → State → List Step → Type 0
-Walked u closed [] = Unit {0}
-Walked u (working b ss) [] = ⊥
-Walked u closed (st ∷ sts) = ⊥
-Walked u (working b ss) (st ∷ sts) = (cs : List (List Fact)) × (children u b st ≡ some cs) × Walked u (enter _++_ b cs ss) sts
+-- the steps fit one after another, by a rule set, and with the last the last branch closes
+unfoldable pub WalkedBy : RuleSet → Question → State → List Step → Type 0
+WalkedBy rules u closed [] = Unit {0}
+WalkedBy rules u (working b ss) [] = ⊥
+WalkedBy rules u closed (st ∷ sts) = ⊥
+WalkedBy rules u (working b ss) (st ∷ sts) = (cs : List (List Fact)) × (rules u b st ≡ some cs) × WalkedBy rules u (enter _++_ b cs ss) sts
+
+abbrev pub Walked : Question → State → List Step → Type 0
+Walked = WalkedBy children
 
 -- the steps are a first part with P, and a rest with Q
 abbrev Parts : (List Step → Type 0) → (List Step → Type 0) → List Step → Type 0
@@ -97,7 +100,7 @@ module _ (u : Question) where
 
 module _ (u : Question) (w : HeadInRange u) where
   walked-closes : (s : List Step) (k : State) → StateInRange u k → All (StepInRange u) s → Walked u k s → ClosesState u k s
-  unfolding Walked
+  unfolding WalkedBy
   walked-closes [] closed r g h = refl
   walked-closes [] (working b ss) r g h = absurd h
   walked-closes (st ∷ s) closed r g h = absurd h
@@ -108,7 +111,7 @@ module _ (u : Question) (w : HeadInRange u) where
   -- ---- a closed tree is a walk
 
   mutual
-    unfolding Walked
+    unfolding WalkedBy
 
     closes-walked : {b : Branch} {s : List Step} → Closes u b s → (ss : Pending) (r : List Step) → FactsInRange u b → All (StepInRange u) s
         → Walked u (cutBack _++_ ss) r → Walked u (working b ss) (s ++ r)
@@ -131,23 +134,29 @@ module _ (u : Question) (w : HeadInRange u) where
       subst (Closes u b) (sym (d ∙ ap (λ l. f ++ l) e ∙ append-nil f)) k
 
   pub closes→walked : (b : Branch) (sts : List Step) → FactsInRange u b → All (StepInRange u) sts → Closes u b sts → Walked u (working b []) sts
-  unfolding Walked
+  unfolding WalkedBy
   closes→walked b sts r g k = subst (Walked u (working b [])) (append-nil sts) (closes-walked k [] [] r g tt)
 
 -- ---- claim 2
 
 -- the child number k of the step, from 1
+abbrev pub childTakenBy : RuleSet → Question → Branch → Step × ℕ → Option (List Fact)
+childTakenBy rules u b t = then (rules u b (t .0)) (λ cs. childAt cs (t .1))
+
 abbrev pub childTaken : Question → Branch → Step × ℕ → Option (List Fact)
-childTaken u b t = then (children u b (t .0)) (λ cs. childAt cs (t .1))
+childTaken = childTakenBy children
 
 pub child-at : {A : Type 0} (cs : List A) (k : ℕ) {c : A} → childAt cs k ≡ some c → getElem? cs (k - 1) ≡ some c
 child-at cs zero e = absurd (none-some e)
 child-at cs (suc k) e = rw (down k) e
 
--- the steps fit one after another, and with the children taken the branch becomes the leaf
-unfoldable pub Followed : Question → Branch → List (Step × ℕ) → Branch → Type 0
-Followed u b [] leaf = b ≡ leaf
-Followed u b (t ∷ ts) leaf = (c : List Fact) × (childTaken u b t ≡ some c) × Followed u (b ++ c) ts leaf
+-- the steps fit one after another, by a rule set, and with the children taken the branch becomes the leaf
+unfoldable pub FollowedBy : RuleSet → Question → Branch → List (Step × ℕ) → Branch → Type 0
+FollowedBy rules u b [] leaf = b ≡ leaf
+FollowedBy rules u b (t ∷ ts) leaf = (c : List Fact) × (childTakenBy rules u b t ≡ some c) × FollowedBy rules u (b ++ c) ts leaf
+
+abbrev pub Followed : Question → Branch → List (Step × ℕ) → Branch → Type 0
+Followed = FollowedBy children
 
 module _ (u : Question) (w : HeadInRange u) where
   pub taken-in-range : (b : Branch) (t : Step × ℕ) (c : List Fact) → FactsInRange u b → StepInRange u (t .0) → Takes u b t c → FactsInRange u (b ++ c)
@@ -162,14 +171,14 @@ module _ (u : Question) (w : HeadInRange u) where
   takes→taken b t c r g k = →then _ (instance→fits u w b r (t .0) g (k .proper)) (k .taken)
 
   pub followed→path : (ts : List (Step × ℕ)) (b leaf : Branch) → FactsInRange u b → All (λ t. StepInRange u (t .0)) ts → Followed u b ts leaf → Path u b ts leaf
-  unfolding Followed Path
+  unfolding FollowedBy Path
   followed→path [] b leaf r g h = h
   followed→path (t ∷ ts) b leaf r (g, gs) (c, e, h) =
       let k : Takes u b t c = taken→takes b t c r g e in
       (c, k, followed→path ts (b ++ c) leaf (taken-in-range b t c r g k) gs h)
 
   pub path→followed : (ts : List (Step × ℕ)) (b leaf : Branch) → FactsInRange u b → All (λ t. StepInRange u (t .0)) ts → Path u b ts leaf → Followed u b ts leaf
-  unfolding Followed Path
+  unfolding FollowedBy Path
   path→followed [] b leaf r g h = h
   path→followed (t ∷ ts) b leaf r (g, gs) (c, k, h) = (c, takes→taken b t c r g k, path→followed ts (b ++ c) leaf (taken-in-range b t c r g k) gs h)
 

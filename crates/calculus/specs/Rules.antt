@@ -124,8 +124,12 @@ cardChildren u b (x ∷ y ∷ xs) =
 abbrev pub literalChildren : Question → Branch → Function → ℕ → Option (List (List Fact))
 literalChildren u b f x = then (classLiteral u b x) (λ l. some (literalChild u f x l))
 
--- the children of a step on a branch; none where it does not fit; a closing rule has no child
-abbrev pub children : Question → Branch → Step → Option (List (List Fact))
+-- a rule set: the children of each step on a branch; none where it does not fit; a closing rule has no child
+abbrev pub RuleSet : Type 0
+RuleSet = Question → Branch → Step → Option (List (List Fact))
+
+-- document 01's rules
+abbrev pub children : RuleSet
 children u b (Sum d ts) = then (sumOf b ts) (λ r. then (divided d r) (λ e. some (sumChild e)))
 children u b (BranchOn e) = some (branchChildren e)
 children u b (Apart k) = then (getElem? b k) apartOf

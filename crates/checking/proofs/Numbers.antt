@@ -1,4 +1,4 @@
--- Reading never gives the number 1: it is for the lent buffers alone.
+-- Reading never gives the number 1, whatever the rules: it is for the lent buffers alone.
 use Prim.Native.Nat.{ℕ, zero, suc, _+_, _*_, _-_, _/_, _%_}
 use native.Mathlib.Omega.{arith}
 use mathlib.Core.Path.{_≡_}
@@ -11,7 +11,7 @@ use lib.IntN.{ℤ}
 use Rattle.calculus.specs.Limits.{ticketBytes, lengthLimit, columnLimit, valueLimit}
 use Rattle.calculus.specs.Alphabet.{allCharacters}
 use Rattle.calculus.specs.Strings.{given}
-use Rattle.calculus.specs.Rules.{children}
+use Rattle.calculus.specs.Rules.{RuleSet}
 use Rattle.calculus.specs.SaturationTest.{saturated}
 use Rattle.calculus.specs.Facts.{Question, Fact, Branch, columnCount}
 use Rattle.calculus.specs.Walk.{working, closed}
@@ -20,9 +20,9 @@ use Rattle.format.specs.Records.{need, kind, next, whole, records, size}
 use Rattle.format.specs.Question as question
 use Rattle.format.specs.Question.{Progress, Reading, Stopped, Ended, unread, headRange, textOf, stringRange, formRange}
 use Rattle.format.specs.StepForms.{rule, childField, lengthFits, operandsInRange, stepAt, childInRange}
-use Rattle.format.specs.Reading.{State, proving, taking, modelled, Ticket, Faulty, Done, fault, advanced, readSteps, claimFault, claimAt, begin, bodyFault, lastFault, stepFault, modelAt, modelFault, readBehind, stepsOn}
+use Rattle.format.specs.Reading.{State, proving, taking, modelled, Ticket, Faulty, Done, fault, advanced, readSteps, claimFault, claimAt, begin, bodyFault, lastFault, stepFault, modelAt, modelFault, readBehind, stepsOn, complete}
 use Rattle.format.specs.Checking as format
-use Rattle.format.specs.Checking.{checker, outcomeOf, fits, orNone, factsWithin, childrenWithin, room, roomForAll, roomToPend, allTried, takenTried, keeps, shortLengths, leafFault, complete, takenFacts}
+use Rattle.format.specs.Checking.{checkerBy, outcomeOf, fits, orNone, factsWithin, childrenWithin, room, roomForAll, roomToPend, allTried, takenTried, keeps, shortLengths, leafFault, childIn}
 
 abbrev pub Other : ℕ → Type 0
 Other c = c ≡ 1 → ⊥
@@ -112,8 +112,8 @@ abbrev TicketOther : Ticket Branch (List Fact) → Type 0
 TicketOther (Faulty c r) = Other c
 TicketOther (Done u s) = Unit {0}
 
-module _ (b : List ℕ) (u : Question) where
-  last-other : (s : State Branch (List Fact)) (at : ℕ) → Other (lastFault (checker u) b s at)
+module _ (rules : RuleSet) (b : List ℕ) (u : Question) where
+  last-other : (s : State Branch (List Fact)) (at : ℕ) → Other (lastFault (checkerBy rules u) b s at)
   last-other s at = then 2 (eqb (next b at) (length b)) (then 3 (eqb (size b at) 0) (then 9 (complete s) zero-other))
 
   step-other : (childOk : Bool) (later at m : ℕ) → Other later → Other (stepFault b u childOk later at m)
@@ -131,27 +131,27 @@ module _ (b : List ℕ) (u : Question) where
   model-other : (later at m : ℕ) → Other later → Other (modelFault b u later at m)
   model-other later at m p = then 3 (eqb m (4 * columnCount u)) (then 4 (allWithin valueLimit (modelAt b u at)) p)
 
-  behind-other : (s : State Branch (List Fact)) (k at m : ℕ) → Other (bodyFault (checker u) b u s k at m)
+  behind-other : (s : State Branch (List Fact)) (k at m : ℕ) → Other (bodyFault (checkerBy rules u) b u s k at m)
   behind-other (proving (working br ss)) k at m =
-      then 2 (eqb k 6) (step-other (eqb (childField b at) 0) (allTried br (length ss) (children u br (stepAt b at m))) at m (tried-other br (length ss) (children u br (stepAt b at m))))
+      then 2 (eqb k 6) (step-other (eqb (childField b at) 0) (allTried br (length ss) (rules u br (stepAt b at m))) at m (tried-other br (length ss) (rules u br (stepAt b at m))))
   behind-other (proving closed) k at m = number 2
   behind-other (taking br) k at m =
       pick-other (eqb k 6) _ _
-      (step-other (childInRange (u .n) (stepAt b at m) (childField b at)) (takenTried br (takenFacts u br (stepAt b at m) (childField b at))) at m (taken-other br (takenFacts u br (stepAt b at m) (childField b at))))
+      (step-other (childInRange (u .n) (stepAt b at m) (childField b at)) (takenTried br (childIn (rules u br (stepAt b at m)) (childField b at))) at m (taken-other br (childIn (rules u br (stepAt b at m)) (childField b at))))
       (then 2 (eqb k 7) (model-other (leafFault u br (modelAt b u at)) at m (leaf-other br (modelAt b u at))))
   behind-other (modelled br v) k at m = number 2
 
-  fault-other : (s : State Branch (List Fact)) (at : ℕ) → Other (fault (checker u) b u s at)
+  fault-other : (s : State Branch (List Fact)) (at : ℕ) → Other (fault (checkerBy rules u) b u s at)
   unfolding fault
   fault-other s at = then 1 (whole b at) (pick-other (eqb (kind b at) 8) _ _ (last-other s at) (behind-other s (kind b at) (at + 6) (size b at)))
 
-  steps-other : (ats : List ℕ) (s : State Branch (List Fact)) (r : ℕ) → TicketOther (readSteps (checker u) b u s r ats)
+  steps-other : (ats : List ℕ) (s : State Branch (List Fact)) (r : ℕ) → TicketOther (readSteps (checkerBy rules u) b u s r ats)
   unfolding readSteps
   steps-other [] s r = number 1
-  steps-other (at ∷ ats) s r = go (fault (checker u) b u s at) (eqb (kind b at) 8) (fault-other s at) (steps-other ats (advanced (checker u) b u s at) (suc r))
+  steps-other (at ∷ ats) s r = go (fault (checkerBy rules u) b u s at) (eqb (kind b at) 8) (fault-other s at) (steps-other ats (advanced (checkerBy rules u) b u s at) (suc r))
     where
-      go : (f : ℕ) (x : Bool) → Other f → TicketOther (readSteps (checker u) b u (advanced (checker u) b u s at) (suc r) ats)
-          → TicketOther (elim f as (λ _. Ticket Branch (List Fact)) [ suc c ↦ Faulty (suc c) r | zero ↦ elim x as (λ _. Ticket Branch (List Fact)) [ true ↦ Done u s | false ↦ readSteps (checker u) b u (advanced (checker u) b u s at) (suc r) ats ] ])
+      go : (f : ℕ) (x : Bool) → Other f → TicketOther (readSteps (checkerBy rules u) b u (advanced (checkerBy rules u) b u s at) (suc r) ats)
+          → TicketOther (elim f as (λ _. Ticket Branch (List Fact)) [ suc c ↦ Faulty (suc c) r | zero ↦ elim x as (λ _. Ticket Branch (List Fact)) [ true ↦ Done u s | false ↦ readSteps (checkerBy rules u) b u (advanced (checkerBy rules u) b u s at) (suc r) ats ] ])
       go (suc c) x p q = p
       go zero true p q = tt
       go zero false p q = q
@@ -177,18 +177,18 @@ outcome-other (Done v (proving closed)) p = tt
 outcome-other (Done v (taking br)) p = eleven-other
 outcome-other (Done v (modelled br m)) p = tt
 
-pub never-one : (b : List ℕ) → OtherThanOne (outcomeOf (readBehind checker b (question.question b)))
-never-one b = go (question.question b) (reading-other b)
+pub never-one : (rules : RuleSet) (b : List ℕ) → OtherThanOne (outcomeOf (readBehind (checkerBy rules) b (question.question b)))
+never-one rules b = go (question.question b) (reading-other b)
   where
     claim : (s : Progress) (at r f : ℕ) → Other f
         → OtherThanOne (outcomeOf (elim f as (λ _. Ticket Branch (List Fact)) [
           | suc c ↦ Faulty (suc c) r
-          | zero ↦ stepsOn (checker (s .question)) b (s .question) (begin (checker (s .question)) (claimAt b at)) (suc r) (next b at)
+          | zero ↦ stepsOn (checkerBy rules (s .question)) b (s .question) (begin (checkerBy rules (s .question)) (claimAt b at)) (suc r) (next b at)
         ]))
     claim s at r (suc c) p = p
-    claim s at r zero p = outcome-other (stepsOn (checker (s .question)) b (s .question) (begin (checker (s .question)) (claimAt b at)) (suc r) (next b at))
-        (steps-other b (s .question) (records b (next b at)) (begin (checker (s .question)) (claimAt b at)) (suc r))
+    claim s at r zero p = outcome-other (stepsOn (checkerBy rules (s .question)) b (s .question) (begin (checkerBy rules (s .question)) (claimAt b at)) (suc r) (next b at))
+        (steps-other rules b (s .question) (records b (next b at)) (begin (checkerBy rules (s .question)) (claimAt b at)) (suc r))
 
-    go : (x : Reading) → ReadingOther x → OtherThanOne (outcomeOf (readBehind checker b x))
+    go : (x : Reading) → ReadingOther x → OtherThanOne (outcomeOf (readBehind (checkerBy rules) b x))
     go (Stopped c r) p = p
     go (Ended s at r) p = claim s at r (claimFault b s at) (claim-other b s at)

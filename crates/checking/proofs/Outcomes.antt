@@ -8,12 +8,13 @@ use lib.IntN.{ℤ, pos}
 use borrow.Author.Tests.{le-leb, lt-leb, ne-eqb}
 use Rattle.calculus.specs.Limits.{workNumbers, answerBytes}
 use Rattle.calculus.specs.Facts.{Question, Fact, Branch}
+use Rattle.calculus.specs.Rules.{children}
 use Rattle.calculus.specs.Walk.{closed}
 use Rattle.format.specs.Question.{question}
 use Rattle.format.specs.Answer.{encode}
 use Rattle.format.specs.Reading.{proving, modelled, Ticket, Faulty, Done, readBehind}
 use Rattle.format.specs.Checking as format
-use Rattle.format.specs.Checking.{checker, outcomeOf, answerOf, largeEnough, verdict}
+use Rattle.format.specs.Checking.{checker, outcomeOf, answerOf, largeEnough, verdictBy, verdict}
 use Rattle.format.specs.Demands.{workAfter}
 use Rattle.checking.specs.declared.Outcome.{Outcome}
 use Rattle.checking.specs.declared.Outcome.the-variants.{Refused, NoSolution, Strings}
@@ -54,7 +55,7 @@ module _ (b : List ℕ) (w : List ℤ) (a : List ℕ) where
   bySize x = elim x as (λ _. format.Outcome) [ false ↦ format.Refused 1 0 | true ↦ outcomeOf (readBehind checker b (question b)) ]
 
   sized : {x : Bool} → largeEnough (length w) (length a) ≡ x → verdict (length w) (length a) b ≡ bySize x
-  unfolding verdict
+  unfolding verdictBy
   sized e = ap bySize e
 
   -- "1 when the work area has under 6,400 numbers or the answer buffer under 4,268 bytes"
@@ -84,7 +85,7 @@ module _ (b : List ℕ) (w : List ℤ) (a : List ℕ) where
     outcome = outcomeOf (readBehind checker b (question b));
     checked = record {
       outcome = sym (sized {x = true} (rw (le-leb workNumbers (length w) g, le-leb answerBytes (length a) h)));
-      work-after = z ∙ cleared (outcomeOf (readBehind checker b (question b))) (never-one b);
+      work-after = z ∙ cleared (outcomeOf (readBehind checker b (question b))) (never-one children b);
       answer-after = d .answer-after;
     };
     tells = d .tells;

@@ -18,7 +18,7 @@ use Rattle.question.specs.Posed.{asked}
 use Rattle.steps.specs.Offered.{offeredChild}
 use Rattle.claims.specs.declared.Followed as followed
 use Rattle.claims.specs.Outcomes.{followedOf, LeafAt}
-use Rattle.claims.proofs.Found.{all-there}
+use Rattle.records.proofs.Finding.{all-there}
 use Rattle.claims.proofs.Turns.{turn-none, turn-faulty, turn-taken}
 
 module _ (b : List ℕ) (s : Progress) where

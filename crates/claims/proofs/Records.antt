@@ -15,9 +15,10 @@ use Rattle.steps.specs.Forms.{Formed}
 use Rattle.steps.specs.Offered.{offered}
 use Rattle.steps.proofs.Faults.{formed, child-passed}
 use Rattle.derivation.specs.State.{offeredIn}
-use Rattle.claims.specs.Numbers.{openFault}
-use Rattle.claims.proofs.Found.{all-there}
-use Rattle.claims.proofs.Numbers.{open-step, walk-place, walk-form, walk-step, path-place, path-form, path-step}
+use Rattle.delimiters.specs.Numbers.{openFault}
+use Rattle.records.proofs.Finding.{all-there}
+use Rattle.delimiters.proofs.Open.{open-step}
+use Rattle.claims.proofs.Numbers.{walk-place, walk-form, walk-step, path-place, path-form, path-step}
 
 module _ (b : List ℕ) (u : Question) (at k m : ℕ) (w : (k ≡ kind b at) × (m ≡ size b at) × (at + 6 + m ≤ length b)) where
   abbrev placeOf : ℕ

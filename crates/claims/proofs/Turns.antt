@@ -8,14 +8,14 @@ use lib.ListN.{length}
 use lib.Dec.{leb, eqb}
 use borrow.Author.Tests.{leb-true, leb-false, lt-leb}
 use Rattle.calculus.specs.Facts.{Question, Fact, Branch}
-use Rattle.calculus.specs.Walk.{Waiting, working, enter}
+use Rattle.calculus.specs.Walk.{Waiting, working}
 use Rattle.format.specs.Records.{size, kind, next}
 use Rattle.format.specs.StepForms.{childField}
 use Rattle.format.specs.Reading.{State, proving, taking, modelled, modelAt, fault, advanced, Ticket, Faulty, stepsOn}
 use Rattle.format.specs.Checking.{checker}
 use Rattle.format.proofs.StepTurns.{steps-none, steps-faulty, steps-more}
 use Rattle.steps.specs.Offered.{offered, offeredChild}
-use Rattle.derivation.specs.State.{childrenOn}
+use Rattle.derivation.specs.State.{steppedOn}
 use Rattle.claims.proofs.Numbers.{walk-kind, path-kind}
 
 no-end : (k : ℕ) → k ≡ 6 → eqb k 8 ≡ false
@@ -46,11 +46,11 @@ module _ (b : List ℕ) (u : Question) where
     -- ---- claim 1
 
     module _ (br : Branch) (ss : List (Waiting Branch (List Fact))) where
-      entered : advanced (checker u) b u (proving (working br ss)) at ≡ proving (enter _++_ br (childrenOn b u br at) ss)
+      entered : advanced (checker u) b u (proving (working br ss)) at ≡ proving (steppedOn b u br ss at)
       unfolding advanced offered
       entered = refl
 
-      pub turn-moved : 0 ≡ fault (checker u) b u (proving (working br ss)) at → on (proving (working br ss)) r at ≡ on (proving (enter _++_ br (childrenOn b u br at) ss)) (suc r) (next b at)
+      pub turn-moved : 0 ≡ fault (checker u) b u (proving (working br ss)) at → on (proving (working br ss)) r at ≡ on (proving (steppedOn b u br ss at)) (suc r) (next b at)
       turn-moved f =
           steps-more (checker u) b u (proving (working br ss)) r at headed (sym f) (no-end (kind b at) (walk-kind b u br ss at h (sym f)))
           ∙ ap (λ (st : State Branch (List Fact)). on st (suc r) (next b at)) entered

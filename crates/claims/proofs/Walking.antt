@@ -27,7 +27,7 @@ use Rattle.derivation.proofs.Holding.{waiting}
 use Rattle.derivation.proofs.Acting.{entered, entered-closed, entered-next, entered-one, entered-more}
 use Rattle.claims.specs.declared.Walked as walked
 use Rattle.claims.specs.Outcomes.{walkedOf}
-use Rattle.claims.proofs.Found.{all-there}
+use Rattle.records.proofs.Finding.{all-there}
 use Rattle.claims.proofs.Turns.{turn-none, turn-faulty, turn-moved}
 
 module _ (b : List ℕ) (s : Progress) where

@@ -1,100 +1,32 @@
-// The records behind the question: the claim, claim 1's walk over every branch, claim 2's path to its leaf, and the end.
+// The steps of a derivation: claim 1's walk over every branch, claim 2's path to its leaf.
 ghost use mathlib.Core.Path.{_≡_};
 ghost use mathlib.Core.List.{List, [], _++_};
 ghost use Prim.Native.Nat.{_+_, _≤_};
 ghost use lib.ListN.{length};
 ghost use Rattle.calculus.specs.Facts.{Fact};
 ghost use Rattle.calculus.specs.Walk.{Waiting, working};
-ghost use Rattle.format.specs.Records.{size as sizeAt, kind as kindAt, records};
+ghost use Rattle.format.specs.Records.{size as sizeAt, kind as kindAt};
 ghost use Rattle.format.specs.StepForms.{childField};
-ghost use Rattle.format.specs.Reading.{proving, taking, fault, readSteps, claimFault, endForm};
+ghost use Rattle.format.specs.Reading.{proving, taking, fault, stepsOn};
 ghost use Rattle.format.specs.Checking.{checker};
 ghost use Rattle.rows.specs.Rows.{branchOf};
 ghost use Rattle.rows.specs.Work.{Fine};
-ghost use Rattle.question.specs.Progress.{progressOf};
 ghost use Rattle.question.specs.Posed.{asked, Posed};
 ghost use Rattle.steps.specs.Offered.{offeredChild};
 ghost use Rattle.derivation.specs.Actions.{numberOf, Acts};
-ghost use Rattle.claims.specs.Numbers.{openFault, endFault};
 ghost use Rattle.claims.specs.Outcomes.{walkedOf, followedOf, LeafAt};
 use branch::Branch;
+use delimiters::open_fault;
 use derivation::Action;
 use derivation::next_child;
 use derivation::take_step;
 use question::Progress;
 use records::Found;
 use records::read_at;
-use records::u16_at;
 use rules::Taken;
 use rules::take_child;
 use steps::step_fault_one;
 use steps::step_fault_two;
-
-// ---- the claim
-
-// "5 claim, once: u16, 1 for no solution, 2 for strings"
-pub fn claim_fault(ticket: &[u8], s: Progress, at: usize) -> usize
-    ensures { λ r. ⌜ r ≡ claimFault (now (ticket .entry)) (progressOf (now (ticket .entry)) s) at ⌝ }
-{
-    let Found::Whole(kind, size) = read_at(ticket, at) else {
-        return 3;
-    };
-    if s.last < 1 {
-        return 4;
-    }
-    if kind != 5 {
-        return 4;
-    }
-    if size != 2 {
-        return 5;
-    }
-    let claim = u16_at(ticket, at + 6);
-    if claim < 1 {
-        return 6;
-    }
-    if 2 < claim {
-        return 6;
-    }
-    0
-}
-
-// ---- the end
-
-// An end record that ends at a position, in a ticket of so many bytes: "a byte follows the end record, counted at that end record".
-fn last_fault(length: usize, to: usize, size: usize, later: usize) -> usize
-    ensures { λ r. ⌜ r ≡ endForm length to size later ⌝ }
-{
-    if to != length {
-        return 4;
-    }
-    if size != 0 {
-        return 5;
-    }
-    later
-}
-
-// The number at the record that must be the end, behind the last closed branch or a model; 0 for none.
-pub fn end_fault(ticket: &[u8], at: usize) -> usize
-    ensures { λ r. ⌜ r ≡ endFault (now (ticket .entry)) at ⌝ }
-{
-    let Found::Whole(kind, size) = read_at(ticket, at) else {
-        return 3;
-    };
-    if kind != 8 {
-        return 4;
-    }
-    last_fault(ticket.len(), at + 6 + size, size, 0)
-}
-
-// A record where a branch is open, 0 at a step: "11 when the end comes before every branch closed, or before a model".
-fn open_fault(length: usize, to: usize, kind: usize, size: usize) -> usize
-    ensures { λ r. ⌜ r ≡ openFault length to kind size 0 ⌝ }
-{
-    if kind == 8 {
-        return last_fault(length, to, size, 11);
-    }
-    if kind == 6 { 0 } else { 4 }
-}
 
 // ---- claim 1: every branch is walked until it closes
 
@@ -137,7 +69,7 @@ pub fn walk(ticket: &[u8], s: Progress, at: usize, r: usize, work: &mut [i64]) -
     requires { ⌜ Posed (now ticket) s ⌝ }
     requires { ⌜ Fine (now work) (s .constraints) × (branchOf (now work) (s .constraints) ≡ asked (now ticket) s .constraints) ⌝ }
     requires { ⌜ r ≤ at ⌝ }
-    ensures { λ x. ⌜ walkedOf (now (ticket .entry)) (asked (now (ticket .entry)) s) x ≡ readSteps (checker (asked (now (ticket .entry)) s)) (now (ticket .entry)) (asked (now (ticket .entry)) s) (proving (working (asked (now (ticket .entry)) s .constraints) [])) r (records (now (ticket .entry)) at) ⌝ }
+    ensures { λ x. ⌜ walkedOf (now (ticket .entry)) (asked (now (ticket .entry)) s) x ≡ stepsOn (checker (asked (now (ticket .entry)) s)) (now (ticket .entry)) (asked (now (ticket .entry)) s) (proving (working (asked (now (ticket .entry)) s .constraints) [])) r at ⌝ }
 {
     let mut b = Branch::new(s.constraints);
     let mut i = at;
@@ -214,7 +146,7 @@ pub fn follow(ticket: &[u8], s: Progress, at: usize, r: usize, work: &mut [i64])
     requires { ⌜ Posed (now ticket) s ⌝ }
     requires { ⌜ Fine (now work) (s .constraints) × (branchOf (now work) (s .constraints) ≡ asked (now ticket) s .constraints) ⌝ }
     requires { ⌜ r ≤ at ⌝ }
-    ensures followed { λ x. ⌜ followedOf (now (ticket .entry)) (asked (now (ticket .entry)) s) (now (work .exit)) x ≡ readSteps (checker (asked (now (ticket .entry)) s)) (now (ticket .entry)) (asked (now (ticket .entry)) s) (taking (asked (now (ticket .entry)) s .constraints)) r (records (now (ticket .entry)) at) ⌝ }
+    ensures followed { λ x. ⌜ followedOf (now (ticket .entry)) (asked (now (ticket .entry)) s) (now (work .exit)) x ≡ stepsOn (checker (asked (now (ticket .entry)) s)) (now (ticket .entry)) (asked (now (ticket .entry)) s) (taking (asked (now (ticket .entry)) s .constraints)) r at ⌝ }
     ensures leaf { λ x. ⌜ LeafAt (now (ticket .entry)) (now (work .exit)) x ⌝ }
 {
     let mut count = s.constraints;

@@ -15,7 +15,7 @@ use Rattle.question.specs.declared.Progress.{Progress}
 use Rattle.question.specs.Posed.{asked}
 use Rattle.branch.specs.declared.Branch as code
 use Rattle.branch.specs.Stack.{split, stack}
-use Rattle.derivation.specs.State.{childrenOn, waitings, stateOf}
+use Rattle.derivation.specs.State.{steppedOn, waitings, stateOf}
 use Rattle.derivation.specs.Ok.{Ok, InOrder}
 use Rattle.derivation.specs.Actions.{Acts, Begins, Branches}
 use Rattle.derivation.specs.declared.Action.{Action}
@@ -28,7 +28,7 @@ module _ {b : List ℕ} {s : Progress} {w : List ℤ} {c : code.Branch} (h : InO
   br = branchOf w (c .count)
 
   abbrev pub entered : Walk Branch (List Fact)
-  entered = enter _++_ br (childrenOn b (asked b s) br at) (waitings b (asked b s) br (stack c))
+  entered = steppedOn b (asked b s) br (waitings b (asked b s) br (stack c)) at
 
   -- ---- the branch is closed
 

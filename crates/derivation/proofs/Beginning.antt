@@ -6,7 +6,6 @@ use mathlib.Core.List.{List, _∷_, _++_}
 use lib.ListN.{length}
 use lib.IntN.{ℤ}
 use Rattle.calculus.specs.Facts.{Branch}
-use Rattle.calculus.specs.Walk.{enter}
 use Rattle.rows.specs.Rows.{branchOf}
 use Rattle.rows.proofs.Branches.{length-branch}
 use Rattle.question.specs.declared.Progress.{Progress}
@@ -15,7 +14,7 @@ use Rattle.branch.specs.declared.Split.{Split}
 use Rattle.branch.specs.declared.Branch as code
 use Rattle.branch.specs.Stack.{split, stack}
 use Rattle.branch.proofs.Stacks.{length-stack}
-use Rattle.derivation.specs.State.{childOn, childrenOn, waitings, walkOf, stateOf}
+use Rattle.derivation.specs.State.{childOn, steppedOn, waitings, walkOf, stateOf}
 use Rattle.derivation.specs.Ok.{Ok, InOrder}
 use Rattle.derivation.specs.Actions.{Begins, Branches}
 use Rattle.derivation.proofs.Pending.{ok-one, ok-split}
@@ -27,13 +26,13 @@ module _ {b : List ℕ} {s : Progress} {w : List ℤ} {c : code.Branch} (h : InO
   br = branchOf w (c .count)
 
   abbrev Entered : Type 0
-  Entered = (stateOf b (asked b s) v r ≡ enter _++_ br (childrenOn b (asked b s) br at) (waitings b (asked b s) br (stack c))) × InOrder b s v r
+  Entered = (stateOf b (asked b s) v r ≡ steppedOn b (asked b s) br (waitings b (asked b s) br (stack c)) at) × InOrder b s v r
 
   rows : branchOf v (r .count) ≡ br ++ childOn b (asked b s) br at 1
   rows = ap (branchOf v) er ∙ g .rows
 
   -- the state behind it, by its pending splits
-  with-splits : (ss : List Split) → stack r ≡ ss → walkOf b (asked b s) (br ++ childOn b (asked b s) br at 1) ss ≡ enter _++_ br (childrenOn b (asked b s) br at) (waitings b (asked b s) br (stack c))
+  with-splits : (ss : List Split) → stack r ≡ ss → walkOf b (asked b s) (br ++ childOn b (asked b s) br at 1) ss ≡ steppedOn b (asked b s) br (waitings b (asked b s) br (stack c)) at
       → Ok b (asked b s) (br ++ childOn b (asked b s) br at 1) ss → Entered
   unfolding stateOf
   with-splits ss es q ok = (

@@ -1,11 +1,11 @@
 -- The walk's state as the code holds it: the facts of the branch are rows of the work area, and a pending split is known by the position of its step's record.
 use Prim.Native.Nat.{ℕ, _+_}
 use mathlib.Core.Option.{Option}
-use mathlib.Core.List.{List, [], _∷_}
+use mathlib.Core.List.{List, [], _∷_, _++_}
 use lib.ListN.{take, drop}
 use lib.IntN.{ℤ}
 use Rattle.calculus.specs.Facts.{Question, Fact, Branch}
-use Rattle.calculus.specs.Walk.{Waiting, Walk, working}
+use Rattle.calculus.specs.Walk.{Waiting, Walk, working, enter}
 use Rattle.format.specs.Records.{size}
 use Rattle.format.specs.Checking.{orNone}
 use Rattle.rows.specs.Rows.{branchOf}
@@ -24,6 +24,10 @@ childrenOn b u br at = orNone (offeredIn b u br at)
 -- the facts of its child k, from 1
 abbrev pub childOn : List ℕ → Question → Branch → ℕ → ℕ → List Fact
 childOn b u br at k = offeredChild b u br (at + 6) (size b at) k
+
+-- the walk once it is taken on the branch br, where the splits ss are pending: format's `stepped`
+abbrev pub steppedOn : List ℕ → Question → Branch → List (Waiting Branch (List Fact)) → ℕ → Walk Branch (List Fact)
+steppedOn b u br ss at = enter _++_ br (childrenOn b u br at) ss
 
 -- a pending split, on the branch cut back to its mark
 abbrev pub waitingOn : List ℕ → Question → Branch → Split → Waiting Branch (List Fact)

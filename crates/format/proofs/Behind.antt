@@ -14,11 +14,11 @@ use Rattle.lists.proofs.Tests.{and-both}
 use Rattle.calculus.specs.Facts.{Question, columnCount}
 use Rattle.calculus.specs.Steps.{Step}
 use Rattle.calculus.specs.Instances.{StepInRange}
-use Rattle.calculus.specs.Walk.{Walk, working, closed, enter}
+use Rattle.calculus.specs.Walk.{Walk, working, closed}
 use Rattle.calculus.specs.Limits.{valueLimit}
 use Rattle.format.specs.Records.{size, kind, next, whole, need}
 use Rattle.format.specs.StepForms.{rule, childField, lengthFits, operandsInRange, stepAt, childInRange}
-use Rattle.format.specs.Reading.{State, proving, taking, modelled, Method, stepFault, modelAt, modelFault, bodyFault, lastFault, fault, advanced, Ticket, Faulty, Done, readSteps}
+use Rattle.format.specs.Reading.{State, proving, taking, modelled, Method, stepped, stepFault, modelAt, modelFault, bodyFault, lastFault, fault, advanced, Ticket, Faulty, Done, readSteps}
 use Rattle.format.specs.ProperForm.{stepsAt}
 use Rattle.format.specs.Fields.{allWithin}
 use Rattle.format.proofs.Faults.{none-applies, passed}
@@ -106,7 +106,7 @@ Taken w s [] none s' = (w .endFault s ≡ 0) × (s ≡ s')
 Taken w (proving k) [] (some m) s' = ⊥
 Taken w (taking br) [] (some m) s' = (w .leafFault br m ≡ 0) × (w .endFault (modelled br m) ≡ 0) × (modelled br m ≡ s')
 Taken w (modelled br v) [] (some m) s' = ⊥
-Taken w (proving (working br ss)) (t ∷ ts) o s' = (w .splitFault br ss (t .0) ≡ 0) × Taken w (proving (enter (w .add) br (w .children br (t .0)) ss)) ts o s'
+Taken w (proving (working br ss)) (t ∷ ts) o s' = (w .splitFault br ss (t .0) ≡ 0) × Taken w (proving (stepped w br ss (t .0))) ts o s'
 Taken w (proving closed) (t ∷ ts) o s' = ⊥
 Taken w (taking br) (t ∷ ts) o s' = (w .takenFault br (t .0) (t .1) ≡ 0) × Taken w (taking (w .taken br (t .0) (t .1))) ts o s'
 Taken w (modelled br v) (t ∷ ts) o s' = ⊥
@@ -116,7 +116,7 @@ pub proving-stays : {B C : Type 0} (w : Method B C) (k : Walk B C) (ts : List (S
 unfolding Taken
 proving-stays w k [] none h = ((k, sym (h .1)), refl)
 proving-stays w k [] (some m) h = absurd h
-proving-stays w (working br ss) (t ∷ ts) o h = proving-stays w (enter (w .add) br (w .children br (t .0)) ss) ts o (h .1)
+proving-stays w (working br ss) (t ∷ ts) o h = proving-stays w (stepped w br ss (t .0)) ts o (h .1)
 proving-stays w closed (t ∷ ts) o h = absurd h
 
 pub proving-no-model : {B C : Type 0} (w : Method B C) (k : Walk B C) (ts : List (Step × ℕ)) (o : Option (List ℤ)) (l : B) (m : List ℤ) → Taken w (proving k) ts o (modelled l m) → ⊥
@@ -227,7 +227,7 @@ module _ {B C : Type 0} (w : Method B C) (b : List ℕ) (u : Question) where
           let (h, f) = body→ (proving (working br ss)) at q p in
           let a4 = none-applies 3 (eqb (kind b at) 6) (stepFault b u (eqb (childField b (at + 6)) 0) (w .splitFault br ss (stepAt b (at + 6) (size b at))) (at + 6) (size b at)) f in
           let (a, l) = step→ (λ st c. eqb c 0) at (w .splitFault br ss (stepAt b (at + 6) (size b at))) h (a4 .0) (a4 .1) in
-          let g = ih (proving (enter (w .add) br (w .children br (stepAt b (at + 6) (size b at))) ss)) e in
+          let g = ih (proving (stepped w br ss (stepAt b (at + 6) (size b at)))) e in
           record { steps = (stepAt b (at + 6) (size b at), childField b (at + 6)) ∷ g .steps; model = g .model; formed = (a, g .formed); same-question = g .same-question; taken = (l, g .taken) }
       turned (proving closed) zero false p q e ih = absurd (let z : _≡_ {A = ℕ} 4 0 = body→ (proving closed) at q p .1 in omega arith)
       turned (taking br) zero false p q e ih = let (h, f) = body→ (taking br) at q p in taken-or-model br (eqb (kind b at) 6) refl h f e ih
@@ -278,8 +278,8 @@ module _ {B C : Type 0} (w : Method B C) (b : List ℕ) (u : Question) where
       (body-fault (proving (working br ss)) at 6 (h .is-whole) (h .is-step) refl ∙ step-fault (λ st c. eqb c 0) at (w .splitFault br ss (stepAt b (at + 6) (size b at))) h
       ∙ ap (λ (t : Step × ℕ). w .splitFault br ss (t .0)) (sym (h .holds)) ∙ f)
       (ap (λ k. eqb k 8) (h .is-step))
-      ∙ ap (λ (t : Step × ℕ). readSteps w b u (proving (enter (w .add) br (w .children br (t .0)) ss)) (suc r) ats) (sym (h .holds))
-      ∙ →done (proving (enter (w .add) br (w .children br (t .0)) ss)) (suc r) ats ts o hs k
+      ∙ ap (λ (t : Step × ℕ). readSteps w b u (proving (stepped w br ss (t .0))) (suc r) ats) (sym (h .holds))
+      ∙ →done (proving (stepped w br ss (t .0))) (suc r) ats ts o hs k
   →done (proving closed) r (at ∷ ats) (t ∷ ts) o h k = absurd k
   →done (taking br) r (at ∷ ats) (t ∷ ts) o (h, hs) (f, k) =
       ap₂ (turn (taking br) r at ats)

@@ -10,9 +10,9 @@ use Rattle.format.specs.Question.{rankOf, rising, fillCoefficients, cons
 use Rattle.format.specs.StepForms.{multipliersWithin, operandsInRange, stepOf}
 use Rattle.format.specs.Answer.{characterBytes, integerBytes, stringRecords, encode}
 use Rattle.format.specs.Reading.{fault, advanced, readSteps}
-use Rattle.format.specs.Checking.{factsWithin, childrenWithin, roomForAll, keeps, verdict}
+use Rattle.format.specs.Checking.{factsWithin, childrenWithin, roomForAll, keeps, verdictBy}
 use Rattle.format.specs.Cases.{shortBytes, pairBytes, ticket, CaseHolds, starred}
 
 pub starred-hold : All CaseHolds starred
-unfolding allCharacters shape u32 signed u16s u32s i32s pairsAt bytesOf recordsBy records rankOf rising fillCoefficients constraintFault formFault questionFault questionAdvanced readFrom readBy multipliersWithin operandsInRange stepOf characterBytes integerBytes stringRecords encode allWithin fault advanced readSteps factsWithin childrenWithin roomForAll keeps verdict shortBytes pairBytes ticket flatMap
+unfolding allCharacters shape u32 signed u16s u32s i32s pairsAt bytesOf recordsBy records rankOf rising fillCoefficients constraintFault formFault questionFault questionAdvanced readFrom readBy multipliersWithin operandsInRange stepOf characterBytes integerBytes stringRecords encode allWithin fault advanced readSteps factsWithin childrenWithin roomForAll keeps verdictBy shortBytes pairBytes ticket flatMap
 starred-hold = (refl, (refl, (refl, (refl, (refl, (refl, (refl, (refl, (refl, (refl, (refl, (refl, (refl, tt)))))))))))))

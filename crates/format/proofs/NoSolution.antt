@@ -10,13 +10,14 @@ use Rattle.lists.specs.Lists.{All}
 use Rattle.calculus.specs.Limits.{factLimit}
 use Rattle.calculus.specs.Facts.{Question, Fact, Branch}
 use Rattle.calculus.specs.Steps.{Step}
+use Rattle.calculus.specs.Rules.{RuleSet, children}
 use Rattle.calculus.specs.Instances.{StepInRange}
 use Rattle.calculus.specs.Walk.{working, closed}
 use Rattle.calculus.specs.Derivations.{Closes, WithinLimits}
 use Rattle.calculus.proofs.Walks.{walked→closes, closes→walked}
 use Rattle.calculus.proofs.Trees.{closes-sound}
 use Rattle.format.specs.Reading.{State, proving}
-use Rattle.format.specs.Checking.{NoSolution, largeEnough, verdict, checker, accepted}
+use Rattle.format.specs.Checking.{NoSolution, largeEnough, verdictBy, verdict, checkerBy, accepted}
 use Rattle.format.specs.ProperForm.{byShape, ProperNo, steps, stepsWithChild}
 use Rattle.format.specs.Demands.{TH-2, TH-4}
 use Rattle.format.proofs.Behind.{Taken, proving-stays, taking-no-walk}
@@ -29,39 +30,40 @@ all-bare u [] h = tt
 all-bare u (t ∷ ts) (h, hs) = (h, all-bare u ts hs)
 
 -- the ticket holds steps and the end, and checking closes every branch
-pub record Closed (b : List ℕ) (u : Question) : Type 0 where
+pub record Closed (rules : RuleSet) (b : List ℕ) (u : Question) : Type 0 where
   pub held : Holding b u true none
   pub few : length (u .constraints) ≤ factLimit
-  pub taken : Taken (checker u) (proving (working (u .constraints) [])) (stepsWithChild b) none (proving closed)
+  pub taken : Taken (checkerBy rules u) (proving (working (u .constraints) [])) (stepsWithChild b) none (proving closed)
 
-pub accepted→closed : (work answer : ℕ) (b : List ℕ) → verdict work answer b ≡ NoSolution → (u : Question) × Closed b u
-accepted→closed work answer b e =
-    let (u, s, r, few, a) = verdict→ work answer b NoSolution (λ c r z. let z : _≡_ {A = ℕ} 0 1 = cc in omega arith) e in
+-- whatever the rules
+pub accepted→closed : (rules : RuleSet) (work answer : ℕ) (b : List ℕ) → verdictBy rules work answer b ≡ NoSolution → (u : Question) × Closed rules b u
+accepted→closed rules work answer b e =
+    let (u, s, r, few, a) = verdict→ rules work answer b NoSolution (λ c r z. let z : _≡_ {A = ℕ} 0 1 = cc in omega arith) e in
     (u, by-claim u s r few a)
   where
-    by-claim : (u : Question) (s : State Branch (List Fact)) → ReadAs checker b u s → length (u .constraints) ≤ factLimit → accepted u s ≡ NoSolution → Closed b u
+    by-claim : (u : Question) (s : State Branch (List Fact)) → ReadAs (checkerBy rules) b u s → length (u .constraints) ≤ factLimit → accepted u s ≡ NoSolution → Closed rules b u
     by-claim u s (true, o, h, k) few a =
-        let (_, none-left) = proving-stays (checker u) (working (u .constraints) []) (stepsWithChild b) o k in
-        let (_, ends) = proved→walked u (working (u .constraints) []) (stepsWithChild b) o s k in
+        let (_, none-left) = proving-stays (checkerBy rules u) (working (u .constraints) []) (stepsWithChild b) o k in
+        let (_, ends) = proved→walked rules u (working (u .constraints) []) (stepsWithChild b) o s k in
         record {
           held = subst (Holding b u true) none-left h;
           few = few;
-          taken = subst (λ o. Taken (checker u) (proving (working (u .constraints) [])) (stepsWithChild b) o (proving closed)) none-left
-              (subst (Taken (checker u) (proving (working (u .constraints) [])) (stepsWithChild b) o) ends k);
+          taken = subst (λ o. Taken (checkerBy rules u) (proving (working (u .constraints) [])) (stepsWithChild b) o (proving closed)) none-left
+              (subst (Taken (checkerBy rules u) (proving (working (u .constraints) [])) (stepsWithChild b) o) ends k);
         }
     by-claim u s (false, o, h, k) few a =
-        let r = taken→reached u (u .constraints) (stepsWithChild b) o s k in
+        let r = taken→reached rules u (u .constraints) (stepsWithChild b) o s k in
         absurd (let z : _≡_ {A = ℕ} 0 1 = cc (r .state) in omega arith)
 
-closed→closes : (b : List ℕ) (u : Question) → Closed b u → Closes u (u .constraints) (steps b)
+closed→closes : (b : List ℕ) (u : Question) → Closed children b u → Closes u (u .constraints) (steps b)
 closed→closes b u c =
     let q = claimed-in-range (c .held .claimed) in
     walked→closes u (q .head) (u .constraints) (steps b) (q .constraints) (all-bare u (stepsWithChild b) (steps-in-range (c .held)))
-    (proved→walked u (working (u .constraints) []) (stepsWithChild b) none (proving closed) (c .taken) .0)
+    (proved→walked children u (working (u .constraints) []) (stepsWithChild b) none (proving closed) (c .taken) .0)
 
 pub no-solution-sound : TH-4
 no-solution-sound work answer t e =
-    let (u, c) = accepted→closed work answer t e in
+    let (u, c) = accepted→closed children work answer t e in
     let q = claimed-in-range (c .held .claimed) in (
       u,
       claimed-asked (c .held .claimed),
@@ -81,7 +83,7 @@ closes→accepted : (work answer : ℕ) (b : List ℕ) (u : Question) → largeE
 closes→accepted work answer b u big h l k =
     let q = claimed-in-range (h .claimed) in
     let walked = closes→walked u (q .head) (u .constraints) (steps b) (q .constraints) (all-bare u (stepsWithChild b) (steps-in-range h)) k in
-    →verdict work answer b u true none (proving closed) big (l .question) h (walked→proved u (q .head) (working (u .constraints) []) (stepsWithChild b) (q .constraints, tt) (steps-in-range h) (l .steps) walked)
+    →verdict children work answer b u true none (proving closed) big (l .question) h (walked→proved u (q .head) (working (u .constraints) []) (stepsWithChild b) (q .constraints, tt) (steps-in-range h) (l .steps) walked)
 
 pub derivations-exact : TH-2
 derivations-exact work answer t u big proper limits =
@@ -90,6 +92,6 @@ derivations-exact work answer t u big proper limits =
   where
     accepted→closes : Holding t u true none → verdict work answer t ≡ NoSolution → Closes u (u .constraints) (steps t)
     accepted→closes h e =
-        let (v, c) = accepted→closed work answer t e in
+        let (v, c) = accepted→closed children work answer t e in
         let same : v ≡ u = cc (claimed-asked (c .held .claimed), claimed-asked (h .claimed)) in
         subst (λ w. Closes w (w .constraints) (steps t)) same (closed→closes t v c)

@@ -21,7 +21,7 @@ use Rattle.calculus.proofs.Ranges.{children-in-range}
 use Rattle.calculus.proofs.Shapes.{instance-shape, count, shape-walks}
 use Rattle.calculus.proofs.Walks.{StateInRange, enter-in-range, childTaken, taken→takes, takes→taken, taken-in-range}
 use Rattle.format.specs.Reading.{proving, taking, modelled}
-use Rattle.format.specs.Checking.{allTried, takenTried, checker, takenFacts, NoSolution, Strings, verdict}
+use Rattle.format.specs.Checking.{allTried, takenTried, checker, NoSolution, Strings, verdict}
 use Rattle.format.specs.ProperForm.{byShape, ProperNo, ProperStrings, steps, stepsWithChild}
 use Rattle.format.proofs.Behind.{Taken}
 use Rattle.format.proofs.Claimed.{claimed-in-range}
@@ -71,13 +71,12 @@ module _ (u : Question) (w : HeadInRange u) where
   unfolding Taken PathLimitsFrom
   taken→formed b leaf m [] r g (_, _, e) = ((refl, refl, ap (λ (d : Branch). modelled (length d) m) (let z : b ≡ leaf = cc in z)), tt)
   taken→formed b leaf m (t ∷ ts) r (g, gs) (f, h) =
-      let (c, e, d) = fitting (takenFacts u b (t .0) (t .1)) _ f in
-      let is : childTaken u b t ≡ some c = e in
-      let k : Takes u b t c = taken→takes u w b t c r g is in
+      let (c, e, d) = fitting (childTaken u b t) _ f in
+      let k : Takes u b t c = taken→takes u w b t c r g e in
       let (n, l) = taken→formed (b ++ c) leaf m ts (taken-in-range u w b t c r g k) gs (subst (λ x. Taken (checker u) (taking (b ++ x)) ts (some m) (modelled leaf m)) d h) in (
         (refl, subst (λ k. Taken (byShape u) (taking k) ts (some m) (modelled (length leaf) m)) (sym (shape-takes b t c k)) n),
         λ c' k'.
-            let same : c ≡ c' = cc (is, takes→taken u w b t c' r g k') in
+            let same : c ≡ c' = cc (e, takes→taken u w b t c' r g k') in
             subst (λ x. ChildLimits b x × PathLimitsFrom u (b ++ x) ts) same (taken→limits b c (ap (takenTried b) (sym e) ∙ f), l),
       )
 
@@ -85,14 +84,14 @@ module _ (u : Question) (w : HeadInRange u) where
 
 pub no-solution-proper : (work answer : ℕ) (t : List ℕ) → verdict work answer t ≡ NoSolution → (u : Question) × ProperNo t u × WithinLimits u (steps t)
 no-solution-proper work answer t e =
-    let (u, c) = accepted→closed work answer t e in
+    let (u, c) = accepted→closed children work answer t e in
     let q = claimed-in-range (c .held .claimed) in
     let (f, l) = proved→formed u (q .head) (working (u .constraints) []) closed (stepsWithChild t) (q .constraints, tt) (steps-in-range (c .held)) (c .taken) in
     (u, (closed, →proper t u true none (c .held) f), record { question = c .few; steps = l })
 
 pub strings-proper : (work answer : ℕ) (t out : List ℕ) → verdict work answer t ≡ Strings out → (u : Question) × (m : List ℤ) × ProperStrings t u m × PathWithinLimits u (stepsWithChild t)
 strings-proper work answer t out e =
-    let (u, k) = accepted→given work answer t out e in
+    let (u, k) = accepted→given children work answer t out e in
     let q = claimed-in-range (k .held .claimed) in
     let (f, l) = taken→formed u (q .head) (u .constraints) (k .leaf) (k .model) (stepsWithChild t) (q .constraints) (steps-in-range (k .held)) (k .taken) in
     (u, k .model, (length (k .leaf), →proper t u false (some (k .model)) (k .held) f), record { question = k .few; steps = l })

@@ -11,14 +11,15 @@ use Rattle.lists.proofs.Every.{every-take}
 use Rattle.calculus.specs.Limits.{answerBytes, valueLimit, factLimit}
 use Rattle.calculus.specs.Facts.{Question, Fact, Branch, columnCount}
 use Rattle.calculus.specs.Steps.{Step}
+use Rattle.calculus.specs.Rules.{RuleSet, children}
 use Rattle.calculus.specs.Walk.{working}
 use Rattle.calculus.specs.Meaning.{Assignment}
-use Rattle.calculus.proofs.Walks.{Followed, followed→path, path→followed, leaf-in-range, leaf-met}
+use Rattle.calculus.proofs.Walks.{FollowedBy, Followed, followed→path, path→followed, leaf-in-range, leaf-met}
 use Rattle.format.specs.Fields.{within, allWithin}
 use Rattle.format.specs.Records.{next, records}
 use Rattle.format.specs.Answer.{encode}
 use Rattle.format.specs.Reading.{State, taking, modelled, modelAt}
-use Rattle.format.specs.Checking.{Strings, verdict, checker, leafFault, accepted, answerOf}
+use Rattle.format.specs.Checking.{Strings, verdictBy, verdict, checkerBy, leafFault, accepted, answerOf}
 use Rattle.format.specs.ProperForm.{byShape, ProperStrings, stepsWithChild}
 use Rattle.format.specs.Judging.{judging}
 use Rattle.format.specs.Demands.{TH-5, TH-6}
@@ -52,44 +53,46 @@ one-model {b} {u} h g =
     let same : h .claimed .position ≡ g .claimed .position = cc (h .claimed .ended, g .claimed .ended) in
     model-is h ∙ ap (λ at. modelAt b u (getD (records b (next b at)) (length (stepsWithChild b)) 0 + 6)) same ∙ sym (model-is g)
 
-one-leaf : (u : Question) (b l k : Branch) (ts : List (Step × ℕ)) → Followed u b ts l → Followed u b ts k → l ≡ k
-unfolding Followed
-one-leaf u b l k [] h g = sym h ∙ g
-one-leaf u b l k (t ∷ ts) (c, e, h) (d, f, g) =
+-- whatever the rules
+one-leaf : (rules : RuleSet) (u : Question) (b l k : Branch) (ts : List (Step × ℕ)) → FollowedBy rules u b ts l → FollowedBy rules u b ts k → l ≡ k
+unfolding FollowedBy
+one-leaf rules u b l k [] h g = sym h ∙ g
+one-leaf rules u b l k (t ∷ ts) (c, e, h) (d, f, g) =
     let same : d ≡ c = cc in
-    one-leaf u (b ++ c) l k ts h (subst (λ x. Followed u (b ++ x) ts k) same g)
+    one-leaf rules u (b ++ c) l k ts h (subst (λ x. FollowedBy rules u (b ++ x) ts k) same g)
 
 -- ---- what checking accepts
 
 -- the ticket holds steps, the model and the end, and checking comes to a leaf without fault
-pub record Given (b : List ℕ) (u : Question) (out : List ℕ) : Type 0 where
+pub record Given (rules : RuleSet) (b : List ℕ) (u : Question) (out : List ℕ) : Type 0 where
   pub leaf : Branch
   pub model : List ℤ
   pub held : Holding b u false (some model)
   pub few : length (u .constraints) ≤ factLimit
-  pub taken : Taken (checker u) (taking (u .constraints)) (stepsWithChild b) (some model) (modelled leaf model)
-  pub followed : Followed u (u .constraints) (stepsWithChild b) leaf
+  pub taken : Taken (checkerBy rules u) (taking (u .constraints)) (stepsWithChild b) (some model) (modelled leaf model)
+  pub followed : FollowedBy rules u (u .constraints) (stepsWithChild b) leaf
   pub no-fault : leafFault u leaf model ≡ 0
   pub bytes : out ≡ encode (answerOf u leaf model)
 
-pub accepted→given : (work answer : ℕ) (b out : List ℕ) → verdict work answer b ≡ Strings out → (u : Question) × Given b u out
-accepted→given work answer b out e =
-    let (u, s, r, few, a) = verdict→ work answer b (Strings out) (λ c r z. let z : _≡_ {A = ℕ} 0 1 = cc in omega arith) e in
+-- whatever the rules
+pub accepted→given : (rules : RuleSet) (work answer : ℕ) (b out : List ℕ) → verdictBy rules work answer b ≡ Strings out → (u : Question) × Given rules b u out
+accepted→given rules work answer b out e =
+    let (u, s, r, few, a) = verdict→ rules work answer b (Strings out) (λ c r z. let z : _≡_ {A = ℕ} 0 1 = cc in omega arith) e in
     (u, by-claim u s r few a)
   where
-    by-claim : (u : Question) (s : State Branch (List Fact)) → ReadAs checker b u s → length (u .constraints) ≤ factLimit → accepted u s ≡ Strings out → Given b u out
+    by-claim : (u : Question) (s : State Branch (List Fact)) → ReadAs (checkerBy rules) b u s → length (u .constraints) ≤ factLimit → accepted u s ≡ Strings out → Given rules b u out
     by-claim u s (true, o, h, k) few a =
-        let (_, ends) = proved→walked u (working (u .constraints) []) (stepsWithChild b) o s k in
+        let (_, ends) = proved→walked rules u (working (u .constraints) []) (stepsWithChild b) o s k in
         absurd (let z : _≡_ {A = ℕ} 0 1 = cc in omega arith)
     by-claim u s (false, o, h, k) few a =
-        let r = taken→reached u (u .constraints) (stepsWithChild b) o s k in
+        let r = taken→reached rules u (u .constraints) (stepsWithChild b) o s k in
         record {
           leaf = r .leaf;
           model = r .model;
           held = subst (Holding b u false) (r .behind-model) h;
           few = few;
-          taken = subst (λ o. Taken (checker u) (taking (u .constraints)) (stepsWithChild b) o (modelled (r .leaf) (r .model))) (r .behind-model)
-              (subst (Taken (checker u) (taking (u .constraints)) (stepsWithChild b) o) (r .state) k);
+          taken = subst (λ o. Taken (checkerBy rules u) (taking (u .constraints)) (stepsWithChild b) o (modelled (r .leaf) (r .model))) (r .behind-model)
+              (subst (Taken (checkerBy rules u) (taking (u .constraints)) (stepsWithChild b) o) (r .state) k);
           followed = r .followed;
           no-fault = r .no-fault;
           bytes = (let z : Strings (encode (answerOf u (r .leaf) (r .model))) ≡ Strings out = sym (ap (accepted u) (r .state)) ∙ a in cc);
@@ -97,7 +100,7 @@ accepted→given work answer b out e =
 
 pub strings-hold : TH-5
 strings-hold work answer t out e =
-    let (u, k) = accepted→given work answer t out e in
+    let (u, k) = accepted→given children work answer t out e in
     let q = claimed-in-range (k .held .claimed) in
     let path = followed→path u (q .head) (stepsWithChild t) (u .constraints) (k .leaf) (q .constraints) (steps-in-range (k .held)) (k .followed) in
     let r = leaf-in-range u (q .head) (stepsWithChild t) (u .constraints) (k .leaf) (q .constraints) (steps-in-range (k .held)) path in
@@ -116,7 +119,7 @@ strings-hold work answer t out e =
         meets-all = leaf-met u given (stepsWithChild t) (u .constraints) (k .leaf) path (a .met);
         leaf = k .leaf;
         path = path;
-        only-leaf = λ l p. one-leaf u (u .constraints) l (k .leaf) (stepsWithChild t) (path→followed u (q .head) (stepsWithChild t) (u .constraints) l (q .constraints) (steps-in-range (k .held)) p) (k .followed);
+        only-leaf = λ l p. one-leaf children u (u .constraints) l (k .leaf) (stepsWithChild t) (path→followed u (q .head) (stepsWithChild t) (u .constraints) l (q .constraints) (steps-in-range (k .held)) p) (k .followed);
         differ = a .differ;
       },
     )
@@ -139,14 +142,14 @@ leaves-exact work answer t u m leaf big proper limits path =
       λ (out, e). unfaulted→accepted u q leaf r m (no-fault h followed out e),
       λ a.
           let taken = followed→taken u (q .head) (u .constraints) leaf m (stepsWithChild t) (q .constraints) (steps-in-range h) (limits .steps) followed (accepted→unfaulted u q leaf r m a) in
-          (encode (answerOf u leaf m), →verdict work answer t u false (some m) (modelled leaf m) big (limits .question) h taken),
+          (encode (answerOf u leaf m), →verdict children work answer t u false (some m) (modelled leaf m) big (limits .question) h taken),
     )
   where
-    determined : (out : List ℕ) → Holding t u false (some m) → Followed u (u .constraints) (stepsWithChild t) leaf → Given t u out → leafFault u leaf m ≡ 0
-    determined out h f k = ap₂ (leafFault u) (one-leaf u (u .constraints) leaf (k .leaf) (stepsWithChild t) f (k .followed)) (one-model h (k .held)) ∙ k .no-fault
+    determined : (out : List ℕ) → Holding t u false (some m) → Followed u (u .constraints) (stepsWithChild t) leaf → Given children t u out → leafFault u leaf m ≡ 0
+    determined out h f k = ap₂ (leafFault u) (one-leaf children u (u .constraints) leaf (k .leaf) (stepsWithChild t) f (k .followed)) (one-model h (k .held)) ∙ k .no-fault
 
     no-fault : Holding t u false (some m) → Followed u (u .constraints) (stepsWithChild t) leaf → (out : List ℕ) → verdict work answer t ≡ Strings out → leafFault u leaf m ≡ 0
     no-fault h f out e =
-        let (v, k) = accepted→given work answer t out e in
+        let (v, k) = accepted→given children work answer t out e in
         let same : v ≡ u = cc (claimed-asked (k .held .claimed), claimed-asked (h .claimed)) in
-        determined out h f (subst (λ w. Given t w out) same k)
+        determined out h f (subst (λ w. Given children t w out) same k)

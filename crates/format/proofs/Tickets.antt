@@ -11,11 +11,12 @@ use Rattle.lists.specs.Lists.{All}
 use Rattle.calculus.specs.Limits.{factLimit}
 use Rattle.calculus.specs.Facts.{Question, Fact, Branch}
 use Rattle.calculus.specs.Steps.{Step}
+use Rattle.calculus.specs.Rules.{RuleSet}
 use Rattle.calculus.specs.Instances.{StepInRange}
 use Rattle.format.specs.Question.{question, questionForm}
 use Rattle.format.specs.StepForms.{childInRange}
 use Rattle.format.specs.Reading.{State, Method, Ticket, Faulty, Done, readBehind}
-use Rattle.format.specs.Checking.{Outcome, Refused, checker, accepted, outcomeOf, largeEnough, verdict}
+use Rattle.format.specs.Checking.{Outcome, Refused, checkerBy, accepted, outcomeOf, largeEnough, verdictBy}
 use Rattle.format.specs.ProperForm.{byShape, ticketForm, stepsWithChild}
 use Rattle.format.proofs.Asked.{question-few}
 use Rattle.format.proofs.Behind.{Formed, formed-steps, formed-in-range, childOk, Taken}
@@ -70,32 +71,33 @@ pub →proper : (b : List ℕ) (u : Question) (x : Bool) (o : Option (List ℤ))
 unfolding ticketForm
 →proper b u x o h k = →ticket byShape b (h .claimed) x (stepsWithChild b) o (h .claim-is) (formed-for byShape b u x o h) k
 
--- ---- checking
-
-abbrev bySize : List ℕ → Bool → Outcome
-bySize b x = elim x as (λ _. Outcome) [ false ↦ Refused 1 0 | true ↦ outcomeOf (readBehind checker b (question b)) ]
+-- ---- checking, whatever the rules
 
 -- the outcome o is no refusal
 abbrev pub NoRefusal : Outcome → Type 0
 NoRefusal o = (c r : ℕ) → Refused c r ≡ o → ⊥
 
-abbrev pub AcceptedAs : List ℕ → Outcome → Type 0
-AcceptedAs b o = (u : Question) × (s : State Branch (List Fact)) × ReadAs checker b u s × (length (u .constraints) ≤ factLimit) × (accepted u s ≡ o)
+module _ (rules : RuleSet) where
+  abbrev bySize : List ℕ → Bool → Outcome
+  bySize b x = elim x as (λ _. Outcome) [ false ↦ Refused 1 0 | true ↦ outcomeOf (readBehind (checkerBy rules) b (question b)) ]
 
-pub verdict→ : (work answer : ℕ) (b : List ℕ) (o : Outcome) → NoRefusal o → verdict work answer b ≡ o → AcceptedAs b o
-unfolding verdict
-verdict→ work answer b o never e = sized (largeEnough work answer) e
-  where
-    read : (t : Ticket Branch (List Fact)) → readBehind checker b (question b) ≡ t → outcomeOf t ≡ o → AcceptedAs b o
-    read (Faulty c r) p e = absurd (never c r e)
-    read (Done u s) p e = let (c, x, k, r) = ticket→ checker b (question b) p in (u, s, read-as checker b u (claimed→form c, x, k, r), question-few b (c .ended), e)
+  abbrev pub AcceptedAs : List ℕ → Outcome → Type 0
+  AcceptedAs b o = (u : Question) × (s : State Branch (List Fact)) × ReadAs (checkerBy rules) b u s × (length (u .constraints) ≤ factLimit) × (accepted u s ≡ o)
 
-    sized : (x : Bool) → bySize b x ≡ o → AcceptedAs b o
-    sized false e = absurd (never 1 0 e)
-    sized true e = read (readBehind checker b (question b)) refl e
+  pub verdict→ : (work answer : ℕ) (b : List ℕ) (o : Outcome) → NoRefusal o → verdictBy rules work answer b ≡ o → AcceptedAs b o
+  unfolding verdictBy
+  verdict→ work answer b o never e = sized (largeEnough work answer) e
+    where
+      read : (t : Ticket Branch (List Fact)) → readBehind (checkerBy rules) b (question b) ≡ t → outcomeOf t ≡ o → AcceptedAs b o
+      read (Faulty c r) p e = absurd (never c r e)
+      read (Done u s) p e = let (c, x, k, r) = ticket→ (checkerBy rules) b (question b) p in (u, s, read-as (checkerBy rules) b u (claimed→form c, x, k, r), question-few b (c .ended), e)
 
-pub →verdict : (work answer : ℕ) (b : List ℕ) (u : Question) (x : Bool) (o : Option (List ℤ)) (s : State Branch (List Fact)) → largeEnough work answer ≡ true → length (u .constraints) ≤ factLimit
-    → Holding b u x o → Taken (checker u) (started (checker u) x) (stepsWithChild b) o s → verdict work answer b ≡ accepted u s
-unfolding verdict
-→verdict work answer b u x o s big few h k =
-    ap (bySize b) big ∙ ap outcomeOf (→ticket checker b (form→claimed few (h .claimed)) x (stepsWithChild b) o (h .claim-is) (formed-for checker b u x o h) k)
+      sized : (x : Bool) → bySize b x ≡ o → AcceptedAs b o
+      sized false e = absurd (never 1 0 e)
+      sized true e = read (readBehind (checkerBy rules) b (question b)) refl e
+
+  pub →verdict : (work answer : ℕ) (b : List ℕ) (u : Question) (x : Bool) (o : Option (List ℤ)) (s : State Branch (List Fact)) → largeEnough work answer ≡ true → length (u .constraints) ≤ factLimit
+      → Holding b u x o → Taken (checkerBy rules u) (started (checkerBy rules u) x) (stepsWithChild b) o s → verdictBy rules work answer b ≡ accepted u s
+  unfolding verdictBy
+  →verdict work answer b u x o s big few h k =
+      ap (bySize b) big ∙ ap outcomeOf (→ticket (checkerBy rules) b (form→claimed few (h .claimed)) x (stepsWithChild b) o (h .claim-is) (formed-for (checkerBy rules) b u x o h) k)

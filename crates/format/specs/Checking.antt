@@ -11,7 +11,7 @@ use Rattle.calculus.specs.LinearForms.{valueIn}
 use Rattle.calculus.specs.Limits.{workNumbers, answerBytes, lengthLimit, numberLimit, factLimit, pendingLimit}
 use Rattle.calculus.specs.Facts.{Question, Fact, onArithmetic, Branch, holds, len}
 use Rattle.calculus.specs.Children.{childAt}
-use Rattle.calculus.specs.Rules as rules
+use Rattle.calculus.specs.Rules as calculus
 use Rattle.calculus.specs.Steps.{Step}
 use Rattle.calculus.specs.Walk.{working, closed}
 use Rattle.calculus.specs.Model.{modelValue}
@@ -21,7 +21,7 @@ use Rattle.calculus.specs.Meaning.{Assignment}
 use Rattle.format.specs.Fields.{allWithin}
 use Rattle.format.specs.Records.{need}
 use Rattle.format.specs.Question.{question}
-use Rattle.format.specs.Reading.{State, proving, taking, modelled, Method, Ticket, Faulty, Done, readBehind}
+use Rattle.format.specs.Reading.{State, proving, taking, modelled, complete, Method, Ticket, Faulty, Done, readBehind}
 use Rattle.format.specs.Answer.{encode}
 
 -- ---- 8 to 10: a step that does not fit, a number that passes the limit, facts or pending splits that would pass theirs
@@ -65,7 +65,7 @@ takenTried br o = need 8 (fits o) (need 9 (factsWithin (orNone o)) (need 10 (roo
 
 -- the child of number k, from 1; a closing rule has none, so it does not fit under claim 2
 abbrev pub childIn : Option (List (List Fact)) → ℕ → Option (List Fact)
-childIn o k = rules.then o (λ cs. childAt cs k)
+childIn o k = calculus.then o (λ cs. childAt cs k)
 
 -- ---- 12 to 14, at the model
 
@@ -84,32 +84,24 @@ shortLengths u m = allBelow (u .p) (λ x. leb (natAbs (modelValue u m len x)) le
 abbrev pub leafFault : Question → Branch → List ℤ → ℕ
 leafFault u br m = need 12 (keeps m br) (need 13 (saturated u br m) (need 14 (shortLengths u m) 0))
 
--- ---- 11, at the end
-
--- "when the end comes before every branch closed, or before a model"
-abbrev pub complete : State Branch (List Fact) → Bool
-complete (proving (working br ss)) = false
-complete (proving closed) = true
-complete (taking br) = false
-complete (modelled br m) = true
-
 -- ---- the whole ticket
 
--- the facts that the child of number k adds
-abbrev pub takenFacts : Question → Branch → Step → ℕ → Option (List Fact)
-takenFacts u br st k = childIn (rules.children u br st) k
-
-abbrev pub checker : Question → Method Branch (List Fact)
-checker u = record {
+-- checking by a rule set
+abbrev pub checkerBy : calculus.RuleSet → Question → Method Branch (List Fact)
+checkerBy rules u = record {
   root = u .constraints;
   add = _++_;
-  children = λ br st. orNone (rules.children u br st);
-  taken = λ br st k. br ++ orNone (takenFacts u br st k);
-  splitFault = λ br ss st. allTried br (length ss) (rules.children u br st);
-  takenFault = λ br st k. takenTried br (takenFacts u br st k);
+  children = λ br st. orNone (rules u br st);
+  taken = λ br st k. br ++ orNone (childIn (rules u br st) k);
+  splitFault = λ br ss st. allTried br (length ss) (rules u br st);
+  takenFault = λ br st k. takenTried br (childIn (rules u br st) k);
   leafFault = leafFault u;
   endFault = λ s. need 11 (complete s) 0;
 }
+
+-- by document 01's rules
+abbrev pub checker : Question → Method Branch (List Fact)
+checker = checkerBy calculus.children
 
 -- Refused: the number and the record. Strings: the answer's bytes.
 pub data Outcome : Type 0 where
@@ -136,6 +128,10 @@ outcomeOf (Done u s) = accepted u s
 abbrev pub largeEnough : ℕ → ℕ → Bool
 largeEnough work answer = leb workNumbers work && leb answerBytes answer
 
--- the outcome of checking a ticket, with the lengths of the work area and of the answer buffer
-unfoldable pub verdict : ℕ → ℕ → List ℕ → Outcome
-verdict work answer b = elim (largeEnough work answer) [ false ↦ Refused 1 0 | true ↦ outcomeOf (readBehind checker b (question b)) ]
+-- the outcome of checking a ticket by a rule set, with the lengths of the work area and of the answer buffer
+unfoldable pub verdictBy : calculus.RuleSet → ℕ → ℕ → List ℕ → Outcome
+verdictBy rules work answer b = elim (largeEnough work answer) [ false ↦ Refused 1 0 | true ↦ outcomeOf (readBehind (checkerBy rules) b (question b)) ]
+
+-- by document 01's rules
+abbrev pub verdict : ℕ → ℕ → List ℕ → Outcome
+verdict work answer b = verdictBy calculus.children work answer b

@@ -22,6 +22,13 @@ pub data State (B C : Type 0) : Type 0 where
   taking : B → State B C
   modelled : B → List ℤ → State B C
 
+-- 11 does not apply: "when the end comes before every branch closed, or before a model"
+abbrev pub complete : {B C : Type 0} → State B C → Bool
+complete (proving (working br ss)) = false
+complete (proving closed) = true
+complete (taking br) = false
+complete (modelled br m) = true
+
 -- how steps are taken; a fault is the first number that applies, 0 for none
 pub record Method (B C : Type 0) : Type 0 where
   -- the branch of the question's constraints
@@ -40,6 +47,10 @@ pub record Method (B C : Type 0) : Type 0 where
   pub leafFault : B → List ℤ → ℕ
   -- 11
   pub endFault : State B C → ℕ
+
+-- the walk under claim 1 once a step is taken on the branch br, where the splits ss are pending
+abbrev pub stepped : {B C : Type 0} → Method B C → B → List (Waiting B C) → Step → Walk B C
+stepped w br ss st = enter (w .add) br (w .children br st) ss
 
 -- ---- one record behind the claim: a body of m bytes at a position
 
@@ -78,7 +89,7 @@ fault w b u s at = need 3 (whole b at) (cond (eqb (kind b at) 8) (lastFault w b 
 
 -- the state after a record without fault
 unfoldable pub advanced : {B C : Type 0} → Method B C → List ℕ → Question → State B C → ℕ → State B C
-advanced w b u (proving (working br ss)) at = proving (enter (w .add) br (w .children br (stepAt b (at + 6) (size b at))) ss)
+advanced w b u (proving (working br ss)) at = proving (stepped w br ss (stepAt b (at + 6) (size b at)))
 advanced w b u (proving closed) at = proving closed
 advanced w b u (taking br) at =
     cond (eqb (kind b at) 6) (taking (w .taken br (stepAt b (at + 6) (size b at)) (childField b (at + 6)))) (modelled br (modelAt b u (at + 6)))

@@ -1,13 +1,17 @@
 -- What was found at a position says what stands there.
-use mathlib.Core.Path.{_≡_, refl}
+use native.Mathlib.Omega.{arith}
+use mathlib.Core.Path.{_≡_, refl, sym}
+use mathlib.Core.Logic.{_⊎_, inl, inr}
 use mathlib.Core.Bool.{Bool, true, false, cond}
 use mathlib.Core.List.{List}
 use Prim.Native.Nat.{ℕ, _+_, _≤_, _<_}
 use lib.ListN.{length}
+use denote.Enum.Declared.{tagOf}
 use borrow.Author.Tests.{leb-true, leb-false}
 use Rattle.format.specs.Records.{leadingWhole, whole, next, kind, size}
 use Rattle.format.proofs.Faults.{clash}
 use Rattle.records.specs.Found.{foundAt}
+use Rattle.records.proofs.Found.{the-type}
 use Rattle.records.specs.declared.Found.{Found}
 use Rattle.records.specs.declared.Found.the-variants.{Whole, Cut, Nothing}
 
@@ -44,3 +48,16 @@ module _ (b : List ℕ) (at : ℕ) where
           (cc, e, rw e (leb-true (next b at) (length b) ew))
       go true false eh ew q = clash cc
       go false w eh ew q = clash cc
+
+-- ---- no whole record, and a whole one
+
+-- it was told by its tag
+pub not-whole : (b : List ℕ) (at : ℕ) (f : Found) → f ≡ foundAt b at → (tagOf the-type f ≡ 1) ⊎ (tagOf the-type f ≡ 2) → length b < next b at
+not-whole b at (Whole k m) e (inl t) = absurd (omega arith)
+not-whole b at (Whole k m) e (inr t) = absurd (omega arith)
+not-whole b at (Cut k) e t = found-cut b at k (sym e) .2
+not-whole b at Nothing e t = omega (arith, found-nothing b at (sym e))
+
+-- a whole record ends within the bytes
+pub all-there : (b : List ℕ) (at k m : ℕ) → (k ≡ kind b at) × (m ≡ size b at) × (at + 6 + m ≤ length b) → next b at ≤ length b
+all-there b at k m w = rw (w .1) at (w .2)

@@ -1,10 +1,11 @@
 -- `checking::prove` meets its contract.
 use borrow.Author.Needs.{needs}
 use denote.Ref.{now}
-use mathlib.Core.Path.{_∙_, ap, sym}
+use mathlib.Core.Path.{_∙_, ap, refl, sym}
 use Rattle.checking.proofs.Outcomes.{decided-by, no-solution, nonzero, refused}
-use Rattle.claims.proofs.Ends.{closed-done, closed-refused}
 use Rattle.claims.specs.Outcomes.{walkedOf}
+use Rattle.delimiters.proofs.Ends.{closed-done, closed-refused}
+use Rattle.format.specs.Checking.{checker}
 use Rattle.question.specs.Posed.{asked}
 use Rattle.checking.proofs.prove.Statement.{statement}
 use Rattle.checking.proofs.prove.Tie as tie
@@ -32,7 +33,7 @@ returns c =
     let u = asked b (s .s) in
     let to = c .before .before .before .to .given .0 in
     λ a. decided-by (sym (c .before .before .before .before .before .before .walk .ensures) ∙ ap (walkedOf b u) (c .before .before .before .to .given .1))
-    (refused a (nonzero (closed-refused b u (to .1 .0) (to .0)) (c .before .end-fault .result) (c .before .end-fault .ensures) (c .if1 .taken)))
+    (refused a (nonzero (closed-refused (checker u) b u (to .1 .0) (to .0) refl) (c .before .end-fault .result) (c .before .end-fault .ensures) (c .if1 .taken)))
 
 same-length-2 : tie.Need-same-length-2
 same-length-2 c = search needs
@@ -55,7 +56,7 @@ returns-3 c =
     let u = asked b (s .s) in
     let to = c .before .before .before .to .given .0 in
     λ a. decided-by (sym (c .before .before .before .before .before .before .walk .ensures) ∙ ap (walkedOf b u) (c .before .before .before .to .given .1))
-    (no-solution a (closed-done b u (to .1 .0) (to .0) (sym (c .before .end-fault .ensures) ∙ c .if1 .left)))
+    (no-solution a (closed-done (checker u) b u (to .1 .0) (to .0) refl (sym (c .before .end-fault .ensures) ∙ c .if1 .left)))
 
 pub prove-spec : {M : Type 1} → statement M
 prove-spec =

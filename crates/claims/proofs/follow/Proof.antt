@@ -6,9 +6,8 @@ use borrow.Author.Needs.{needs}
 use denote.Ref.{now}
 use lib.ListN.{length}
 use Rattle.question.specs.Posed.{asked}
-use Rattle.records.proofs.Finding.{found-whole}
+use Rattle.records.proofs.Finding.{found-whole, not-whole}
 use Rattle.claims.specs.Outcomes.{LeafAt}
-use Rattle.claims.proofs.Found.{not-whole}
 use Rattle.claims.proofs.Following.{left, Going, starts, going-none, going-model, leaf-here, going-refused, going-taken}
 use Rattle.claims.proofs.follow.Statement.{statement}
 use Rattle.claims.proofs.follow.Tie as tie

@@ -10,11 +10,10 @@ use native.Mathlib.Omega.{arith}
 use Rattle.calculus.specs.Walk.{working}
 use Rattle.format.specs.Records.{kind, size}
 use Rattle.question.specs.Posed.{asked}
-use Rattle.records.proofs.Finding.{found-whole}
+use Rattle.records.proofs.Finding.{found-whole, not-whole}
 use Rattle.derivation.proofs.Holding.{fine}
 use Rattle.derivation.proofs.Closing.{open-depth}
 use Rattle.derivation.proofs.Acting.{holds-closed, few-extended, few-split, can-mark}
-use Rattle.claims.proofs.Found.{not-whole}
 use Rattle.claims.proofs.Walking.{left, Going, going-same, starts, going-none, going-refused, going-closed, going-next, going-one, going-more}
 use Rattle.claims.proofs.walk.Statement.{statement}
 use Rattle.claims.proofs.walk.Tie as tie

@@ -5,13 +5,12 @@ use lib.ListN.{length}
 use mathlib.Core.List.{List}
 use mathlib.Core.Path.{_≡_, _∙_, sym}
 use native.Mathlib.Omega.{arith}
-use Rattle.claims.proofs.Found.{not-whole}
 use Rattle.format.specs.Records.{records}
 use Rattle.lines.proofs.Lines.{lines-end, lines-integers, lines-string}
 use Rattle.lines.proofs.Puts.{put-same, then}
 use Rattle.lines.specs.Lines.{recordLines}
 use Rattle.lines.specs.Put.{Put}
-use Rattle.records.proofs.Finding.{found-whole}
+use Rattle.records.proofs.Finding.{found-whole, not-whole}
 use Rattle.lines.proofs.put_records.Statement.{statement}
 use Rattle.lines.proofs.put_records.Tie as tie
 

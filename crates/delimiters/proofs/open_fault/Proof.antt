@@ -1,9 +1,9 @@
--- `claims::open_fault` meets its contract.
+-- `delimiters::open_fault` meets its contract.
 use mathlib.Core.Path.{_∙_}
 use borrow.Author.Tests.{eq-eqb, ne-eqb}
 use borrow.Author.Needs.{needs}
-use Rattle.claims.proofs.open_fault.Statement.{statement}
-use Rattle.claims.proofs.open_fault.Tie as tie
+use Rattle.delimiters.proofs.open_fault.Statement.{statement}
+use Rattle.delimiters.proofs.open_fault.Tie as tie
 
 last-fault-requires : tie.Need-last-fault-requires
 last-fault-requires c κs = search needs

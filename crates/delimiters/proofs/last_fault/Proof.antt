@@ -1,7 +1,7 @@
--- `claims::last_fault` meets its contract.
+-- `delimiters::last_fault` meets its contract.
 use borrow.Author.Tests.{eq-eqb, ne-eqb}
-use Rattle.claims.proofs.last_fault.Statement.{statement}
-use Rattle.claims.proofs.last_fault.Tie as tie
+use Rattle.delimiters.proofs.last_fault.Statement.{statement}
+use Rattle.delimiters.proofs.last_fault.Tie as tie
 
 returns : tie.Need-returns
 returns c = rw (ne-eqb _ _ (c .if1 .taken))

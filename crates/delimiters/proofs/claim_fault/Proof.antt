@@ -1,14 +1,13 @@
--- `claims::claim_fault` meets its contract.
+-- `delimiters::claim_fault` meets its contract.
 use mathlib.Core.Path.{sym, _∙_}
 use native.Mathlib.Omega.{arith}
 use denote.Ref.{now}
 use borrow.Author.Tests.{le-leb, lt-leb, eq-eqb, ne-eqb}
-use Rattle.records.proofs.Finding.{found-whole}
 use Rattle.format.specs.Records.{size, kind}
-use Rattle.claims.proofs.Found.{all-there, not-whole}
+use Rattle.records.proofs.Finding.{found-whole, not-whole, all-there}
 use borrow.Author.Needs.{needs}
-use Rattle.claims.proofs.claim_fault.Statement.{statement}
-use Rattle.claims.proofs.claim_fault.Tie as tie
+use Rattle.delimiters.proofs.claim_fault.Statement.{statement}
+use Rattle.delimiters.proofs.claim_fault.Tie as tie
 
 read-at-requires : tie.Need-read-at-requires
 read-at-requires c κs = search needs

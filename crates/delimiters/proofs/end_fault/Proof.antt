@@ -1,15 +1,14 @@
--- `claims::end_fault` meets its contract.
+-- `delimiters::end_fault` meets its contract.
 use mathlib.Core.Path.{sym, _∙_}
 use native.Mathlib.Omega.{arith}
 use denote.Ref.{now}
 use borrow.Author.Tests.{le-leb, lt-leb, eq-eqb, ne-eqb}
 use Rattle.format.specs.Records.{kind}
-use Rattle.records.proofs.Finding.{found-whole}
-use Rattle.claims.specs.Numbers.{endFault}
-use Rattle.claims.proofs.Found.{all-there, not-whole}
+use Rattle.delimiters.specs.Numbers.{endFault}
+use Rattle.records.proofs.Finding.{found-whole, not-whole, all-there}
 use borrow.Author.Needs.{needs}
-use Rattle.claims.proofs.end_fault.Statement.{statement}
-use Rattle.claims.proofs.end_fault.Tie as tie
+use Rattle.delimiters.proofs.end_fault.Statement.{statement}
+use Rattle.delimiters.proofs.end_fault.Tie as tie
 
 read-at-requires : tie.Need-read-at-requires
 read-at-requires c κs = search needs

@@ -1,0 +1,81 @@
+// The records that delimit a derivation: the claim before it, the end behind it. Nothing here asks for the rules.
+ghost use mathlib.Core.Path.{_≡_};
+ghost use Rattle.format.specs.Reading.{claimFault, endForm};
+ghost use Rattle.question.specs.Progress.{progressOf};
+ghost use Rattle.delimiters.specs.Numbers.{openFault, endFault};
+use encoding::CLAIM_NO_SOLUTION;
+use encoding::CLAIM_STRINGS;
+use encoding::KIND_CLAIM;
+use encoding::KIND_END;
+use encoding::KIND_STEP;
+use encoding::RECORD_HEAD;
+use question::Progress;
+use records::Found;
+use records::read_at;
+use records::u16_at;
+
+// ---- the claim
+
+// "5 claim, once: u16, 1 for no solution, 2 for strings"
+pub fn claim_fault(ticket: &[u8], s: Progress, at: usize) -> usize
+    ensures { λ r. ⌜ r ≡ claimFault (now (ticket .entry)) (progressOf (now (ticket .entry)) s) at ⌝ }
+{
+    let Found::Whole(kind, size) = read_at(ticket, at) else {
+        return 3;
+    };
+    if s.last < 1 {
+        return 4;
+    }
+    if kind != KIND_CLAIM {
+        return 4;
+    }
+    if size != 2 {
+        return 5;
+    }
+    let claim = u16_at(ticket, at + RECORD_HEAD);
+    if claim < CLAIM_NO_SOLUTION {
+        return 6;
+    }
+    if CLAIM_STRINGS < claim {
+        return 6;
+    }
+    0
+}
+
+// ---- the end
+
+// An end record that ends at a position, in a ticket of so many bytes: "a byte follows the end record, counted at that end record".
+fn last_fault(length: usize, to: usize, size: usize, later: usize) -> usize
+    ensures { λ r. ⌜ r ≡ endForm length to size later ⌝ }
+{
+    if to != length {
+        return 4;
+    }
+    if size != 0 {
+        return 5;
+    }
+    later
+}
+
+// The number at the record that must be the end, behind the last closed branch or a model; 0 for none.
+pub fn end_fault(ticket: &[u8], at: usize) -> usize
+    ensures { λ r. ⌜ r ≡ endFault (now (ticket .entry)) at ⌝ }
+{
+    let Found::Whole(kind, size) = read_at(ticket, at) else {
+        return 3;
+    };
+    if kind != KIND_END {
+        return 4;
+    }
+    last_fault(ticket.len(), at + RECORD_HEAD + size, size, 0)
+}
+
+// A record where a branch is open, 0 at a step: "11 when the end comes before every branch closed, or before a model".
+pub fn open_fault(length: usize, to: usize, kind: usize, size: usize) -> usize
+    ensures { λ r. ⌜ r ≡ openFault length to kind size 0 ⌝ }
+{
+    if kind == KIND_END {
+        return last_fault(length, to, size, 11);
+    }
+    if kind == KIND_STEP { 0 } else { 4 }
+}
