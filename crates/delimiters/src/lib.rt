@@ -9,6 +9,7 @@ use encoding::KIND_CLAIM;
 use encoding::KIND_END;
 use encoding::KIND_STEP;
 use encoding::RECORD_HEAD;
+use question::HEAD_RANK;
 use question::Progress;
 use records::Found;
 use records::read_at;
@@ -23,7 +24,7 @@ pub fn claim_fault(ticket: &[u8], s: Progress, at: usize) -> usize
     let Found::Whole(kind, size) = read_at(ticket, at) else {
         return 3;
     };
-    if s.last < 1 {
+    if s.last < HEAD_RANK {
         return 4;
     }
     if kind != KIND_CLAIM {
