@@ -1,32 +1,29 @@
 // The steps of a derivation: claim 1's walk over every branch, claim 2's path to its leaf.
 ghost use mathlib.Core.Path.{_≡_};
-ghost use mathlib.Core.List.{List, [], _++_};
-ghost use Prim.Native.Nat.{_+_, _≤_};
-ghost use lib.ListN.{length};
-ghost use Rattle.calculus.specs.Facts.{Fact};
-ghost use Rattle.calculus.specs.Walk.{Waiting, working};
-ghost use Rattle.format.specs.Records.{size as sizeAt, kind as kindAt};
-ghost use Rattle.format.specs.StepForms.{childField};
-ghost use Rattle.format.specs.Reading.{proving, taking, fault, stepsOn};
+ghost use mathlib.Core.List.{[]};
+ghost use Prim.Native.Nat.{_≤_};
+ghost use Rattle.calculus.specs.Walk.{working};
+ghost use Rattle.format.specs.Reading.{proving, taking, stepsOn};
 ghost use Rattle.format.specs.Checking.{checker};
 ghost use Rattle.rows.specs.Rows.{branchOf};
 ghost use Rattle.rows.specs.Work.{Fine};
 ghost use Rattle.question.specs.Posed.{asked, Posed};
-ghost use Rattle.steps.specs.Offered.{offeredChild};
-ghost use Rattle.derivation.specs.Actions.{numberOf, Acts};
-ghost use Rattle.claims.specs.Outcomes.{walkedOf, followedOf, LeafAt};
+ghost use Rattle.derivation.specs.Actions.{ActsOn};
+ghost use Rattle.claims.specs.Outcomes.{WholeRecord, HasNumber, TakesRecord, walkedOf, followedOf, LeafAt};
 use branch::Branch;
 use delimiters::open_fault;
 use derivation::Action;
 use derivation::next_child;
 use derivation::take_step;
+use encoding::KIND_MODEL;
+use encoding::RECORD_HEAD;
 use question::Progress;
 use records::Found;
 use records::read_at;
-use rules::Taken;
-use rules::take_child;
 use steps::step_fault_one;
 use steps::step_fault_two;
+use trials::Taken;
+use trials::take_child;
 
 // ---- claim 1: every branch is walked until it closes
 
@@ -34,7 +31,7 @@ use steps::step_fault_two;
 fn walk_record(
     ticket: &[u8],
     s: Progress,
-    at: usize,
+    record: usize,
     kind: usize,
     size: usize,
     work: &mut [i64],
@@ -43,19 +40,19 @@ fn walk_record(
 ) -> Action
     requires { ⌜ Posed (now ticket) s ⌝ }
     requires { ⌜ Fine (now work) count ⌝ }
-    requires { ⌜ (kind ≡ kindAt (now ticket) at) × (size ≡ sizeAt (now ticket) at) × (at + 6 + size ≤ length (now ticket)) ⌝ }
-    ensures number { λ r. ⌜ ((ss : List (Waiting (List Fact) (List Fact))) → length ss ≡ pending → numberOf r ≡ fault (checker (asked (now (ticket .entry)) s)) (now (ticket .entry)) (asked (now (ticket .entry)) s) (proving (working (branchOf (now (work .entry)) count) ss)) at) ⌝ }
-    ensures acts { λ r. ⌜ Acts (now (ticket .entry)) (asked (now (ticket .entry)) s) at pending (now (work .entry)) count (now (work .exit)) r ⌝ }
+    requires { ⌜ WholeRecord (now ticket) «record» kind size ⌝ }
+    ensures number { λ r. ⌜ HasNumber (now (ticket .entry)) s «record» pending (now (work .entry)) count r ⌝ }
+    ensures acts { λ r. ⌜ ActsOn (now (ticket .entry)) s «record» pending (now (work .entry)) count (now (work .exit)) r ⌝ }
 {
-    let place = open_fault(ticket.len(), at + 6 + size, kind, size);
+    let place = open_fault(ticket.len(), record + RECORD_HEAD + size, kind, size);
     if place != 0 {
         return Action::Refused(place);
     }
-    let form = step_fault_one(ticket, s, at + 6, size);
+    let form = step_fault_one(ticket, s, record + RECORD_HEAD, size);
     if form != 0 {
         return Action::Refused(form);
     }
-    take_step(ticket, s, at, size, work, count, pending)
+    take_step(ticket, s, record, size, work, count, pending)
 }
 
 // Refused: the number and the record. Closed: every branch is closed; the position and the number of the record behind.
@@ -65,14 +62,14 @@ pub enum Walked {
 }
 
 // The records from the one behind the claim, record r at a position, on the question's constraints.
-pub fn walk(ticket: &[u8], s: Progress, at: usize, r: usize, work: &mut [i64]) -> Walked
+pub fn walk(ticket: &[u8], s: Progress, record: usize, r: usize, work: &mut [i64]) -> Walked
     requires { ⌜ Posed (now ticket) s ⌝ }
     requires { ⌜ Fine (now work) (s .constraints) × (branchOf (now work) (s .constraints) ≡ asked (now ticket) s .constraints) ⌝ }
-    requires { ⌜ r ≤ at ⌝ }
-    ensures { λ x. ⌜ walkedOf (now (ticket .entry)) (asked (now (ticket .entry)) s) x ≡ stepsOn (checker (asked (now (ticket .entry)) s)) (now (ticket .entry)) (asked (now (ticket .entry)) s) (proving (working (asked (now (ticket .entry)) s .constraints) [])) r at ⌝ }
+    requires { ⌜ r ≤ «record» ⌝ }
+    ensures { λ x. ⌜ walkedOf (now (ticket .entry)) (asked (now (ticket .entry)) s) x ≡ stepsOn (checker (asked (now (ticket .entry)) s)) (now (ticket .entry)) (asked (now (ticket .entry)) s) (proving (working (asked (now (ticket .entry)) s .constraints) [])) r «record» ⌝ }
 {
     let mut b = Branch::new(s.constraints);
-    let mut i = at;
+    let mut i = record;
     let mut k = r;
     loop {
         let Found::Whole(kind, size) = read_at(ticket, i) else {
@@ -85,7 +82,7 @@ pub fn walk(ticket: &[u8], s: Progress, at: usize, r: usize, work: &mut [i64]) -
             Action::Refused(c) => return Walked::Refused(c, k),
             Action::Closes => {
                 if pending == 0 {
-                    return Walked::Closed(i + 6 + size, k + 1);
+                    return Walked::Closed(i + RECORD_HEAD + size, k + 1);
                 }
                 b = next_child(ticket, s, work, b);
             }
@@ -97,7 +94,7 @@ pub fn walk(ticket: &[u8], s: Progress, at: usize, r: usize, work: &mut [i64]) -
                 b = b.extend(facts);
             }
         }
-        i = i + 6 + size;
+        i = i + RECORD_HEAD + size;
         k += 1;
     }
 }
@@ -108,7 +105,7 @@ pub fn walk(ticket: &[u8], s: Progress, at: usize, r: usize, work: &mut [i64]) -
 fn follow_record(
     ticket: &[u8],
     s: Progress,
-    at: usize,
+    record: usize,
     kind: usize,
     size: usize,
     work: &mut [i64],
@@ -116,23 +113,21 @@ fn follow_record(
 ) -> Taken
     requires { ⌜ Posed (now ticket) s ⌝ }
     requires { ⌜ Fine (now work) count ⌝ }
-    requires { ⌜ (kind ≡ kindAt (now ticket) at) × (size ≡ sizeAt (now ticket) at) × (at + 6 + size ≤ length (now ticket)) × (kind ≡ 7 → ⊥) ⌝ }
-    ensures fault { λ r. ⌜ r .fault ≡ fault (checker (asked (now (ticket .entry)) s)) (now (ticket .entry)) (asked (now (ticket .entry)) s) (taking (branchOf (now (work .entry)) count)) at ⌝ }
-    ensures added { λ r. ⌜ (r .fault ≡ 0 → branchOf (now (work .exit)) (r .count) ≡ branchOf (now (work .entry)) count ++ offeredChild (now (ticket .entry)) (asked (now (ticket .entry)) s) (branchOf (now (work .entry)) count) (at + 6) size (childField (now (ticket .entry)) (at + 6))) ⌝ }
-    ensures fine { λ r. ⌜ (r .fault ≡ 0 → Fine (now (work .exit)) (r .count)) ⌝ }
+    requires { ⌜ WholeRecord (now ticket) «record» kind size × (kind ≡ 7 → ⊥) ⌝ }
+    ensures { λ r. ⌜ TakesRecord (now (ticket .entry)) s «record» size (now (work .entry)) count (now (work .exit)) r ⌝ }
 {
-    let place = open_fault(ticket.len(), at + 6 + size, kind, size);
+    let place = open_fault(ticket.len(), record + RECORD_HEAD + size, kind, size);
     if place != 0 {
         return Taken {
             fault: place,
             count,
         };
     }
-    let form = step_fault_two(ticket, s, at + 6, size);
+    let form = step_fault_two(ticket, s, record + RECORD_HEAD, size);
     if form != 0 {
         return Taken { fault: form, count };
     }
-    take_child(ticket, s, at + 6, size, work, count)
+    take_child(ticket, s, record + RECORD_HEAD, size, work, count)
 }
 
 // Refused: the number and the record. Model: the position and the number of the model's record, and how many facts stand on the branch.
@@ -142,21 +137,21 @@ pub enum Followed {
 }
 
 // The records from the one behind the claim, record r at a position, on the question's constraints, up to a whole model's record.
-pub fn follow(ticket: &[u8], s: Progress, at: usize, r: usize, work: &mut [i64]) -> Followed
+pub fn follow(ticket: &[u8], s: Progress, record: usize, r: usize, work: &mut [i64]) -> Followed
     requires { ⌜ Posed (now ticket) s ⌝ }
     requires { ⌜ Fine (now work) (s .constraints) × (branchOf (now work) (s .constraints) ≡ asked (now ticket) s .constraints) ⌝ }
-    requires { ⌜ r ≤ at ⌝ }
-    ensures followed { λ x. ⌜ followedOf (now (ticket .entry)) (asked (now (ticket .entry)) s) (now (work .exit)) x ≡ stepsOn (checker (asked (now (ticket .entry)) s)) (now (ticket .entry)) (asked (now (ticket .entry)) s) (taking (asked (now (ticket .entry)) s .constraints)) r at ⌝ }
+    requires { ⌜ r ≤ «record» ⌝ }
+    ensures followed { λ x. ⌜ followedOf (now (ticket .entry)) (asked (now (ticket .entry)) s) (now (work .exit)) x ≡ stepsOn (checker (asked (now (ticket .entry)) s)) (now (ticket .entry)) (asked (now (ticket .entry)) s) (taking (asked (now (ticket .entry)) s .constraints)) r «record» ⌝ }
     ensures leaf { λ x. ⌜ LeafAt (now (ticket .entry)) (now (work .exit)) x ⌝ }
 {
     let mut count = s.constraints;
-    let mut i = at;
+    let mut i = record;
     let mut k = r;
     loop {
         let Found::Whole(kind, size) = read_at(ticket, i) else {
             return Followed::Refused(3, k);
         };
-        if kind == 7 {
+        if kind == KIND_MODEL {
             return Followed::Model(i, k, count);
         }
         let taken = follow_record(ticket, s, i, kind, size, work, count);
@@ -165,7 +160,7 @@ pub fn follow(ticket: &[u8], s: Progress, at: usize, r: usize, work: &mut [i64])
             return Followed::Refused(fault, k);
         }
         count = taken.count;
-        i = i + 6 + size;
+        i = i + RECORD_HEAD + size;
         k += 1;
     }
 }

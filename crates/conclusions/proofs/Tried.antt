@@ -65,9 +65,9 @@ single (some ((f ∷ []) ∷ [])) h = inr (f, refl)
 single (some ((f ∷ g ∷ fs) ∷ cs)) h = let e = h ((f ∷ g ∷ fs) ∷ cs) refl in clash cc
 single (some ((f ∷ []) ∷ c ∷ cs)) h = let e = h ((f ∷ []) ∷ c ∷ cs) refl in clash cc
 
-pub one-conclusion : (u : Question) (br : Branch) (b : List ℕ) (at m : ℕ) → lengthFits b at m ≡ true → conclusionsOf (rule b at) ≡ One → Single (offered b u br at m)
+pub one-conclusion : (u : Question) (br : Branch) (b : List ℕ) (body m : ℕ) → lengthFits b body m ≡ true → conclusionsOf (rule b body) ≡ One → Single (offered b u br body m)
 unfolding offered
-one-conclusion u br b at m f e = single (offered b u br at m) (λ cs q. children-shape u br (stepAt b at m) cs q ∙ one-child b (u .n) at m f e)
+one-conclusion u br b body m f e = single (offered b u br body m) (λ cs q. children-shape u br (stepAt b body m) cs q ∙ one-child b (u .n) body m f e)
 
 -- "Under claim 1 all children of a split are tried": of one child the tests are the same, with any number of splits pending
 both-tried : (w r : Bool) → need 9 ((w && true) && true) (need 10 ((r && true) && true) 0) ≡ need 9 (w && true) (need 10 r 0)

@@ -1,35 +1,35 @@
-// The rules that close a branch, 4 and 5, and those with one conclusion: 1, 6, 7, 9 and 13.
+// The rules that close a branch, A-Conf and S-Conf, and those with one conclusion: Sum, S-Prop, L-Intro, C-Collapse and Join.
 ghost use mathlib.Core.Path.{_≡_};
-ghost use mathlib.Core.Bool.{true};
-ghost use mathlib.Core.List.{_++_};
 ghost use Prim.Native.Nat.{_+_, _*_, _<_, _≤_};
 ghost use lib.ListN.{length};
 ghost use lib.IntN.{negℤ};
 ghost use Rattle.calculus.specs.Limits.{variableLimit, literalLimit};
 ghost use Rattle.calculus.specs.LinearForms.{zeros};
 ghost use Rattle.calculus.specs.Facts.{Question, valueOf};
-ghost use Rattle.calculus.specs.Steps.{Sum, AConf, SConf, SProp, Join};
-ghost use Rattle.calculus.specs.Rules.{children, literalChildren};
-ghost use Rattle.format.specs.Fields.{u32, u32s};
+ghost use Rattle.calculus.specs.Steps.{AConf, SConf, SProp, Join};
+ghost use Rattle.calculus.specs.Rules.{children};
+ghost use Rattle.format.specs.Fields.{u32s};
 ghost use Rattle.format.specs.Places.{skip, literalsFrom};
-ghost use Rattle.format.specs.StepForms as forms;
-ghost use Rattle.format.specs.StepForms.{formFor, fitsForm, sumPairs, functionOf, rule, operandsInRange};
-ghost use Rattle.format.specs.Checking.{childIn, takenTried};
-ghost use Rattle.question.specs.Posed.{asked};
+ghost use Rattle.format.specs.StepForms.{functionOf};
 ghost use Rattle.rows.specs.Rows.{rowLength, branchOf};
 ghost use Rattle.rows.specs.Work.{Fine};
-ghost use Rattle.steps.specs.Conclusions.{conclusionsOf};
 ghost use Rattle.steps.specs.declared.Conclusions.the-variants.{Nothing, One};
-ghost use Rattle.steps.specs.Offered.{offered, offeredChild};
-ghost use Rattle.steps.specs.Ready.{Ready};
-ghost use Rattle.conclusions.specs.Made.{closingOf, madeOf};
+ghost use Rattle.steps.specs.Offered.{offeredOn, withChild, childFault};
+ghost use Rattle.steps.specs.Ready.{ReadyBy};
+ghost use Rattle.conclusions.specs.Made.{closingOf, madeOf, Makes, ofLiteral};
+ghost use Rattle.conclusions.specs.Sums.{FormedSum, sumAt};
 use classes::Lowest;
+use encoding::CODE;
+use encoding::EQ;
+use encoding::LEN;
 use limits::FACT_LIMIT;
 use limits::ROW_LENGTH;
 use question::Progress;
 use question::column_of;
 use records::u16_at;
 use records::u32_at;
+use steps::OPERANDS;
+use steps::Rule;
 
 // ---- rules that close
 
@@ -57,32 +57,35 @@ fn s_conf(literals: usize, work: &[i64], count: usize) -> bool
 pub fn closes(
     ticket: &[u8],
     s: Progress,
-    at: usize,
+    rule: Rule,
+    body: usize,
     size: usize,
     work: &[i64],
     count: usize,
 ) -> bool
-    requires { ⌜ Ready (now ticket) s at size (now work) count ⌝ }
-    requires { ⌜ conclusionsOf (rule (now ticket) at) ≡ Nothing ⌝ }
-    ensures { λ r. ⌜ closingOf r ≡ offered (now (ticket .entry)) (asked (now (ticket .entry)) s) (branchOf (now (work .entry)) count) at size ⌝ }
+    requires { ⌜ ReadyBy rule Nothing (now ticket) s body size (now work) count ⌝ }
+    ensures { λ r. ⌜ closingOf r ≡ offeredOn (now (ticket .entry)) s body size (now (work .entry)) count ⌝ }
 {
-    if u16_at(ticket, at) == 4 {
-        return a_conf(u16_at(ticket, at + 4), work, count);
+    match rule {
+        Rule::AConf => a_conf(u16_at(ticket, body + OPERANDS), work, count),
+        Rule::SConf => s_conf(s.literals, work, count),
+        Rule::Sum | Rule::SProp | Rule::LIntro | Rule::CCollapse | Rule::Join => false,
+        Rule::Branch | Rule::Apart | Rule::LValid | Rule::CValid | Rule::CInj | Rule::Card => false,
+        Rule::Unknown => false,
     }
-    s_conf(s.literals, work, count)
 }
 
 // ---- rules with one conclusion: each fills a row with the fact that the step adds, and says whether it fits
 
 // Sum: "Adds a ≥ fact", in a row of zeros.
-fn sum(row: &mut [i64], ticket: &[u8], at: usize, size: usize, work: &[i64], count: usize) -> bool
+fn sum(row: &mut [i64], ticket: &[u8], body: usize, size: usize, work: &[i64], count: usize) -> bool
     requires { ⌜ now row ≡ zeros rowLength ⌝ }
-    requires { ⌜ (at + size ≤ length (now ticket)) × (fitsForm (formFor forms.sum) size ≡ true) × (operandsInRange (now ticket) 0 0 forms.sum at size ≡ true) ⌝ }
+    requires { ⌜ FormedSum (now ticket) body size ⌝ }
     requires { ⌜ Fine (now work) count ⌝ }
-    ensures { λ r. ⌜ ((u : Question) → madeOf r (now (row .exit)) ≡ children u (branchOf (now (work .entry)) count) (Sum (u32 (now (ticket .entry)) (at + 4)) (sumPairs (now (ticket .entry)) at size))) ⌝ }
+    ensures { λ r. ⌜ ((u : Question) → Makes r (now (row .exit)) u (now (work .entry)) count (sumAt (now (ticket .entry)) body size)) ⌝ }
 {
-    let divisor = u32_at(ticket, at + 4);
-    sums::sum_row(row, ticket, at + 8, (size - 8) / 6, divisor, work, count)
+    let divisor = u32_at(ticket, body + OPERANDS);
+    sums::sum_row(row, ticket, body + 8, (size - 8) / 6, divisor, work, count)
 }
 
 // S-Prop: "Adds f(x) − f(y) = 0", for different variables of one class.
@@ -98,7 +101,7 @@ fn s_prop(
 ) -> bool
     requires { ⌜ length (now row) ≡ rowLength ⌝ }
     requires { ⌜ Fine (now work) count × (p ≤ variableLimit) × (q ≤ variableLimit) × (x < p) × (y < p) ⌝ }
-    ensures { λ r. ⌜ ((u : Question) → u .p ≡ p → u .q ≡ q → madeOf r (now (row .exit)) ≡ children u (branchOf (now (work .entry)) count) (SProp (functionOf function) x y)) ⌝ }
+    ensures { λ r. ⌜ ((u : Question) → u .p ≡ p → u .q ≡ q → Makes r (now (row .exit)) u (now (work .entry)) count (SProp (functionOf function) x y)) ⌝ }
 {
     if x == y {
         return false;
@@ -109,7 +112,7 @@ fn s_prop(
     }
     rows::fill_difference(
         row,
-        1,
+        EQ,
         column_of(p, q, function, x),
         column_of(p, q, function, y),
     );
@@ -121,13 +124,13 @@ fn negative_of_text(ticket: &[u8], function: usize, at: usize, count: usize) -> 
     requires { ⌜ at + 4 * count ≤ length (now ticket) ⌝ }
     ensures { λ r. ⌜ r ≡ negℤ (valueOf (functionOf function) (u32s (now (ticket .entry)) at count)) ⌝ }
 {
-    if function == 0 {
+    if function == LEN {
         return 0 - count as i64;
     }
     0 - question::text_code(ticket, at, count)
 }
 
-// L-Intro, with function 0: "Adds len(x) = length of l"; C-Collapse, with function 1: "Adds code(x) = code of l, or −1".
+// L-Intro, with len: "Adds len(x) = length of l"; C-Collapse, with code: "Adds code(x) = code of l, or −1".
 fn of_literal(
     row: &mut [i64],
     ticket: &[u8],
@@ -140,7 +143,7 @@ fn of_literal(
     requires { ⌜ length (now row) ≡ rowLength ⌝ }
     requires { ⌜ Fine (now work) count × (s .p ≤ variableLimit) × (s .q ≤ variableLimit) × (x < s .p) ⌝ }
     requires { ⌜ (s .literals ≤ literalLimit) × (skip (now ticket) (s .literals) literalsFrom ≤ length (now ticket)) ⌝ }
-    ensures { λ r. ⌜ madeOf r (now (row .exit)) ≡ literalChildren (asked (now (ticket .entry)) s) (branchOf (now (work .entry)) count) (functionOf function) x ⌝ }
+    ensures { λ r. ⌜ madeOf r (now (row .exit)) ≡ ofLiteral (now (ticket .entry)) s (now (work .entry)) count function x ⌝ }
 {
     let labels = classes::labels(work, count);
     let found = classes::class_literal(labels, s.literals + 1, x);
@@ -149,7 +152,7 @@ fn of_literal(
         Lowest::Literal(l) => {
             let text = question::literal_text(ticket, l);
             let constant = negative_of_text(ticket, function, text.at, text.count);
-            rows::fill_single(row, 1, constant, column_of(s.p, s.q, function, x), 1);
+            rows::fill_single(row, EQ, constant, column_of(s.p, s.q, function, x), 1);
             true
         }
     }
@@ -159,7 +162,7 @@ fn of_literal(
 fn join(row: &mut [i64], j: usize, k: usize, work: &[i64], count: usize) -> bool
     requires { ⌜ length (now row) ≡ rowLength ⌝ }
     requires { ⌜ Fine (now work) count ⌝ }
-    ensures { λ r. ⌜ ((u : Question) → madeOf r (now (row .exit)) ≡ children u (branchOf (now (work .entry)) count) (Join j k)) ⌝ }
+    ensures { λ r. ⌜ ((u : Question) → Makes r (now (row .exit)) u (now (work .entry)) count (Join j k)) ⌝ }
 {
     if count <= j {
         return false;
@@ -180,28 +183,29 @@ fn conclusion(
     row: &mut [i64],
     ticket: &[u8],
     s: Progress,
-    at: usize,
+    rule: Rule,
+    body: usize,
     size: usize,
     work: &[i64],
     count: usize,
 ) -> bool
     requires { ⌜ now row ≡ zeros rowLength ⌝ }
-    requires { ⌜ Ready (now ticket) s at size (now work) count ⌝ }
-    requires { ⌜ conclusionsOf (rule (now ticket) at) ≡ One ⌝ }
-    ensures { λ r. ⌜ madeOf r (now (row .exit)) ≡ offered (now (ticket .entry)) (asked (now (ticket .entry)) s) (branchOf (now (work .entry)) count) at size ⌝ }
+    requires { ⌜ ReadyBy rule One (now ticket) s body size (now work) count ⌝ }
+    ensures { λ r. ⌜ madeOf r (now (row .exit)) ≡ offeredOn (now (ticket .entry)) s body size (now (work .entry)) count ⌝ }
 {
-    let number = u16_at(ticket, at);
-    let first = u16_at(ticket, at + 4);
-    match number {
-        1 => sum(row, ticket, at, size, work, count),
-        6 => {
-            let x = u16_at(ticket, at + 6);
-            let y = u16_at(ticket, at + 8);
+    let first = u16_at(ticket, body + OPERANDS);
+    match rule {
+        Rule::Sum => sum(row, ticket, body, size, work, count),
+        Rule::SProp => {
+            let x = u16_at(ticket, body + 6);
+            let y = u16_at(ticket, body + 8);
             s_prop(row, s.p, s.q, first, x, y, work, count)
         }
-        7 => of_literal(row, ticket, s, 0, first, work, count),
-        9 => of_literal(row, ticket, s, 1, first, work, count),
-        _ => join(row, first, u16_at(ticket, at + 6), work, count),
+        Rule::LIntro => of_literal(row, ticket, s, LEN, first, work, count),
+        Rule::CCollapse => of_literal(row, ticket, s, CODE, first, work, count),
+        Rule::Join => join(row, first, u16_at(ticket, body + 6), work, count),
+        Rule::AConf | Rule::SConf | Rule::Unknown => false,
+        Rule::Branch | Rule::Apart | Rule::LValid | Rule::CValid | Rule::CInj | Rule::Card => false,
     }
 }
 
@@ -209,19 +213,19 @@ fn conclusion(
 pub fn conclude(
     ticket: &[u8],
     s: Progress,
-    at: usize,
+    rule: Rule,
+    body: usize,
     size: usize,
     work: &mut [i64],
     count: usize,
 ) -> usize
-    requires { ⌜ Ready (now ticket) s at size (now work) count ⌝ }
-    requires { ⌜ conclusionsOf (rule (now ticket) at) ≡ One ⌝ }
-    ensures fault { λ r. ⌜ r ≡ takenTried (branchOf (now (work .entry)) count) (childIn (offered (now (ticket .entry)) (asked (now (ticket .entry)) s) (branchOf (now (work .entry)) count) at size) 1) ⌝ }
-    ensures added { λ r. ⌜ (r ≡ 0 → branchOf (now (work .exit)) (count + 1) ≡ branchOf (now (work .entry)) count ++ offeredChild (now (ticket .entry)) (asked (now (ticket .entry)) s) (branchOf (now (work .entry)) count) at size 1) ⌝ }
+    requires { ⌜ ReadyBy rule One (now ticket) s body size (now work) count ⌝ }
+    ensures fault { λ r. ⌜ r ≡ childFault (now (ticket .entry)) s body size (now (work .entry)) count 1 ⌝ }
+    ensures added { λ r. ⌜ (r ≡ 0 → branchOf (now (work .exit)) (count + 1) ≡ withChild (now (ticket .entry)) s body size (now (work .entry)) count 1) ⌝ }
     ensures fine { λ r. ⌜ (r ≡ 0 → Fine (now (work .exit)) (count + 1)) ⌝ }
 {
     let mut row = [0i64; ROW_LENGTH];
-    if !conclusion(&mut row, ticket, s, at, size, work, count) {
+    if !conclusion(&mut row, ticket, s, rule, body, size, work, count) {
         return 8;
     }
     if !rows::fact_within(&row) {

@@ -8,12 +8,17 @@ use lib.IntN.{ℤ}
 use Rattle.calculus.specs.Facts.{Branch}
 use Rattle.calculus.specs.Walk.{closed, cutBack}
 use Rattle.format.specs.Records.{size}
+use Rattle.format.specs.StepForms.{formFor, rule}
+use Rattle.format.proofs.Decoded.{at-least}
 use Rattle.rows.specs.Rows.{branchOf}
 use Rattle.rows.specs.Work.{Fine}
 use Rattle.rows.proofs.Branches.{length-branch, branch-take}
 use Rattle.question.specs.declared.Progress.{Progress}
 use Rattle.question.specs.Posed.{asked}
+use Rattle.steps.specs.declared.Rule.{Rule}
+use Rattle.steps.specs.Rules.{ruleNamed}
 use Rattle.steps.specs.Offered.{offeredChild}
+use Rattle.steps.proofs.Table.{least-four}
 use Rattle.branch.specs.declared.Split.{Split}
 use Rattle.branch.specs.declared.Branch as code
 use Rattle.branch.specs.Stack.{lastFirst, stack, latestOf, begunOf}
@@ -73,9 +78,17 @@ module _ {b : List ℕ} {s : Progress} {w : List ℤ} {c : code.Branch} (h : InO
   pub record-stands : t .at + 4 ≤ length b
   record-stands = omega (arith, pends .splits .formed .within)
 
+  -- and so does the number of its rule
+  pub rule-stands : t .at + 6 + 2 ≤ length b
+  rule-stands =
+      let f = pends .splits .formed in
+      let r = rule b (t .at + 6) in
+      omega (arith, f .within, at-least (formFor r) (size b (t .at)) (f .fits), least-four r)
+
   -- its next child can be put
-  pub puts-next : (m : ℕ) → m ≡ size b (t .at) → Puts b s (t .at + 6) m w (t .mark) (t .child)
-  puts-next m em = puts b s w (t .at) (t .last) (t .child) m (t .mark) (h .posed) cut-splits (pends .several) cut-fine (pends .some-begun) (pends .some-left) em
+  pub puts-next : (r : Rule) → ruleNamed r ≡ rule b (t .at + 6) → (m : ℕ) → m ≡ size b (t .at) → Puts r b s (t .at + 6) m w (t .mark) (t .child)
+  puts-next r n m em =
+      puts r b s w (t .at) (t .last) (t .child) m (t .mark) (h .posed) cut-splits n (pends .several) cut-fine (pends .some-begun) (pends .some-left) em
 
   -- and then the walk is the one cut back
   pub next-begins : (v : List ℤ) (r : code.Branch) (m k : ℕ) → m ≡ size b (t .at) → r .count ≡ k

@@ -1,14 +1,13 @@
 -- What a state in order gives to the code that works on it.
 use Prim.Native.Nat.{ℕ, _+_, _≤_}
 use native.Mathlib.Omega.{arith}
-use mathlib.Core.Path.{_≡_, sym, _∙_, subst}
+use mathlib.Core.Path.{_≡_, sym, _∙_, ap, subst}
 use mathlib.Core.List.{List}
 use lib.ListN.{length}
 use lib.IntN.{ℤ}
 use Rattle.calculus.specs.Limits.{factLimit, pendingLimit}
 use Rattle.format.specs.Records.{size}
 use Rattle.format.specs.StepForms.{rule}
-use Rattle.format.specs.Checking.{childIn, takenTried}
 use Rattle.rows.specs.Rows.{branchOf}
 use Rattle.rows.specs.Work.{Fine}
 use Rattle.rows.proofs.Branches.{length-branch}
@@ -16,8 +15,10 @@ use Rattle.question.specs.declared.Progress.{Progress}
 use Rattle.question.specs.Posed.{asked, Posed}
 use Rattle.steps.specs.Conclusions.{conclusionsOf}
 use Rattle.steps.specs.declared.Conclusions.the-variants.{Several}
-use Rattle.steps.specs.Offered.{offered}
-use Rattle.steps.specs.Ready.{Ready}
+use Rattle.steps.specs.Offered.{childFault}
+use Rattle.steps.specs.declared.Rule.{Rule}
+use Rattle.steps.specs.Rules.{ruleNamed}
+use Rattle.steps.specs.Ready.{Ready, ReadyBy}
 use Rattle.branch.specs.declared.Branch as code
 use Rattle.branch.specs.Stack.{stack}
 use Rattle.branch.proofs.Stacks.{length-stack}
@@ -45,10 +46,11 @@ module _ {b : List ℕ} {s : Progress} {w : List ℤ} {c : code.Branch} (h : InO
   waiting = length-waitings b (asked b s) (branchOf w (c .count)) (stack c) ∙ length-stack c
 
 -- what is asked for where child k of the step in a body of m bytes is put behind count facts
-abbrev pub Puts : List ℕ → Progress → ℕ → ℕ → List ℤ → ℕ → ℕ → Type 0
-Puts b s at m w count k = Ready b s at m w count × ((conclusionsOf (rule b at) ≡ Several) × (takenTried (branchOf w count) (childIn (offered b (asked b s) (branchOf w count) at m) k) ≡ 0))
+abbrev pub Puts : Rule → List ℕ → Progress → ℕ → ℕ → List ℤ → ℕ → ℕ → Type 0
+Puts r b s body m w count k = ReadyBy r Several b s body m w count × (childFault b s body m w count k ≡ 0)
 
-pub puts : (b : List ℕ) (s : Progress) (w : List ℤ) (at n k m count : ℕ) → Posed b s → Splits b (asked b s) (branchOf w count) at n → conclusionsOf (rule b (at + 6)) ≡ Several → Fine w count → 1 ≤ k → k ≤ n
-    → m ≡ size b at → Puts b s (at + 6) m w count k
-puts b s w at n k m count p sp r f l h em =
-    subst (λ (i : ℕ). Puts b s (at + 6) i w count k) (sym em) (record { posed = p; formed = sp .formed; fine = f }, (r, none-of-these sp k l h))
+pub puts : (r : Rule) (b : List ℕ) (s : Progress) (w : List ℤ) (at n k m count : ℕ) → Posed b s → Splits b (asked b s) (branchOf w count) at n
+    → ruleNamed r ≡ rule b (at + 6) → conclusionsOf (rule b (at + 6)) ≡ Several → Fine w count → 1 ≤ k → k ≤ n → m ≡ size b at → Puts r b s (at + 6) m w count k
+puts r b s w at n k m count p sp e c f l h em =
+    let ready : Ready b s (at + 6) (size b at) w count = record { posed = p; formed = sp .formed; fine = f } in
+    subst (λ (i : ℕ). Puts r b s (at + 6) i w count k) (sym em) (record { ready = ready; named = e; concludes = ap conclusionsOf e ∙ c }, none-of-these sp k l h)

@@ -7,6 +7,8 @@ use lib.IntN.{ℤ}
 use Rattle.calculus.specs.Limits.{pendingLimit}
 use Rattle.calculus.specs.Facts.{Question, Branch}
 use Rattle.format.specs.StepForms.{rule}
+use Rattle.question.specs.declared.Progress.{Progress}
+use Rattle.question.specs.Posed.{asked}
 use Rattle.rows.specs.Rows.{branchOf}
 use Rattle.rows.specs.Work.{Fine}
 use Rattle.steps.specs.Conclusions.{conclusionsOf}
@@ -42,3 +44,7 @@ Acts b u at pending v count w (action.the-variants.Refused n) = n ≡ 0 → ⊥
 Acts b u at pending v count w action.the-variants.Closes = (offeredIn b u (branchOf v count) at ≡ some []) × (branchOf w count ≡ branchOf v count)
 Acts b u at pending v count w (action.the-variants.Extends k) = Begins b u (branchOf v count) at 1 w k
 Acts b u at pending v count w (action.the-variants.Splits k n) = Begins b u (branchOf v count) at n w k × Branches b at n pending
+
+-- under the question that was read
+abbrev pub ActsOn : List ℕ → Progress → ℕ → ℕ → List ℤ → ℕ → List ℤ → Action → Type 0
+ActsOn b s at pending v count w a = Acts b (asked b s) at pending v count w a

@@ -1,27 +1,21 @@
 // The derivation: what a step under claim 1 comes to.
 ghost use mathlib.Core.Path.{_≡_};
-ghost use mathlib.Core.List.{_++_};
 ghost use Prim.Native.Nat.{ℕ, _+_, _<_};
-ghost use Rattle.calculus.specs.Walk.{cutBack};
 ghost use Rattle.format.specs.Records.{size as sizeOf};
-ghost use Rattle.format.specs.StepForms.{rule};
-ghost use Rattle.format.specs.Checking.{allTried};
-ghost use Rattle.rows.specs.Rows.{branchOf};
-ghost use Rattle.question.specs.Posed.{asked};
-ghost use Rattle.steps.specs.Conclusions.{conclusionsOf};
 ghost use Rattle.steps.specs.declared.Conclusions.the-variants.{Nothing, One, Several};
-ghost use Rattle.steps.specs.Ready.{Ready};
-ghost use Rattle.branch.specs.Stack.{stack};
-ghost use Rattle.derivation.specs.State.{offeredIn, waitings, stateOf};
+ghost use Rattle.steps.specs.Ready.{Ready, ReadyBy};
+ghost use Rattle.derivation.specs.State.{recordFault, CutsBack};
 ghost use Rattle.derivation.specs.Ok.{InOrder};
-ghost use Rattle.derivation.specs.Actions.{numberOf, Acts};
+ghost use Rattle.derivation.specs.Actions.{numberOf, ActsOn};
 use branch::Branch;
+use encoding::RECORD_HEAD;
 use question::Progress;
 use records::u16_at;
 use records::u32_at;
-use rules::split_fault;
 use splits::put_child;
 use steps::Conclusions;
+use steps::Rule;
+use trials::split_fault;
 
 // What a step comes to. Refused: the number. Closes: the branch is closed. Extends: the number of facts on the branch then. Splits: the number
 // of facts on the branch of its first child, and that of its children.
@@ -38,17 +32,17 @@ pub enum Action {
 fn take_closing(
     ticket: &[u8],
     s: Progress,
-    at: usize,
+    rule: Rule,
+    record: usize,
     size: usize,
     work: &[i64],
     count: usize,
 ) -> Action
-    requires { ⌜ Ready (now ticket) s (at + 6) size (now work) count × (size ≡ sizeOf (now ticket) at) ⌝ }
-    requires { ⌜ conclusionsOf (rule (now ticket) (at + 6)) ≡ Nothing ⌝ }
-    ensures number { λ r. ⌜ ((pending : ℕ) → numberOf r ≡ allTried (branchOf (now (work .entry)) count) pending (offeredIn (now (ticket .entry)) (asked (now (ticket .entry)) s) (branchOf (now (work .entry)) count) at)) ⌝ }
-    ensures acts { λ r. ⌜ ((pending : ℕ) → Acts (now (ticket .entry)) (asked (now (ticket .entry)) s) at pending (now (work .entry)) count (now (work .entry)) r) ⌝ }
+    requires { ⌜ ReadyBy rule Nothing (now ticket) s («record» + 6) size (now work) count × (size ≡ sizeOf (now ticket) «record») ⌝ }
+    ensures number { λ r. ⌜ ((pending : ℕ) → numberOf r ≡ recordFault (now (ticket .entry)) s «record» (now (work .entry)) count pending) ⌝ }
+    ensures acts { λ r. ⌜ ((pending : ℕ) → ActsOn (now (ticket .entry)) s «record» pending (now (work .entry)) count (now (work .entry)) r) ⌝ }
 {
-    if !conclusions::closes(ticket, s, at + 6, size, work, count) {
+    if !conclusions::closes(ticket, s, rule, record + RECORD_HEAD, size, work, count) {
         return Action::Refused(8);
     }
     Action::Closes
@@ -58,17 +52,17 @@ fn take_closing(
 fn take_conclusion(
     ticket: &[u8],
     s: Progress,
-    at: usize,
+    rule: Rule,
+    record: usize,
     size: usize,
     work: &mut [i64],
     count: usize,
 ) -> Action
-    requires { ⌜ Ready (now ticket) s (at + 6) size (now work) count × (size ≡ sizeOf (now ticket) at) ⌝ }
-    requires { ⌜ conclusionsOf (rule (now ticket) (at + 6)) ≡ One ⌝ }
-    ensures number { λ r. ⌜ ((pending : ℕ) → numberOf r ≡ allTried (branchOf (now (work .entry)) count) pending (offeredIn (now (ticket .entry)) (asked (now (ticket .entry)) s) (branchOf (now (work .entry)) count) at)) ⌝ }
-    ensures acts { λ r. ⌜ ((pending : ℕ) → Acts (now (ticket .entry)) (asked (now (ticket .entry)) s) at pending (now (work .entry)) count (now (work .exit)) r) ⌝ }
+    requires { ⌜ ReadyBy rule One (now ticket) s («record» + 6) size (now work) count × (size ≡ sizeOf (now ticket) «record») ⌝ }
+    ensures number { λ r. ⌜ ((pending : ℕ) → numberOf r ≡ recordFault (now (ticket .entry)) s «record» (now (work .entry)) count pending) ⌝ }
+    ensures acts { λ r. ⌜ ((pending : ℕ) → ActsOn (now (ticket .entry)) s «record» pending (now (work .entry)) count (now (work .exit)) r) ⌝ }
 {
-    let fault = conclusions::conclude(ticket, s, at + 6, size, work, count);
+    let fault = conclusions::conclude(ticket, s, rule, record + RECORD_HEAD, size, work, count);
     if fault != 0 {
         return Action::Refused(fault);
     }
@@ -79,23 +73,32 @@ fn take_conclusion(
 fn take_split(
     ticket: &[u8],
     s: Progress,
-    at: usize,
+    rule: Rule,
+    record: usize,
     size: usize,
     work: &mut [i64],
     count: usize,
     pending: usize,
 ) -> Action
-    requires { ⌜ Ready (now ticket) s (at + 6) size (now work) count × (size ≡ sizeOf (now ticket) at) ⌝ }
-    requires { ⌜ conclusionsOf (rule (now ticket) (at + 6)) ≡ Several ⌝ }
-    ensures number { λ r. ⌜ numberOf r ≡ allTried (branchOf (now (work .entry)) count) pending (offeredIn (now (ticket .entry)) (asked (now (ticket .entry)) s) (branchOf (now (work .entry)) count) at) ⌝ }
-    ensures acts { λ r. ⌜ Acts (now (ticket .entry)) (asked (now (ticket .entry)) s) at pending (now (work .entry)) count (now (work .exit)) r ⌝ }
+    requires { ⌜ ReadyBy rule Several (now ticket) s («record» + 6) size (now work) count × (size ≡ sizeOf (now ticket) «record») ⌝ }
+    ensures number { λ r. ⌜ numberOf r ≡ recordFault (now (ticket .entry)) s «record» (now (work .entry)) count pending ⌝ }
+    ensures acts { λ r. ⌜ ActsOn (now (ticket .entry)) s «record» pending (now (work .entry)) count (now (work .exit)) r ⌝ }
 {
-    let fault = split_fault(ticket, s, at + 6, size, work, count, pending);
+    let fault = split_fault(
+        ticket,
+        s,
+        rule,
+        record + RECORD_HEAD,
+        size,
+        work,
+        count,
+        pending,
+    );
     if fault != 0 {
         return Action::Refused(fault);
     }
-    let last = steps::child_count(ticket, s.n, at + 6, size);
-    let begun = put_child(ticket, s, at + 6, size, work, count, 1);
+    let last = steps::child_count(rule, s.n, size);
+    let begun = put_child(ticket, s, rule, record + RECORD_HEAD, size, work, count, 1);
     if last <= 1 {
         return Action::Extends(begun);
     }
@@ -106,20 +109,21 @@ fn take_split(
 pub fn take_step(
     ticket: &[u8],
     s: Progress,
-    at: usize,
+    record: usize,
     size: usize,
     work: &mut [i64],
     count: usize,
     pending: usize,
 ) -> Action
-    requires { ⌜ Ready (now ticket) s (at + 6) size (now work) count × (size ≡ sizeOf (now ticket) at) ⌝ }
-    ensures number { λ r. ⌜ numberOf r ≡ allTried (branchOf (now (work .entry)) count) pending (offeredIn (now (ticket .entry)) (asked (now (ticket .entry)) s) (branchOf (now (work .entry)) count) at) ⌝ }
-    ensures acts { λ r. ⌜ Acts (now (ticket .entry)) (asked (now (ticket .entry)) s) at pending (now (work .entry)) count (now (work .exit)) r ⌝ }
+    requires { ⌜ Ready (now ticket) s («record» + 6) size (now work) count × (size ≡ sizeOf (now ticket) «record») ⌝ }
+    ensures number { λ r. ⌜ numberOf r ≡ recordFault (now (ticket .entry)) s «record» (now (work .entry)) count pending ⌝ }
+    ensures acts { λ r. ⌜ ActsOn (now (ticket .entry)) s «record» pending (now (work .entry)) count (now (work .exit)) r ⌝ }
 {
-    match steps::conclusions_of(u16_at(ticket, at + 6)) {
-        Conclusions::Nothing => take_closing(ticket, s, at, size, work, count),
-        Conclusions::One => take_conclusion(ticket, s, at, size, work, count),
-        Conclusions::Several => take_split(ticket, s, at, size, work, count, pending),
+    let rule = steps::rule_of(u16_at(ticket, record + RECORD_HEAD));
+    match steps::conclusions_of(rule) {
+        Conclusions::Nothing => take_closing(ticket, s, rule, record, size, work, count),
+        Conclusions::One => take_conclusion(ticket, s, rule, record, size, work, count),
+        Conclusions::Several => take_split(ticket, s, rule, record, size, work, count, pending),
     }
 }
 
@@ -128,16 +132,18 @@ pub fn take_step(
 // "a closed branch is cut back to the mark of its last pending split", and its next child begins.
 pub fn next_child(ticket: &[u8], s: Progress, work: &mut [i64], b: Branch) -> Branch
     requires { ⌜ InOrder (now ticket) s (now work) b × (0 < b .depth) ⌝ }
-    ensures state { λ r. ⌜ stateOf (now (ticket .entry)) (asked (now (ticket .entry)) s) (now (work .exit)) r ≡ cutBack _++_ (waitings (now (ticket .entry)) (asked (now (ticket .entry)) s) (branchOf (now (work .entry)) (b .count)) (stack b)) ⌝ }
+    ensures state { λ r. ⌜ CutsBack (now (ticket .entry)) s (now (work .entry)) b (now (work .exit)) r ⌝ }
     ensures holds { λ r. ⌜ InOrder (now (ticket .entry)) s (now (work .exit)) r ⌝ }
 {
     let split = b.latest();
-    let at = split.at as usize;
-    let size = u32_at(ticket, at);
+    let record = split.at as usize;
+    let size = u32_at(ticket, record);
+    let rule = steps::rule_of(u16_at(ticket, record + RECORD_HEAD));
     let count = put_child(
         ticket,
         s,
-        at + 6,
+        rule,
+        record + RECORD_HEAD,
         size,
         work,
         split.mark as usize,

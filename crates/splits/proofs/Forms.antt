@@ -27,6 +27,7 @@ use Rattle.question.specs.declared.Progress.{Progress}
 use Rattle.question.specs.Columns.{columnAt}
 use Rattle.question.specs.Posed.{numbered}
 use Rattle.constraints.proofs.Ranges.{within-set}
+use Rattle.splits.specs.Children.{codeless, coded}
 
 -- ---- a child by its number
 
@@ -91,20 +92,14 @@ ge-form row e h =
 -- ---- C-Valid
 
 module _ (s : Progress) (x len code : ℕ) (el : len ≡ columnAt (s .p) (s .q) 0 x) (ec : code ≡ columnAt (s .p) (s .q) 1 x) (hl : len < 48) (hc : code < 48) where
-  pub c-valid-children : cValidChildren (numbered s) x
-      ≡ (arithmetic ne (single (negsuc 0) len (pos 1)) ∷ arithmetic eq (single (pos 1) code (pos 1)) ∷ [])
-      ∷ (arithmetic eq (single (negsuc 0) len (pos 1)) ∷ arithmetic ge (single (pos 0) code (pos 1)) ∷ arithmetic ge (single (pos (s .n - 1)) code (negsuc 0)) ∷ [])
-      ∷ []
+  pub c-valid-children : cValidChildren (numbered s) x ≡ codeless len code ∷ coded len code 0 (s .n - 1) ∷ []
   unfolding columnAt
   c-valid-children = rw (sym el, sym ec, above-column len hl, minus-number code hc (negsuc 0), number-minus code hc (pos (s .n - 1)), column-single code hc)
 
-  pub c-valid-one : (k : ℕ) → k ≡ 1
-      → arithmetic ne (single (negsuc 0) len (pos 1)) ∷ arithmetic eq (single (pos 1) code (pos 1)) ∷ [] ≡ orNone (childAt (cValidChildren (numbered s) x) k)
+  pub c-valid-one : (k : ℕ) → k ≡ 1 → codeless len code ≡ orNone (childAt (cValidChildren (numbered s) x) k)
   c-valid-one k e = child-one _ _ k e ∙ sym (ap (λ (cs : List (List Fact)). orNone (childAt cs k)) c-valid-children)
 
-  pub c-valid-two : (k : ℕ) → k ≡ 2
-      → arithmetic eq (single (negsuc 0) len (pos 1)) ∷ arithmetic ge (single (pos 0) code (pos 1)) ∷ arithmetic ge (single (pos (s .n - 1)) code (negsuc 0)) ∷ []
-      ≡ orNone (childAt (cValidChildren (numbered s) x) k)
+  pub c-valid-two : (k : ℕ) → k ≡ 2 → coded len code 0 (s .n - 1) ≡ orNone (childAt (cValidChildren (numbered s) x) k)
   c-valid-two k e = child-two _ _ _ k e ∙ sym (ap (λ (cs : List (List Fact)). orNone (childAt cs k)) c-valid-children)
 
 -- its first child adds two facts, its second three

@@ -1,7 +1,7 @@
 -- "9 when a new number passes the limit": no rule but Branch and Apart can, and these have two children.
 use Prim.Native.Nat.{ℕ, zero, suc, _+_, _-_, _/_, _^_, _≤_, _<_}
 use native.Mathlib.Omega.{arith}
-use native.Mathlib.Decide.{ℕ-discrete, decLt}
+use native.Mathlib.Decide.{decLt}
 use mathlib.Core.Path.{_≡_, refl, sym, _∙_, ap, ap₂, subst}
 use mathlib.Core.Bool.{Bool, true, false, _&&_, and-true}
 use mathlib.Core.Option.{Option, some}
@@ -18,7 +18,7 @@ use Rattle.calculus.specs.Facts.{Fact, isLiteral, arithmetic, ge}
 use Rattle.calculus.specs.Children.{lValidChildren, cValidChildren, cInjChildren, pairChildrenWith, pairChildren}
 use Rattle.calculus.specs.Rules.{leastPower, lastChild}
 use Rattle.format.specs.Fields.{u16, u16s, within, allWithin}
-use Rattle.format.specs.StepForms.{rule}
+use Rattle.format.specs.StepForms.{lValid, cValid, cInj, card, rule}
 use Rattle.format.specs.Checking.{fits, orNone, childIn, factWithin, factsWithin, childrenWithin}
 use Rattle.rows.specs.Rows.{branchOf}
 use Rattle.rows.specs.Work.{Fine}
@@ -27,10 +27,14 @@ use Rattle.rows.proofs.Forms.{above-form, below-form, above-column, minus-numbe
 use Rattle.question.specs.declared.Progress.{Progress}
 use Rattle.question.specs.Columns.{columnAt}
 use Rattle.question.specs.Posed.{numbered}
-use Rattle.steps.specs.Conclusions.{conclusionsOf}
-use Rattle.steps.specs.declared.Conclusions.the-variants.{Several}
+use types.Run.{OneOf}
+use denote.Enum.Declared.{tagOf}
+use Rattle.steps.specs.declared.Rule.{Rule}
+use Rattle.steps.specs.Rules.{ruleNamed}
 use Rattle.steps.specs.Ready.{Ready}
-use Rattle.steps.proofs.Bodies.{given, variable, card-left, branch-left}
+use Rattle.steps.proofs.Rule.{the-type}
+use Rattle.steps.proofs.Rules.{in-arm}
+use Rattle.steps.proofs.Bodies.{given, l-valid-variable, c-valid-variable}
 use Rattle.splits.proofs.Variables.{below-first}
 use Rattle.splits.proofs.Forms.{c-valid-children, last-is, last-none, within-single, within-difference}
 use Rattle.splits.proofs.Operands.{c-inj-operands, card-operands, branch-child, apart-child, l-valid-child, c-valid-child, c-inj-differ, c-inj-child, card-child}
@@ -131,49 +135,57 @@ last-within s x m h g = go (decLt 1 (s .n))
         ∙ ap (λ t. (t && true) && true) (within-single (negℤ (pos (leastPower m (s .n) m 0))) (s .q + x) (pos 1) (omega arith) (omega arith))
     go (no n) = ap childrenWithin (last-none s x m (omega arith))
 
--- ---- by the rule's number
+-- ---- by the rule
 
-module _ {b : List ℕ} {s : Progress} {at m : ℕ} {w : List ℤ} {count : ℕ} (h : Ready b s at m w count) (several : conclusionsOf (rule b at) ≡ Several) (f : fits (given h) ≡ true) where
+module _ {b : List ℕ} {s : Progress} {body m : ℕ} {w : List ℤ} {count : ℕ} (h : Ready b s body m w count) (f : fits (given h) ≡ true) where
   of : (cs : List (List Fact)) → given h ≡ some cs → childrenWithin cs ≡ true
       → childrenWithin (orNone (given h)) ≡ true
   of cs e t = ap (λ (o : Option (List (List Fact))). childrenWithin (orNone o)) e ∙ t
 
-  pub others-within : 3 < u16 b at → childrenWithin (orNone (given h)) ≡ true
-  others-within g = go (ℕ-discrete (u16 b at) 8) (ℕ-discrete (u16 b at) 10) (ℕ-discrete (u16 b at) 11)
-    where
-      go : Dec (u16 b at ≡ 8) → Dec (u16 b at ≡ 10) → Dec (u16 b at ≡ 11) → childrenWithin (orNone (given h)) ≡ true
-      go (yes e) d d' =
-          let few = h .posed .stands .few-strings in
-          let fewer = h .posed .stands .few-integers in
-          let l : u16 b (at + 4) < s .p = variable h 8 (omega arith) (omega arith) (sym e) .1 in
-          of _ (l-valid-child h (sym e)) (l-valid-within s (u16 b (at + 4)) (omega arith))
-      go (no n8) (yes e) d' =
-          let few = h .posed .stands .few-strings in
-          let fewer = h .posed .stands .few-integers in
-          let l : u16 b (at + 4) < s .p = variable h 10 (omega arith) (omega arith) (sym e) .1 in
-          of _ (c-valid-child h (sym e)) (c-valid-within s (u16 b (at + 4)) (omega arith) (omega arith) (h .posed .stands .few-characters))
-      go (no n8) (no n10) (yes e) =
-          let few = h .posed .stands .few-strings in
-          let fewer = h .posed .stands .few-integers in
-          let l : u16 b (at + 4) < s .p = c-inj-operands h (sym e) .1 in
-          let r : u16 b (at + 6) < s .p = c-inj-operands h (sym e) .2 in
-          of _ (c-inj-child h f (sym e)) (c-inj-within s (u16 b (at + 4)) (u16 b (at + 6)) (omega arith) (omega arith) (c-inj-differ h f (sym e)))
-      go (no n8) (no n10) (no n11) =
-          let e = card-left h (u16 b at) refl several (λ q. omega arith) (λ q. omega arith) n8 n10 n11 in
-          let o = card-operands h e in
-          let two : 2 ≤ (m - 4) / 2 = o .0 in
-          let most : (m - 4) / 2 ≤ 16 = o .1 in
-          let few = h .posed .stands .few-strings in
-          let fewer = h .posed .stands .few-integers in
-          let l : u16 b (at + 4) < s .p = below-first b (s .p) (at + 4) ((m - 4) / 2) (omega arith) (o .3) in
-          of _ (card-child h f e) (pairs-within (u16s b (at + 4) ((m - 4) / 2)) (lastChild (numbered s) (u16 b (at + 4)) ((m - 4) / 2)) ∙ last-within s (u16 b (at + 4)) ((m - 4) / 2) (omega arith) most)
+  l-valid-small : lValid ≡ rule b body → childrenWithin (orNone (given h)) ≡ true
+  l-valid-small e =
+      let few = h .posed .stands .few-strings in
+      let fewer = h .posed .stands .few-integers in
+      let l : u16 b (body + 4) < s .p = l-valid-variable h e .1 in
+      of _ (l-valid-child h e) (l-valid-within s (u16 b (body + 4)) (omega arith))
 
-  pub two-children : u16 b at ≤ 3 → (c : List Fact) × (d : List Fact) × (given h ≡ some (c ∷ d ∷ []))
-  two-children g = go (ℕ-discrete (u16 b at) 3)
-    where
-      go : Dec (u16 b at ≡ 3) → (c : List Fact) × (d : List Fact) × (given h ≡ some (c ∷ d ∷ []))
-      go (yes e) = (_, _, apart-child h f (sym e))
-      go (no n) = (_, _, branch-child h (branch-left h (u16 b at) refl several g n))
+  c-valid-small : cValid ≡ rule b body → childrenWithin (orNone (given h)) ≡ true
+  c-valid-small e =
+      let few = h .posed .stands .few-strings in
+      let fewer = h .posed .stands .few-integers in
+      let l : u16 b (body + 4) < s .p = c-valid-variable h e .1 in
+      of _ (c-valid-child h e) (c-valid-within s (u16 b (body + 4)) (omega arith) (omega arith) (h .posed .stands .few-characters))
+
+  c-inj-small : cInj ≡ rule b body → childrenWithin (orNone (given h)) ≡ true
+  c-inj-small e =
+      let few = h .posed .stands .few-strings in
+      let fewer = h .posed .stands .few-integers in
+      let l : u16 b (body + 4) < s .p = c-inj-operands h e .1 in
+      let r : u16 b (body + 6) < s .p = c-inj-operands h e .2 in
+      of _ (c-inj-child h f e) (c-inj-within s (u16 b (body + 4)) (u16 b (body + 6)) (omega arith) (omega arith) (c-inj-differ h f e))
+
+  card-small : card ≡ rule b body → childrenWithin (orNone (given h)) ≡ true
+  card-small e =
+      let o = card-operands h e in
+      let two : 2 ≤ (m - 4) / 2 = o .0 in
+      let most : (m - 4) / 2 ≤ 16 = o .1 in
+      let few = h .posed .stands .few-strings in
+      let fewer = h .posed .stands .few-integers in
+      let l : u16 b (body + 4) < s .p = below-first b (s .p) (body + 4) ((m - 4) / 2) (omega arith) (o .3) in
+      of _ (card-child h f e) (pairs-within (u16s b (body + 4) ((m - 4) / 2)) (lastChild (numbered s) (u16 b (body + 4)) ((m - 4) / 2)) ∙ last-within s (u16 b (body + 4)) ((m - 4) / 2) (omega arith) most)
+
+  module _ (r : Rule) (n : ruleNamed r ≡ rule b body) where
+    -- L-Valid, C-Valid, C-Inj and Card
+    pub others-within : OneOf (7 ∷ 9 ∷ 10 ∷ 11 ∷ []) (tagOf the-type r) → childrenWithin (orNone (given h)) ≡ true
+    others-within o =
+        in-arm (λ (r : Rule). ruleNamed r ≡ rule b body → childrenWithin (orNone (given h)) ≡ true) (7 ∷ 9 ∷ 10 ∷ 11 ∷ []) r
+        (l-valid-small, (c-valid-small, (c-inj-small, (card-small, tt)))) o n
+
+    -- Branch and Apart
+    pub two-children : OneOf (1 ∷ 2 ∷ []) (tagOf the-type r) → (c : List Fact) × (d : List Fact) × (given h ≡ some (c ∷ d ∷ []))
+    two-children o =
+        in-arm (λ (r : Rule). ruleNamed r ≡ rule b body → (c : List Fact) × (d : List Fact) × (given h ≡ some (c ∷ d ∷ []))) (1 ∷ 2 ∷ []) r
+        ((λ e. (_, _, branch-child h e)), ((λ e. (_, _, apart-child h f e)), tt)) o n
 
 -- ---- a child within the limits
 

@@ -17,7 +17,7 @@ use Rattle.calculus.specs.Rules.{guard, distinct, neighbours, sameLength, lastC
 use Rattle.format.specs.Fields.{u16, u16s, i32, pairsAt, within}
 use Rattle.format.specs.Question.{rising, formRange, formOf}
 use Rattle.format.specs.Checking.{fits}
-use Rattle.format.specs.StepForms.{ruleOf, formFor, areVariables, operandsInRange, stepOf}
+use Rattle.format.specs.StepForms.{Rule, branch, apart, lValid, cValid, cInj, card, formFor, rule, areVariables, operandsInRange, stepOf}
 use Rattle.format.proofs.Decoded.{below→}
 use Rattle.constraints.proofs.Ranges.{form-rises}
 use Rattle.question.specs.declared.Progress.{Progress}
@@ -52,84 +52,84 @@ card-given s br b at m h e =
     let q = card-children (numbered s) br b at m h in
     q ∙ guard-given (distinct (u16s b at m) && neighbours (numbered s) br (u16 b at) (u16s b (at + 2) (m - 1))) (pairChildren (u16s b at m) (lastChild (numbered s) (u16 b at) m)) (sym (ap fits q) ∙ e)
 
-module _ {b : List ℕ} {s : Progress} {at m : ℕ} {w : List ℤ} {count : ℕ} (h : Ready b s at m w count) where
+module _ {b : List ℕ} {s : Progress} {body m : ℕ} {w : List ℤ} {count : ℕ} (h : Ready b s body m w count) where
   -- Branch: the form
-  pub branch-operands : 2 ≡ u16 b at → (8 ≤ m) × (at + 4 + 4 + 6 * ((m - 8) / 6) ≤ length b) × (formRange b columnLimit (at + 4) ((m - 8) / 6) ≡ true)
+  pub branch-operands : branch ≡ rule b body → (8 ≤ m) × (body + 4 + 4 + 6 * ((m - 8) / 6) ≤ length b) × (formRange b columnLimit (body + 4) ((m - 8) / 6) ≡ true)
   unfolding operandsInRange
   branch-operands e =
-      let l : 8 ≤ m = long h 2 e in
+      let l : 8 ≤ m = long h branch e in
       let whole = h .formed .within in
       let few = h .posed .stands .few-strings in
       let fewer = h .posed .stands .few-integers in
-      let form = ranged h 2 e in
-      (l, omega arith, ap₂ _&&_ (and-both (within numberLimit (i32 b (at + 4))) (rising (s .q + (s .p + s .p)) 0 (pairsAt b (at + 4 + 4) ((m - 8) / 6))) form .0) (form-rises b (s .q + (s .p + s .p)) (at + 4) ((m - 8) / 6) (omega arith) form))
+      let form = ranged h branch e in
+      (l, omega arith, ap₂ _&&_ (and-both (within numberLimit (i32 b (body + 4))) (rising (s .q + (s .p + s .p)) 0 (pairsAt b (body + 4 + 4) ((m - 8) / 6))) form .0) (form-rises b (s .q + (s .p + s .p)) (body + 4) ((m - 8) / 6) (omega arith) form))
 
   -- Apart: the fact
-  pub apart-operands : 3 ≡ u16 b at → at + 4 + 2 ≤ length b
+  pub apart-operands : apart ≡ rule b body → body + 4 + 2 ≤ length b
   apart-operands e =
-      let l : 6 ≤ m = long h 3 e in
+      let l : 6 ≤ m = long h apart e in
       let whole = h .formed .within in omega arith
 
   -- C-Inj: the variables
-  pub c-inj-operands : 11 ≡ u16 b at → (at + 6 + 2 ≤ length b) × (u16 b (at + 4) < s .p) × (u16 b (at + 6) < s .p)
+  pub c-inj-operands : cInj ≡ rule b body → (body + 6 + 2 ≤ length b) × (u16 b (body + 4) < s .p) × (u16 b (body + 6) < s .p)
   unfolding operandsInRange
   c-inj-operands e =
-      let l : 8 ≤ m = long h 11 e in
+      let l : 8 ≤ m = long h cInj e in
       let whole = h .formed .within in
-      let (x, (y, _)) = below→ (s .p) (u16 b (at + 4) ∷ u16 b (at + 6) ∷ []) (ranged h 11 e) in
+      let (x, (y, _)) = below→ (s .p) (u16 b (body + 4) ∷ u16 b (body + 6) ∷ []) (ranged h cInj e) in
       (omega arith, x, y)
 
   -- Card: the variables
-  pub card-operands : 12 ≡ u16 b at → (2 ≤ (m - 4) / 2) × ((m - 4) / 2 ≤ 16) × (at + 4 + 2 * ((m - 4) / 2) ≤ length b) × (areVariables (s .p) (u16s b (at + 4) ((m - 4) / 2)) ≡ true) × (4 ≤ m)
+  pub card-operands : card ≡ rule b body → (2 ≤ (m - 4) / 2) × ((m - 4) / 2 ≤ 16) × (body + 4 + 2 * ((m - 4) / 2) ≤ length b) × (areVariables (s .p) (u16s b (body + 4) ((m - 4) / 2)) ≡ true) × (4 ≤ m)
   unfolding operandsInRange
   card-operands e =
-      let l : 8 ≤ m = long h 12 e in
-      let most : (m - 8) / 2 ≤ 14 = at-most (formFor (ruleOf 12)) m (fitting h 12 e) in
+      let l : 8 ≤ m = long h card e in
+      let most : (m - 8) / 2 ≤ 14 = at-most (formFor card) m (fitting h card e) in
       let whole = h .formed .within in
-      (omega arith, omega arith, omega arith, ranged h 12 e, omega arith)
+      (omega arith, omega arith, omega arith, ranged h card e, omega arith)
 
   -- ---- the children of each rule, where the step fits
 
-  by : (k : ℕ) → k ≡ u16 b at → given h ≡ children (asked b s) (before h) (stepOf b (ruleOf k) at m)
-  by k e = offered-by b (asked b s) (before h) at m k e
+  by : (r : Rule) → r ≡ rule b body → given h ≡ children (asked b s) (before h) (stepOf b r body m)
+  by r e = offered-by b (asked b s) (before h) body m r e
 
-  pub branch-child : 2 ≡ u16 b at → given h ≡ some (branchChildren (formOf b (at + 4) ((m - 8) / 6)))
+  pub branch-child : branch ≡ rule b body → given h ≡ some (branchChildren (formOf b (body + 4) ((m - 8) / 6)))
   unfolding stepOf asked
-  branch-child e = by 2 e
+  branch-child e = by branch e
 
-  pub l-valid-child : 8 ≡ u16 b at → given h ≡ some (lValidChildren (numbered s) (u16 b (at + 4)))
+  pub l-valid-child : lValid ≡ rule b body → given h ≡ some (lValidChildren (numbered s) (u16 b (body + 4)))
   unfolding stepOf asked
-  l-valid-child e = by 8 e
+  l-valid-child e = by lValid e
 
-  pub c-valid-child : 10 ≡ u16 b at → given h ≡ some (cValidChildren (numbered s) (u16 b (at + 4)))
+  pub c-valid-child : cValid ≡ rule b body → given h ≡ some (cValidChildren (numbered s) (u16 b (body + 4)))
   unfolding stepOf asked
-  c-valid-child e = by 10 e
+  c-valid-child e = by cValid e
 
   module _ (f : fits (given h) ≡ true) where
-    fits-by-rule : (k : ℕ) → k ≡ u16 b at → fits (children (asked b s) (before h) (stepOf b (ruleOf k) at m)) ≡ true
-    fits-by-rule k e = sym (ap fits (by k e)) ∙ f
+    fits-by-rule : (r : Rule) → r ≡ rule b body → fits (children (asked b s) (before h) (stepOf b r body m)) ≡ true
+    fits-by-rule r e = sym (ap fits (by r e)) ∙ f
 
-    pub apart-fact : 3 ≡ u16 b at → (u16 b (at + 4) < count) × (tagOf (factOf (rowAt w (u16 b (at + 4)))) ≡ 2)
+    pub apart-fact : apart ≡ rule b body → (u16 b (body + 4) < count) × (tagOf (factOf (rowAt w (u16 b (body + 4)))) ≡ 2)
     unfolding stepOf asked
-    apart-fact e = parted-fits w count (u16 b (at + 4)) (fits-by-rule 3 e)
+    apart-fact e = parted-fits w count (u16 b (body + 4)) (fits-by-rule apart e)
 
-    pub apart-child : 3 ≡ u16 b at → given h ≡ some (apartChildren (drop 1 (rowAt w (u16 b (at + 4)))))
+    pub apart-child : apart ≡ rule b body → given h ≡ some (apartChildren (drop 1 (rowAt w (u16 b (body + 4)))))
     unfolding stepOf asked
-    apart-child e = by 3 e ∙ parted-is w count (u16 b (at + 4)) (apart-fact e .0) (apart-fact e .1)
+    apart-child e = by apart e ∙ parted-is w count (u16 b (body + 4)) (apart-fact e .0) (apart-fact e .1)
 
-    differ : 11 ≡ u16 b at → fits (guard (not (eqb (u16 b (at + 4)) (u16 b (at + 6)))) (cInjChildren (numbered s) (u16 b (at + 4)) (u16 b (at + 6)))) ≡ true
+    differ : cInj ≡ rule b body → fits (guard (not (eqb (u16 b (body + 4)) (u16 b (body + 6)))) (cInjChildren (numbered s) (u16 b (body + 4)) (u16 b (body + 6)))) ≡ true
     unfolding stepOf asked
-    differ e = fits-by-rule 11 e
+    differ e = fits-by-rule cInj e
 
-    pub c-inj-differ : 11 ≡ u16 b at → u16 b (at + 4) ≡ u16 b (at + 6) → ⊥
-    c-inj-differ e = eqb-false (u16 b (at + 4)) (u16 b (at + 6)) (not-true _ (sym (guard-fits (not (eqb (u16 b (at + 4)) (u16 b (at + 6)))) (cInjChildren (numbered s) (u16 b (at + 4)) (u16 b (at + 6)))) ∙ differ e))
+    pub c-inj-differ : cInj ≡ rule b body → u16 b (body + 4) ≡ u16 b (body + 6) → ⊥
+    c-inj-differ e = eqb-false (u16 b (body + 4)) (u16 b (body + 6)) (not-true _ (sym (guard-fits (not (eqb (u16 b (body + 4)) (u16 b (body + 6)))) (cInjChildren (numbered s) (u16 b (body + 4)) (u16 b (body + 6)))) ∙ differ e))
 
-    pub c-inj-child : 11 ≡ u16 b at → given h ≡ some (cInjChildren (numbered s) (u16 b (at + 4)) (u16 b (at + 6)))
+    pub c-inj-child : cInj ≡ rule b body → given h ≡ some (cInjChildren (numbered s) (u16 b (body + 4)) (u16 b (body + 6)))
     unfolding stepOf asked
-    c-inj-child e = by 11 e ∙ guard-given (not (eqb (u16 b (at + 4)) (u16 b (at + 6)))) (cInjChildren (numbered s) (u16 b (at + 4)) (u16 b (at + 6))) (differ e)
+    c-inj-child e = by cInj e ∙ guard-given (not (eqb (u16 b (body + 4)) (u16 b (body + 6)))) (cInjChildren (numbered s) (u16 b (body + 4)) (u16 b (body + 6))) (differ e)
 
-    pub card-child : 12 ≡ u16 b at → given h ≡ some (pairChildren (u16s b (at + 4) ((m - 4) / 2)) (lastChild (numbered s) (u16 b (at + 4)) ((m - 4) / 2)))
+    pub card-child : card ≡ rule b body → given h ≡ some (pairChildren (u16s b (body + 4) ((m - 4) / 2)) (lastChild (numbered s) (u16 b (body + 4)) ((m - 4) / 2)))
     unfolding stepOf asked
     card-child e =
-        let q = by 12 e ∙ sym (card-same b s (before h) (u16s b (at + 4) ((m - 4) / 2))) in
-        q ∙ card-given s (before h) b (at + 4) ((m - 4) / 2) (card-operands e .0) (sym (ap fits q) ∙ f)
+        let q = by card e ∙ sym (card-same b s (before h) (u16s b (body + 4) ((m - 4) / 2))) in
+        q ∙ card-given s (before h) b (body + 4) ((m - 4) / 2) (card-operands e .0) (sym (ap fits q) ∙ f)

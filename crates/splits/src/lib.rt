@@ -1,30 +1,38 @@
-// The rules with several conclusions, 2 Branch, 3 Apart, 8 L-Valid, 10 C-Valid, 11 C-Inj and 12 Card: whether a step fits, and its children.
+// The rules with several conclusions, Branch, Apart, L-Valid, C-Valid, C-Inj and Card: whether a step fits, and its children.
 ghost use mathlib.Core.Path.{_≡_};
 ghost use mathlib.Core.Logic.{_≢_};
 ghost use mathlib.Core.Bool.{true};
 ghost use mathlib.Core.List.{[], _∷_, _++_};
 ghost use Prim.Native.Nat.{_+_, _*_, _≤_, _<_};
-ghost use lib.ListN.{length, getElem?, drop};
-ghost use lib.IntN.{pos, negsuc};
+ghost use lib.ListN.{length, getElem?};
 ghost use Rattle.calculus.specs.Limits.{alphabetLimit, variableLimit, columnLimit, factLimit, workNumbers};
-ghost use Rattle.calculus.specs.Facts.{arithmetic, ge, eq, ne};
-ghost use Rattle.calculus.specs.Children.{childAt, branchChildren, apartChildren, lValidChildren, cValidChildren, cInjChildren, pairChildren};
-ghost use Rattle.calculus.specs.Rules.{then, apartOf, among, distinct, neighbours, lastChild, cardChildren};
-ghost use Rattle.format.specs.Fields.{u16, u16s};
+ghost use Rattle.calculus.specs.Children.{childAt, branchChildren, lValidChildren, cValidChildren, cInjChildren};
+ghost use Rattle.calculus.specs.Rules.{then, apartOf, among, distinct, lastChild, cardChildren};
+ghost use Rattle.format.specs.Fields.{u16s};
 ghost use Rattle.format.specs.Question.{formRange, formOf};
-ghost use Rattle.format.specs.StepForms.{rule, areVariables};
-ghost use Rattle.format.specs.Checking.{fits as fitting, orNone, factWithin, factsWithin, childrenWithin, takenTried, childIn};
+ghost use Rattle.format.specs.StepForms.{areVariables};
+ghost use Rattle.format.specs.Checking.{fits as fitting, orNone, factWithin, factsWithin, childrenWithin};
 ghost use Rattle.rows.specs.Rows.{rowLength, factOf, rowAt, branchOf};
-ghost use Rattle.rows.specs.Work.{Fine, tagOf, single};
-ghost use Rattle.question.specs.Posed.{asked, numbered};
-ghost use Rattle.steps.specs.Conclusions.{conclusionsOf};
+ghost use Rattle.rows.specs.Work.{Fine, tagOf};
+ghost use Rattle.question.specs.Posed.{numbered};
+ghost use Rattle.steps.specs.Rules.{ruleNamed, oneEach};
 ghost use Rattle.steps.specs.declared.Conclusions.the-variants.{Several};
-ghost use Rattle.steps.specs.Offered.{offered, offeredChild};
-ghost use Rattle.steps.specs.Ready.{Ready};
+ghost use Rattle.steps.specs.Offered.{offeredOn, childOf, withChild, childFault};
+ghost use Rattle.steps.specs.Ready.{ReadyBy};
+ghost use Rattle.splits.specs.Children.{apartAt, lengthsAgree, cardAt, extended, codeless, coded};
+use encoding::CODE;
+use encoding::EQ;
+use encoding::GE;
+use encoding::IS_LITERAL;
+use encoding::LEN;
+use encoding::NE;
+use encoding::SAME;
 use limits::ROW_LENGTH;
 use question::Progress;
 use question::column_of;
 use records::u16_at;
+use steps::OPERANDS;
+use steps::Rule;
 
 // ---- whether a step fits
 
@@ -36,7 +44,7 @@ fn parts(work: &[i64], count: usize, fact: usize) -> bool
     if count <= fact {
         return false;
     }
-    rows::tag_of(rows::row_at(work, fact)) == 2
+    rows::tag_of(rows::row_at(work, fact)) == NE
 }
 
 // Is x among the count variables from a position?
@@ -86,7 +94,7 @@ fn lengths_agree(
     requires { ⌜ (at + 2 + 2 * others ≤ length (now b)) × (s .p ≤ variableLimit) × (s .q ≤ variableLimit) ⌝ }
     requires { ⌜ (distinct (u16s (now b) at (others + 1)) ≡ true) × (areVariables (s .p) (u16s (now b) at (others + 1)) ≡ true) ⌝ }
     requires { ⌜ (count ≤ factLimit) × (workNumbers ≤ length (now work)) ⌝ }
-    ensures { λ r. ⌜ r ≡ neighbours (numbered s) (branchOf (now (work .entry)) count) (u16 (now (b .entry)) at) (u16s (now (b .entry)) (at + 2) others) ⌝ }
+    ensures { λ r. ⌜ r ≡ lengthsAgree (now (b .entry)) s at others (now (work .entry)) count ⌝ }
 {
     let mut i = at;
     let mut left = others;
@@ -96,8 +104,8 @@ fn lengths_agree(
         if !rows::states_equal(
             work,
             count,
-            column_of(s.p, s.q, 0, x),
-            column_of(s.p, s.q, 0, y),
+            column_of(s.p, s.q, LEN, x),
+            column_of(s.p, s.q, LEN, y),
         ) {
             return false;
         }
@@ -121,19 +129,34 @@ fn card_fits(b: &[u8], s: Progress, at: usize, m: usize, work: &[i64], count: us
 }
 
 // Whether a step fits.
-pub fn fits(ticket: &[u8], s: Progress, at: usize, size: usize, work: &[i64], count: usize) -> bool
-    requires { ⌜ Ready (now ticket) s at size (now work) count ⌝ }
-    requires { ⌜ conclusionsOf (rule (now ticket) at) ≡ Several ⌝ }
-    ensures { λ r. ⌜ r ≡ fitting (offered (now (ticket .entry)) (asked (now (ticket .entry)) s) (branchOf (now (work .entry)) count) at size) ⌝ }
+pub fn fits(
+    ticket: &[u8],
+    s: Progress,
+    rule: Rule,
+    body: usize,
+    size: usize,
+    work: &[i64],
+    count: usize,
+) -> bool
+    requires { ⌜ ReadyBy rule Several (now ticket) s body size (now work) count ⌝ }
+    ensures { λ r. ⌜ r ≡ fitting (offeredOn (now (ticket .entry)) s body size (now (work .entry)) count) ⌝ }
 {
-    let number = u16_at(ticket, at);
-    match number {
-        2 => true,
-        3 => parts(work, count, u16_at(ticket, at + 4)),
-        8 => true,
-        10 => true,
-        11 => u16_at(ticket, at + 4) != u16_at(ticket, at + 6),
-        _ => card_fits(ticket, s, at + 4, (size - 4) / 2, work, count),
+    match rule {
+        Rule::Branch => true,
+        Rule::Apart => parts(work, count, u16_at(ticket, body + OPERANDS)),
+        Rule::LValid => true,
+        Rule::CValid => true,
+        Rule::CInj => u16_at(ticket, body + OPERANDS) != u16_at(ticket, body + 6),
+        Rule::Card => card_fits(
+            ticket,
+            s,
+            body + OPERANDS,
+            (size - OPERANDS) / 2,
+            work,
+            count,
+        ),
+        Rule::Sum | Rule::SProp | Rule::LIntro | Rule::CCollapse | Rule::Join => false,
+        Rule::AConf | Rule::SConf | Rule::Unknown => false,
     }
 }
 
@@ -145,7 +168,7 @@ fn fill_branch(row: &mut [i64], b: &[u8], at: usize, pairs: usize, k: usize)
     requires { ⌜ formRange (now b) columnLimit at pairs ≡ true ⌝ }
     ensures { λ _. ⌜ factOf (now (row .exit)) ∷ [] ≡ orNone (childAt (branchChildren (formOf (now (b .entry)) at pairs)) k) ⌝ }
 {
-    constraints::fill_form(row, b, 0, at, pairs);
+    constraints::fill_form(row, b, GE, at, pairs);
     if k == 1 {
         return;
     }
@@ -155,7 +178,7 @@ fn fill_branch(row: &mut [i64], b: &[u8], at: usize, pairs: usize, k: usize)
 fn put_branch(work: &mut [i64], count: usize, b: &[u8], at: usize, pairs: usize, k: usize)
     requires { ⌜ (count < factLimit) × (workNumbers ≤ length (now work)) × (at + 4 + 6 * pairs ≤ length (now b)) × (1 ≤ k) × (k ≤ 2) ⌝ }
     requires { ⌜ formRange (now b) columnLimit at pairs ≡ true ⌝ }
-    ensures { λ _. ⌜ branchOf (now (work .exit)) (count + 1) ≡ branchOf (now (work .entry)) count ++ orNone (childAt (branchChildren (formOf (now (b .entry)) at pairs)) k) ⌝ }
+    ensures { λ _. ⌜ branchOf (now (work .exit)) (count + 1) ≡ extended (now (work .entry)) count (branchChildren (formOf (now (b .entry)) at pairs)) k ⌝ }
 {
     let from = ROW_LENGTH * count;
     let to = from + ROW_LENGTH;
@@ -166,7 +189,7 @@ fn put_branch(work: &mut [i64], count: usize, b: &[u8], at: usize, pairs: usize,
 fn fill_apart(out: &mut [i64], work: &[i64], fact: usize, k: usize)
     requires { ⌜ (length (now out) ≡ rowLength) × (fact < factLimit) × (workNumbers ≤ length (now work)) × (1 ≤ k) × (k ≤ 2) ⌝ }
     requires { ⌜ (tagOf (factOf (rowAt (now work) fact)) ≡ 2) × (factWithin (factOf (rowAt (now work) fact)) ≡ true) ⌝ }
-    ensures { λ _. ⌜ factOf (now (out .exit)) ∷ [] ≡ orNone (childAt (apartChildren (drop 1 (rowAt (now (work .entry)) fact))) k) ⌝ }
+    ensures { λ _. ⌜ factOf (now (out .exit)) ∷ [] ≡ orNone (childAt (apartAt (now (work .entry)) fact) k) ⌝ }
 {
     let row = rows::row_at(work, fact);
     if k == 1 {
@@ -180,7 +203,7 @@ fn fill_apart(out: &mut [i64], work: &[i64], fact: usize, k: usize)
 fn put_apart(work: &mut [i64], count: usize, fact: usize, k: usize)
     requires { ⌜ (count < factLimit) × (fact < factLimit) × (workNumbers ≤ length (now work)) × (1 ≤ k) × (k ≤ 2) ⌝ }
     requires { ⌜ (tagOf (factOf (rowAt (now work) fact)) ≡ 2) × (factWithin (factOf (rowAt (now work) fact)) ≡ true) ⌝ }
-    ensures { λ _. ⌜ branchOf (now (work .exit)) (count + 1) ≡ branchOf (now (work .entry)) count ++ orNone (childAt (apartChildren (drop 1 (rowAt (now (work .entry)) fact))) k) ⌝ }
+    ensures { λ _. ⌜ branchOf (now (work .exit)) (count + 1) ≡ extended (now (work .entry)) count (apartAt (now (work .entry)) fact) k ⌝ }
 {
     let mut row = [0i64; ROW_LENGTH];
     fill_apart(&mut row, work, fact, k);
@@ -191,41 +214,41 @@ fn put_apart(work: &mut [i64], count: usize, fact: usize, k: usize)
 fn put_l_valid(work: &mut [i64], count: usize, s: Progress, x: usize, k: usize)
     requires { ⌜ (count < factLimit) × (workNumbers ≤ length (now work)) ⌝ }
     requires { ⌜ (x < variableLimit) × (s .p ≤ variableLimit) × (s .q ≤ variableLimit) × (1 ≤ k) × (k ≤ 2) ⌝ }
-    ensures { λ _. ⌜ branchOf (now (work .exit)) (count + 1) ≡ branchOf (now (work .entry)) count ++ orNone (childAt (lValidChildren (numbered s) x) k) ⌝ }
+    ensures { λ _. ⌜ branchOf (now (work .exit)) (count + 1) ≡ extended (now (work .entry)) count (lValidChildren (numbered s) x) k ⌝ }
 {
     if k == 1 {
-        rows::put_string(work, count, 2, x, 0);
+        rows::put_string(work, count, IS_LITERAL, x, 0);
         return;
     }
-    rows::put_single(work, count, 0, -1, column_of(s.p, s.q, 0, x), 1);
+    rows::put_single(work, count, GE, -1, column_of(s.p, s.q, LEN, x), 1);
 }
 
 // C-Inj: "Children code(x) = −1; code(x) − code(y) ≠ 0; x ≈ y".
 fn put_c_inj(work: &mut [i64], count: usize, s: Progress, x: usize, y: usize, k: usize)
     requires { ⌜ (count < factLimit) × (workNumbers ≤ length (now work)) ⌝ }
     requires { ⌜ (x < variableLimit) × (y < variableLimit) × (x ≢ y) × (s .p ≤ variableLimit) × (s .q ≤ variableLimit) × (1 ≤ k) × (k ≤ 3) ⌝ }
-    ensures { λ _. ⌜ branchOf (now (work .exit)) (count + 1) ≡ branchOf (now (work .entry)) count ++ orNone (childAt (cInjChildren (numbered s) x y) k) ⌝ }
+    ensures { λ _. ⌜ branchOf (now (work .exit)) (count + 1) ≡ extended (now (work .entry)) count (cInjChildren (numbered s) x y) k ⌝ }
 {
-    let first = column_of(s.p, s.q, 1, x);
+    let first = column_of(s.p, s.q, CODE, x);
     if k == 1 {
-        rows::put_single(work, count, 1, 1, first, 1);
+        rows::put_single(work, count, EQ, 1, first, 1);
         return;
     }
     if k == 2 {
-        rows::put_difference(work, count, 2, first, column_of(s.p, s.q, 1, y));
+        rows::put_difference(work, count, NE, first, column_of(s.p, s.q, CODE, y));
         return;
     }
-    rows::put_string(work, count, 0, x, y);
+    rows::put_string(work, count, SAME, x, y);
 }
 
 // Card: "last, len(x_1) ≥ L", of m variables.
 fn put_bound(work: &mut [i64], count: usize, s: Progress, x: usize, m: usize)
     requires { ⌜ (count < factLimit) × (workNumbers ≤ length (now work)) ⌝ }
     requires { ⌜ (x < variableLimit) × (m ≤ variableLimit) × (2 ≤ s .n) × (s .n ≤ alphabetLimit) × (s .p ≤ variableLimit) × (s .q ≤ variableLimit) ⌝ }
-    ensures { λ _. ⌜ branchOf (now (work .exit)) (count + 1) ≡ branchOf (now (work .entry)) count ++ orNone (childAt (lastChild (numbered s) x m) 1) ⌝ }
+    ensures { λ _. ⌜ branchOf (now (work .exit)) (count + 1) ≡ extended (now (work .entry)) count (lastChild (numbered s) x m) 1 ⌝ }
 {
     let bound = classes::least_power(s.n, m) as i64;
-    rows::put_single(work, count, 0, 0 - bound, column_of(s.p, s.q, 0, x), 1);
+    rows::put_single(work, count, GE, 0 - bound, column_of(s.p, s.q, LEN, x), 1);
 }
 
 // Card: "Children, for each pair i < j in lexicographic order, x_i ≈ x_j; last, len(x_1) ≥ L", of the m variables from a position.
@@ -233,8 +256,8 @@ fn put_card(work: &mut [i64], count: usize, b: &[u8], s: Progress, at: usize, m:
     requires { ⌜ (count < factLimit) × (workNumbers ≤ length (now work)) ⌝ }
     requires { ⌜ (2 ≤ m) × (m ≤ variableLimit) × (at + 2 * m ≤ length (now b)) × (areVariables (s .p) (u16s (now b) at m) ≡ true) ⌝ }
     requires { ⌜ (s .p ≤ variableLimit) × (s .q ≤ variableLimit) × (1 ≤ s .n) × (s .n ≤ alphabetLimit) ⌝ }
-    requires { ⌜ (1 ≤ k) × (k ≤ length (pairChildren (u16s (now b) at m) (lastChild (numbered s) (u16 (now b) at) m))) ⌝ }
-    ensures { λ _. ⌜ branchOf (now (work .exit)) (count + 1) ≡ branchOf (now (work .entry)) count ++ orNone (childAt (pairChildren (u16s (now (b .entry)) at m) (lastChild (numbered s) (u16 (now (b .entry)) at) m)) k) ⌝ }
+    requires { ⌜ (1 ≤ k) × (k ≤ length (cardAt (now b) s at m)) ⌝ }
+    ensures { λ _. ⌜ branchOf (now (work .exit)) (count + 1) ≡ extended (now (work .entry)) count (cardAt (now (b .entry)) s at m) k ⌝ }
 {
     let mut i = at;
     let mut others = m - 1;
@@ -243,7 +266,7 @@ fn put_card(work: &mut [i64], count: usize, b: &[u8], s: Progress, at: usize, m:
         if left < others {
             let x = u16_at(b, i);
             let y = u16_at(b, i + 2 + 2 * left);
-            rows::put_string(work, count, 0, x, y);
+            rows::put_string(work, count, SAME, x, y);
             return;
         }
         left -= others;
@@ -257,32 +280,35 @@ fn put_card(work: &mut [i64], count: usize, b: &[u8], s: Progress, at: usize, m:
 fn put_fact(
     ticket: &[u8],
     s: Progress,
-    at: usize,
+    rule: Rule,
+    body: usize,
     size: usize,
     work: &mut [i64],
     count: usize,
     k: usize,
 )
-    requires { ⌜ Ready (now ticket) s at size (now work) count ⌝ }
-    requires { ⌜ conclusionsOf (rule (now ticket) at) ≡ Several ⌝ }
-    requires { ⌜ (u16 (now ticket) at ≢ 10) × (count < factLimit) ⌝ }
-    requires { ⌜ fitting (childIn (offered (now ticket) (asked (now ticket) s) (branchOf (now work) count) at size) k) ≡ true ⌝ }
-    ensures { λ _. ⌜ branchOf (now (work .exit)) (count + 1) ≡ branchOf (now (work .entry)) count ++ offeredChild (now (ticket .entry)) (asked (now (ticket .entry)) s) (branchOf (now (work .entry)) count) at size k ⌝ }
+    requires { ⌜ ReadyBy rule Several (now ticket) s body size (now work) count ⌝ }
+    requires { ⌜ (oneEach (ruleNamed rule) ≡ true) × (count < factLimit) ⌝ }
+    requires { ⌜ fitting (childOf (now ticket) s body size (now work) count k) ≡ true ⌝ }
+    ensures { λ _. ⌜ branchOf (now (work .exit)) (count + 1) ≡ withChild (now (ticket .entry)) s body size (now (work .entry)) count k ⌝ }
 {
-    let number = u16_at(ticket, at);
-    match number {
-        2 => put_branch(work, count, ticket, at + 4, (size - 8) / 6, k),
-        3 => put_apart(work, count, u16_at(ticket, at + 4), k),
-        8 => put_l_valid(work, count, s, u16_at(ticket, at + 4), k),
-        11 => put_c_inj(
+    let at = body + OPERANDS;
+    match rule {
+        Rule::Branch => put_branch(work, count, ticket, at, (size - 8) / 6, k),
+        Rule::Apart => put_apart(work, count, u16_at(ticket, at), k),
+        Rule::LValid => put_l_valid(work, count, s, u16_at(ticket, at), k),
+        Rule::CInj => put_c_inj(
             work,
             count,
             s,
-            u16_at(ticket, at + 4),
-            u16_at(ticket, at + 6),
+            u16_at(ticket, at),
+            u16_at(ticket, body + 6),
             k,
         ),
-        _ => put_card(work, count, ticket, s, at + 4, (size - 4) / 2, k),
+        Rule::Card => put_card(work, count, ticket, s, at, (size - OPERANDS) / 2, k),
+        Rule::CValid => {}
+        Rule::Sum | Rule::SProp | Rule::LIntro | Rule::CCollapse | Rule::Join => {}
+        Rule::AConf | Rule::SConf | Rule::Unknown => {}
     }
 }
 
@@ -291,35 +317,36 @@ fn put_fact(
 // C-Valid, child 1: "len(x) ≠ 1 and code(x) = −1".
 fn put_codeless(work: &mut [i64], count: usize, len: usize, code: usize)
     requires { ⌜ (count + 2 ≤ factLimit) × (workNumbers ≤ length (now work)) × (len < columnLimit) × (code < columnLimit) ⌝ }
-    ensures { λ _. ⌜ branchOf (now (work .exit)) (count + 2) ≡ branchOf (now (work .entry)) count ++ (arithmetic ne (single (negsuc 0) len (pos 1)) ∷ arithmetic eq (single (pos 1) code (pos 1)) ∷ []) ⌝ }
+    ensures { λ _. ⌜ branchOf (now (work .exit)) (count + 2) ≡ branchOf (now (work .entry)) count ++ codeless len code ⌝ }
 {
-    rows::put_single(work, count, 2, -1, len, 1);
-    rows::put_single(work, count + 1, 1, 1, code, 1);
+    rows::put_single(work, count, NE, -1, len, 1);
+    rows::put_single(work, count + 1, EQ, 1, code, 1);
 }
 
-// C-Valid, child 2: "len(x) = 1, code(x) ≥ 0 and n−1−code(x) ≥ 0".
-fn put_coded(work: &mut [i64], count: usize, len: usize, code: usize, last: usize)
-    requires { ⌜ (count + 3 ≤ factLimit) × (workNumbers ≤ length (now work)) × (len < columnLimit) × (code < columnLimit) × (last < alphabetLimit) ⌝ }
-    ensures { λ _. ⌜ branchOf (now (work .exit)) (count + 3) ≡ branchOf (now (work .entry)) count ++ (arithmetic eq (single (negsuc 0) len (pos 1)) ∷ arithmetic ge (single (pos 0) code (pos 1)) ∷ arithmetic ge (single (pos last) code (negsuc 0)) ∷ []) ⌝ }
+// C-Valid, a child for the codes from low to high: "len(x) = 1, code(x) ≥ 0 and n−1−code(x) ≥ 0" for all of them.
+fn put_coded(work: &mut [i64], count: usize, len: usize, code: usize, low: usize, high: usize)
+    requires { ⌜ (count + 3 ≤ factLimit) × (workNumbers ≤ length (now work)) × (len < columnLimit) × (code < columnLimit) ⌝ }
+    requires { ⌜ (low < alphabetLimit) × (high < alphabetLimit) ⌝ }
+    ensures { λ _. ⌜ branchOf (now (work .exit)) (count + 3) ≡ branchOf (now (work .entry)) count ++ coded len code low high ⌝ }
 {
-    rows::put_single(work, count, 1, -1, len, 1);
-    rows::put_single(work, count + 1, 0, 0, code, 1);
-    rows::put_single(work, count + 2, 0, last as i64, code, -1);
+    rows::put_single(work, count, EQ, -1, len, 1);
+    rows::put_single(work, count + 1, GE, 0 - low as i64, code, 1);
+    rows::put_single(work, count + 2, GE, high as i64, code, -1);
 }
 
 // C-Valid's child k behind the facts of the branch; the number of facts then.
 fn put_c_valid(work: &mut [i64], count: usize, s: Progress, x: usize, k: usize) -> usize
     requires { ⌜ (count + k + 1 ≤ factLimit) × (workNumbers ≤ length (now work)) × (1 ≤ k) × (k ≤ 2) × (x < variableLimit) ⌝ }
     requires { ⌜ (s .p ≤ variableLimit) × (s .q ≤ variableLimit) × (1 ≤ s .n) × (s .n ≤ alphabetLimit) ⌝ }
-    ensures { λ r. ⌜ branchOf (now (work .exit)) r ≡ branchOf (now (work .entry)) count ++ orNone (childAt (cValidChildren (numbered s) x) k) ⌝ }
+    ensures { λ r. ⌜ branchOf (now (work .exit)) r ≡ extended (now (work .entry)) count (cValidChildren (numbered s) x) k ⌝ }
 {
-    let len = column_of(s.p, s.q, 0, x);
-    let code = column_of(s.p, s.q, 1, x);
+    let len = column_of(s.p, s.q, LEN, x);
+    let code = column_of(s.p, s.q, CODE, x);
     if k == 1 {
         put_codeless(work, count, len, code);
         return count + 2;
     }
-    put_coded(work, count, len, code, s.n - 1);
+    put_coded(work, count, len, code, 0, s.n - 1);
     count + 3
 }
 
@@ -327,24 +354,27 @@ fn put_c_valid(work: &mut [i64], count: usize, s: Progress, x: usize, k: usize) 
 pub fn put_child(
     ticket: &[u8],
     s: Progress,
-    at: usize,
+    rule: Rule,
+    body: usize,
     size: usize,
     work: &mut [i64],
     count: usize,
     k: usize,
 ) -> usize
-    requires { ⌜ Ready (now ticket) s at size (now work) count ⌝ }
-    requires { ⌜ conclusionsOf (rule (now ticket) at) ≡ Several ⌝ }
-    requires { ⌜ takenTried (branchOf (now work) count) (childIn (offered (now ticket) (asked (now ticket) s) (branchOf (now work) count) at size) k) ≡ 0 ⌝ }
-    ensures added { λ r. ⌜ branchOf (now (work .exit)) r ≡ branchOf (now (work .entry)) count ++ offeredChild (now (ticket .entry)) (asked (now (ticket .entry)) s) (branchOf (now (work .entry)) count) at size k ⌝ }
+    requires { ⌜ ReadyBy rule Several (now ticket) s body size (now work) count ⌝ }
+    requires { ⌜ childFault (now ticket) s body size (now work) count k ≡ 0 ⌝ }
+    ensures added { λ r. ⌜ branchOf (now (work .exit)) r ≡ withChild (now (ticket .entry)) s body size (now (work .entry)) count k ⌝ }
     ensures fine { λ r. ⌜ Fine (now (work .exit)) r ⌝ }
 {
-    let number = u16_at(ticket, at);
-    if number == 10 {
-        return put_c_valid(work, count, s, u16_at(ticket, at + 4), k);
+    match rule {
+        Rule::CValid => put_c_valid(work, count, s, u16_at(ticket, body + OPERANDS), k),
+        Rule::Branch | Rule::Apart | Rule::LValid | Rule::CInj | Rule::Card => {
+            put_fact(ticket, s, rule, body, size, work, count, k);
+            count + 1
+        }
+        Rule::Sum | Rule::SProp | Rule::LIntro | Rule::CCollapse | Rule::Join => count,
+        Rule::AConf | Rule::SConf | Rule::Unknown => count,
     }
-    put_fact(ticket, s, at, size, work, count, k);
-    count + 1
 }
 
 // ---- the limits
@@ -353,7 +383,7 @@ pub fn put_child(
 fn apart_within(work: &[i64], fact: usize, k: usize) -> bool
     requires { ⌜ (fact < factLimit) × (workNumbers ≤ length (now work)) × (1 ≤ k) × (k ≤ 2) ⌝ }
     requires { ⌜ (tagOf (factOf (rowAt (now work) fact)) ≡ 2) × (factWithin (factOf (rowAt (now work) fact)) ≡ true) ⌝ }
-    ensures { λ r. ⌜ r ≡ factsWithin (orNone (childAt (apartChildren (drop 1 (rowAt (now (work .entry)) fact))) k)) ⌝ }
+    ensures { λ r. ⌜ r ≡ factsWithin (orNone (childAt (apartAt (now (work .entry)) fact) k)) ⌝ }
 {
     let row = rows::row_at(work, fact);
     let c = row[1];
@@ -363,55 +393,65 @@ fn apart_within(work: &[i64], fact: usize, k: usize) -> bool
     rows::in_limit(-1 - c)
 }
 
-// "9 when a new number passes the limit": of child k. Only Branch and Apart make numbers from numbers of the ticket. Branch's first child
-// is its form, which is in range; of the second only the constant can pass the limit.
+// Branch: is child k within the limit? The first is the form at a position, which is in range; of the second only the constant can pass it.
+fn branch_within(b: &[u8], at: usize, pairs: usize, k: usize) -> bool
+    requires { ⌜ (at + 4 + 6 * pairs ≤ length (now b)) × (1 ≤ k) × (k ≤ 2) ⌝ }
+    requires { ⌜ formRange (now b) columnLimit at pairs ≡ true ⌝ }
+    ensures { λ r. ⌜ r ≡ factsWithin (orNone (childAt (branchChildren (formOf (now (b .entry)) at pairs)) k)) ⌝ }
+{
+    if k == 1 {
+        return true;
+    }
+    rows::in_limit(-1 - records::i32_at(b, at))
+}
+
+// "9 when a new number passes the limit": of child k. Only Branch and Apart make numbers from numbers of the ticket.
 pub fn child_within(
     ticket: &[u8],
     s: Progress,
-    at: usize,
+    rule: Rule,
+    body: usize,
     size: usize,
     work: &[i64],
     count: usize,
     k: usize,
 ) -> bool
-    requires { ⌜ Ready (now ticket) s at size (now work) count ⌝ }
-    requires { ⌜ conclusionsOf (rule (now ticket) at) ≡ Several ⌝ }
-    requires { ⌜ fitting (childIn (offered (now ticket) (asked (now ticket) s) (branchOf (now work) count) at size) k) ≡ true ⌝ }
-    ensures { λ r. ⌜ r ≡ factsWithin (offeredChild (now (ticket .entry)) (asked (now (ticket .entry)) s) (branchOf (now (work .entry)) count) at size k) ⌝ }
+    requires { ⌜ ReadyBy rule Several (now ticket) s body size (now work) count ⌝ }
+    requires { ⌜ fitting (childOf (now ticket) s body size (now work) count k) ≡ true ⌝ }
+    ensures { λ r. ⌜ r ≡ factsWithin (orNone (childOf (now (ticket .entry)) s body size (now (work .entry)) count k)) ⌝ }
 {
-    let number = u16_at(ticket, at);
-    if 3 < number {
-        return true;
+    match rule {
+        Rule::Branch => branch_within(ticket, body + OPERANDS, (size - 8) / 6, k),
+        Rule::Apart => apart_within(work, u16_at(ticket, body + OPERANDS), k),
+        Rule::LValid | Rule::CValid | Rule::CInj | Rule::Card => true,
+        Rule::Sum | Rule::SProp | Rule::LIntro | Rule::CCollapse | Rule::Join => true,
+        Rule::AConf | Rule::SConf | Rule::Unknown => true,
     }
-    if number == 3 {
-        return apart_within(work, u16_at(ticket, at + 4), k);
-    }
-    if k == 1 {
-        return true;
-    }
-    rows::in_limit(-1 - records::i32_at(ticket, at + 4))
 }
 
 // "Under claim 1 all children of a split are tried for 9".
 pub fn children_within(
     ticket: &[u8],
     s: Progress,
-    at: usize,
+    rule: Rule,
+    body: usize,
     size: usize,
     work: &[i64],
     count: usize,
 ) -> bool
-    requires { ⌜ Ready (now ticket) s at size (now work) count ⌝ }
-    requires { ⌜ conclusionsOf (rule (now ticket) at) ≡ Several ⌝ }
-    requires { ⌜ fitting (offered (now ticket) (asked (now ticket) s) (branchOf (now work) count) at size) ≡ true ⌝ }
-    ensures { λ r. ⌜ r ≡ childrenWithin (orNone (offered (now (ticket .entry)) (asked (now (ticket .entry)) s) (branchOf (now (work .entry)) count) at size)) ⌝ }
+    requires { ⌜ ReadyBy rule Several (now ticket) s body size (now work) count ⌝ }
+    requires { ⌜ fitting (offeredOn (now ticket) s body size (now work) count) ≡ true ⌝ }
+    ensures { λ r. ⌜ r ≡ childrenWithin (orNone (offeredOn (now (ticket .entry)) s body size (now (work .entry)) count)) ⌝ }
 {
-    let number = u16_at(ticket, at);
-    if 3 < number {
-        return true;
+    match rule {
+        Rule::Branch | Rule::Apart => {
+            if !child_within(ticket, s, rule, body, size, work, count, 1) {
+                return false;
+            }
+            child_within(ticket, s, rule, body, size, work, count, 2)
+        }
+        Rule::LValid | Rule::CValid | Rule::CInj | Rule::Card => true,
+        Rule::Sum | Rule::SProp | Rule::LIntro | Rule::CCollapse | Rule::Join => true,
+        Rule::AConf | Rule::SConf | Rule::Unknown => true,
     }
-    if !child_within(ticket, s, at, size, work, count, 1) {
-        return false;
-    }
-    child_within(ticket, s, at, size, work, count, 2)
 }

@@ -2,10 +2,8 @@
 use Prim.Native.Nat.{ℕ, zero, suc, _+_, _*_, _-_, _/_, _≤_, _<_}
 use native.Mathlib.Omega.{arith}
 use native.Mathlib.Nat.{mul-suc, suc-mul, mul-le-mul, div-eq-of-eq-mul-right}
-use native.Mathlib.Decide.{decLt}
-use mathlib.Core.Path.{_≡_, refl, sym, _∙_, ap, subst}
-use mathlib.Core.Logic.{_⊎_, inl, inr}
-use mathlib.Core.Bool.{true}
+use mathlib.Core.Path.{_≡_, refl, sym, _∙_, ap}
+use mathlib.Core.Bool.{true, false}
 use mathlib.Core.List.{List, [], _∷_}
 use lib.ListN.{length, getD, replicate, length-replicate}
 use lib.Dec.{leb, eqb}
@@ -14,11 +12,12 @@ use Rattle.lists.specs.Lists.{All}
 use Rattle.lists.proofs.Lists.{down}
 use Rattle.calculus.specs.Alphabet.{characterCount}
 use Rattle.calculus.specs.Steps.{pairCount, lastCount, shape}
-use Rattle.format.specs.Fields.{u16}
-use Rattle.format.specs.StepForms.{Rule, sum, branch, apart, aConf, sConf, sProp, lIntro, lValid, cCollapse, cValid, cInj, card, join, unknown, ruleOf, formFor, fitsForm, rule, lengthFits, cardVariables, stepOf, stepAt, isChild}
+use Rattle.format.specs.StepForms.{Rule, sum, branch, apart, aConf, sConf, sProp, lIntro, lValid, cCollapse, cValid, cInj, card, join, unknown, formFor, fitsForm, rule, lengthFits, cardVariables, stepOf, stepAt, isChild}
 use Rattle.format.proofs.Fields.{length-u16s}
+use Rattle.format.proofs.Faults.{not-both}
 use Rattle.format.proofs.Decoded.{at-least}
-use Rattle.steps.proofs.Table.{at-most, between, unnamed}
+use Rattle.steps.specs.Rules.{oneEach}
+use Rattle.steps.proofs.Table.{at-most}
 
 twice : (m : ℕ) → 2 * pairCount (suc m) ≡ suc m * m
 twice zero = refl
@@ -58,11 +57,11 @@ later-child [] k h = lt-leb k 0 (omega arith) ∙ sym (ne-eqb k 1 (λ e. omega a
 later-child (c ∷ cs) k h = rw (le-leb 1 k (omega arith))
 
 -- Card's children, by the length of its body
-pub card-count : (b : List ℕ) (n at m : ℕ) → length (shape n (stepOf b card at m)) ≡ pairCount ((m - 4) / 2) + lastCount (characterCount n)
+pub card-count : (b : List ℕ) (n body m : ℕ) → length (shape n (stepOf b card body m)) ≡ pairCount ((m - 4) / 2) + lastCount (characterCount n)
 unfolding shape stepOf
-card-count b n at m =
-    length-replicate (pairCount (length (cardVariables b at m)) + lastCount (characterCount n)) 1
-    ∙ ap (λ k. pairCount k + lastCount (characterCount n)) (length-u16s b (at + 4) ((m - 4) / 2))
+card-count b n body m =
+    length-replicate (pairCount (length (cardVariables b body m)) + lastCount (characterCount n)) 1
+    ∙ ap (λ k. pairCount k + lastCount (characterCount n)) (length-u16s b (body + 4) ((m - 4) / 2))
 
 -- ---- how many there are
 
@@ -71,19 +70,19 @@ last-few zero = omega arith
 last-few (suc zero) = omega arith
 last-few (suc (suc n)) = omega arith
 
-card-few : (b : List ℕ) (n at m : ℕ) → fitsForm (formFor card) m ≡ true → length (shape n (stepOf b card at m)) ≤ 121
-card-few b n at m f =
+card-few : (b : List ℕ) (n body m : ℕ) → fitsForm (formFor card) m ≡ true → length (shape n (stepOf b card body m)) ≤ 121
+card-few b n body m f =
     let long = at-least (formFor card) m f in
     let short = at-most (formFor card) m f in
     let variables : (m - 4) / 2 ≤ 16 = omega arith in
-    omega (arith, card-count b n at m, pairs-halved ((m - 4) / 2), pairs-few ((m - 4) / 2) variables, last-few (characterCount n))
+    omega (arith, card-count b n body m, pairs-halved ((m - 4) / 2), pairs-few ((m - 4) / 2) variables, last-few (characterCount n))
 
 -- no step has more than 121 children
-pub few-children : (b : List ℕ) (n at m : ℕ) → lengthFits b at m ≡ true → length (shape n (stepAt b at m)) ≤ 121
+pub few-children : (b : List ℕ) (n body m : ℕ) → lengthFits b body m ≡ true → length (shape n (stepAt b body m)) ≤ 121
 unfolding shape stepOf
-few-children b n at m f = go (rule b at) f
+few-children b n body m f = go (rule b body) f
   where
-    go : (r : Rule) → fitsForm (formFor r) m ≡ true → length (shape n (stepOf b r at m)) ≤ 121
+    go : (r : Rule) → fitsForm (formFor r) m ≡ true → length (shape n (stepOf b r body m)) ≤ 121
     go sum f = omega arith
     go branch f = omega arith
     go apart f = omega arith
@@ -95,7 +94,7 @@ few-children b n at m f = go (rule b at) f
     go cCollapse f = omega arith
     go cValid f = omega arith
     go cInj f = omega arith
-    go card f = card-few b n at m f
+    go card f = card-few b n body m f
     go join f = omega arith
     go unknown f = omega arith
 
@@ -105,53 +104,43 @@ ones : (k : ℕ) → All {A = ℕ} (λ x. x ≡ 1) (replicate k 1)
 ones zero = tt
 ones (suc k) = (refl, ones k)
 
--- one, but for C-Valid
-pub one-each : (b : List ℕ) (n at m k : ℕ) → (k ≡ 10) ⊎ All (λ x. x ≡ 1) (shape n (stepOf b (ruleOf k) at m))
-unfolding shape stepOf
-one-each b n at m k = go (decLt k 14)
-  where
-    P : ℕ → Type 0
-    P j = (j ≡ 10) ⊎ All (λ x. x ≡ 1) (shape n (stepOf b (ruleOf j) at m))
-
-    one : All (λ (x : ℕ). x ≡ 1) (1 ∷ [])
-    one = (refl, tt)
-
-    two : All (λ (x : ℕ). x ≡ 1) (1 ∷ 1 ∷ [])
-    two = (refl, (refl, tt))
-
-    go : Dec (k < 14) → P k
-    go (yes h) =
-        between P 14 0 k
-        (inr tt, (inr one, (inr two, (inr two, (inr tt, (inr tt, (inr one, (inr one, (inr two, (inr one, (inl refl, (inr (refl, two), (inr (ones (pairCount (length (cardVariables b at m)) + lastCount (characterCount n))), (inr one, tt))))))))))))))
-        (omega arith) h
-    go (no h) = inr (subst (λ (r : Rule). All (λ x. x ≡ 1) (shape n (stepOf b r at m))) (sym (unnamed k (omega arith))) tt)
-
--- C-Valid's first child adds two facts, its second three
-pub c-valid-shape : (b : List ℕ) (n at m : ℕ) → 10 ≡ u16 b at → shape n (stepAt b at m) ≡ 2 ∷ 3 ∷ []
-unfolding shape stepOf
-c-valid-shape b n at m e = sym (ap (λ i. shape n (stepOf b (ruleOf i) at m)) e)
-
 one-at : (ls : List ℕ) (i : ℕ) → All (λ x. x ≡ 1) ls → i < length ls → 1 ≡ getD ls i 0
 one-at [] i h g = absurd (omega arith)
 one-at (x ∷ ls) zero h g = sym (h .0)
 one-at (x ∷ ls) (suc i) h g = one-at ls i (h .1) (omega arith)
 
-module _ (b : List ℕ) (n at m k : ℕ) (j : ℕ) (e : j ≡ u16 b at) where
-  pub adds-one : (j ≡ 10 → ⊥) → 1 ≤ k → k ≤ length (shape n (stepAt b at m)) → 1 ≡ getD (shape n (stepAt b at m)) (k - 1) 0
-  adds-one x l h = go (one-each b n at m (u16 b at))
-    where
-      go : (u16 b at ≡ 10) ⊎ All (λ x. x ≡ 1) (shape n (stepAt b at m)) → 1 ≡ getD (shape n (stepAt b at m)) (k - 1) 0
-      go (inl f) = absurd (x (e ∙ f))
-      go (inr a) = one-at (shape n (stepAt b at m)) (k - 1) a (omega arith)
+module _ (b : List ℕ) (n body m : ℕ) where
+  pub one-each : (r : Rule) → oneEach r ≡ true → All (λ x. x ≡ 1) (shape n (stepOf b r body m))
+  unfolding shape stepOf
+  one-each sum e = (refl, tt)
+  one-each branch e = (refl, (refl, tt))
+  one-each apart e = (refl, (refl, tt))
+  one-each aConf e = tt
+  one-each sConf e = tt
+  one-each sProp e = (refl, tt)
+  one-each lIntro e = (refl, tt)
+  one-each lValid e = (refl, (refl, tt))
+  one-each cCollapse e = (refl, tt)
+  one-each cValid e = absurd (not-both false e refl)
+  one-each cInj e = (refl, (refl, (refl, tt)))
+  one-each card e = ones (pairCount (length (cardVariables b body m)) + lastCount (characterCount n))
+  one-each join e = (refl, tt)
+  one-each unknown e = tt
 
-  by-c-valid : j ≡ 10 → shape n (stepAt b at m) ≡ 2 ∷ 3 ∷ []
-  by-c-valid f = c-valid-shape b n at m (sym f ∙ e)
+  -- C-Valid's first child adds two facts, its second three
+  pub c-valid-shape : shape n (stepOf b cValid body m) ≡ 2 ∷ 3 ∷ []
+  unfolding shape stepOf
+  c-valid-shape = refl
 
-  pub adds-two : j ≡ 10 → k ≡ 1 → 2 ≡ getD (shape n (stepAt b at m)) (k - 1) 0
-  adds-two f g = rw (by-c-valid f, g)
+  module _ (r : Rule) (k : ℕ) where
+    pub adds-one : oneEach r ≡ true → 1 ≤ k → k ≤ length (shape n (stepOf b r body m)) → 1 ≡ getD (shape n (stepOf b r body m)) (k - 1) 0
+    adds-one e l h = one-at (shape n (stepOf b r body m)) (k - 1) (one-each r e) (omega arith)
 
-  pub adds-three : j ≡ 10 → (k ≡ 1 → ⊥) → 1 ≤ k → k ≤ length (shape n (stepAt b at m)) → 3 ≡ getD (shape n (stepAt b at m)) (k - 1) 0
-  adds-three f g l h =
-      let two : k ≤ 2 = rw (by-c-valid f) at h in
-      let second : k ≡ 2 = omega arith in
-      rw (by-c-valid f, second)
+    pub adds-two : r ≡ cValid → k ≡ 1 → 2 ≡ getD (shape n (stepOf b r body m)) (k - 1) 0
+    adds-two f g = rw (f, c-valid-shape, g)
+
+    pub adds-three : r ≡ cValid → (k ≡ 1 → ⊥) → 1 ≤ k → k ≤ length (shape n (stepOf b r body m)) → 3 ≡ getD (shape n (stepOf b r body m)) (k - 1) 0
+    adds-three f g l h =
+        let two : k ≤ 2 = rw (f, c-valid-shape) at h in
+        let second : k ≡ 2 = omega arith in
+        rw (f, c-valid-shape, second)

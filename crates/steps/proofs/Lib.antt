@@ -1,4 +1,5 @@
 pub mod Table
+pub mod Rules
 pub mod Loops
 pub mod Children
 pub mod Faults

@@ -16,9 +16,8 @@ use Rattle.calculus.specs.Children.{childAt}
 use Rattle.calculus.specs.Steps.{shape}
 use Rattle.calculus.specs.Rules.{children}
 use Rattle.calculus.proofs.Shapes.{children-shape}
-use Rattle.format.specs.Fields.{u16}
 use Rattle.format.specs.Records.{need}
-use Rattle.format.specs.StepForms.{ruleOf, stepOf, stepAt}
+use Rattle.format.specs.StepForms.{Rule, rule, stepOf, stepAt}
 use Rattle.format.specs.Checking.{fits, orNone, factsWithin, childrenWithin, room, takenTried, childIn}
 use Rattle.format.proofs.Faults.{none-applies, not-both}
 use Rattle.question.specs.declared.Progress.{Progress}
@@ -102,14 +101,14 @@ child-in-within (some []) (suc j) e = refl
 child-in-within (some (c ∷ cs)) (suc zero) e = and-both (factsWithin c) (childrenWithin cs) e .0
 child-in-within (some (c ∷ cs)) (suc (suc j)) e = child-in-within (some cs) (suc j) (and-both (factsWithin c) (childrenWithin cs) e .1)
 
-pub its-shape : {b : List ℕ} {s : Progress} {at m : ℕ} {w : List ℤ} {count : ℕ} (h : Ready b s at m w count) → fits (given h) ≡ true → map length (orNone (given h)) ≡ shape (s .n) (stepAt b at m)
+pub its-shape : {b : List ℕ} {s : Progress} {body m : ℕ} {w : List ℤ} {count : ℕ} (h : Ready b s body m w count) → fits (given h) ≡ true → map length (orNone (given h)) ≡ shape (s .n) (stepAt b body m)
 unfolding asked offered
-its-shape {b} {s} {at} {m} h e = children-shape (asked b s) (before h) (stepAt b at m) _ (fitted (given h) e)
+its-shape {b} {s} {body} {m} h e = children-shape (asked b s) (before h) (stepAt b body m) _ (fitted (given h) e)
 
--- by the rule's number
-pub offered-by : (b : List ℕ) (u : Question) (br : Branch) (at m k : ℕ) → k ≡ u16 b at → offered b u br at m ≡ children u br (stepOf b (ruleOf k) at m)
+-- by the rule
+pub offered-by : (b : List ℕ) (u : Question) (br : Branch) (body m : ℕ) (r : Rule) → r ≡ rule b body → offered b u br body m ≡ children u br (stepOf b r body m)
 unfolding offered
-offered-by b u br at m k e = ap (λ j. children u br (stepOf b (ruleOf j) at m)) (sym e)
+offered-by b u br body m r e = ap (λ q. children u br (stepOf b q body m)) (sym e)
 
 -- ---- one to which none of 8 to 10 applies
 

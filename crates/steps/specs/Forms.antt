@@ -13,7 +13,7 @@ abbrev pub stepForm : Form → format.Form
 stepForm f = format.form (f .0) (f .1) (f .2)
 
 -- a step's body of m bytes at a position: it stands in the bytes, its length fits its rule, and its operands are in their ranges
-pub record Formed (b : List ℕ) (u : Question) (at m : ℕ) : Type 0 where
-  pub within : at + m ≤ length b
-  pub fits : lengthFits b at m ≡ true
-  pub in-range : operandsInRange b (u .p) (columnCount u) (rule b at) at m ≡ true
+pub record Formed (b : List ℕ) (u : Question) (body m : ℕ) : Type 0 where
+  pub within : body + m ≤ length b
+  pub fits : lengthFits b body m ≡ true
+  pub in-range : operandsInRange b (u .p) (columnCount u) (rule b body) body m ≡ true

@@ -2,18 +2,20 @@
 // its rule's children. A body is its position and its size.
 ghost use mathlib.Core.Path.{_≡_};
 ghost use mathlib.Core.Bool.{true};
+ghost use mathlib.Core.List.{List};
 ghost use Prim.Native.Nat.{ℕ, _+_, _*_, _-_, _<_, _≤_};
 ghost use lib.ListN.{length, getD};
-ghost use lib.Dec.{eqb};
 ghost use Rattle.calculus.specs.Limits.{variableLimit};
 ghost use Rattle.calculus.specs.Alphabet.{characterCount};
-ghost use Rattle.calculus.specs.Steps.{pairCount, lastCount, shape};
+ghost use Rattle.calculus.specs.Steps.{pairCount, lastCount};
 ghost use Rattle.format.specs.Fields.{u16s, pairsAt};
-ghost use Rattle.format.specs.StepForms.{sum, sProp, ruleOf, formFor, fitsForm, rule, childField, lengthFits, multipliersWithin, areVariables, operandsInRange, stepAt, childInRange};
-ghost use Rattle.format.specs.Reading.{stepFault};
-ghost use Rattle.question.specs.Posed.{asked};
+ghost use Rattle.format.specs.StepForms as forms;
+ghost use Rattle.format.specs.StepForms.{ruleOf, formFor, fitsForm, lengthFits, multipliersWithin, areVariables, operandsInRange, isChild};
+ghost use Rattle.steps.specs.Rules.{ruleNamed, shapeOf};
 ghost use Rattle.steps.specs.Forms.{stepForm};
+ghost use Rattle.steps.specs.Faults.{faultBut, faultOne, faultTwo};
 ghost use Rattle.steps.specs.Conclusions.{conclusionsOf};
+use encoding::CODE;
 use limits::COLUMN_LIMIT;
 use limits::NUMBER_LIMIT;
 use limits::SUMMAND_LIMIT;
@@ -25,13 +27,63 @@ use records::bits_within;
 use records::u16_at;
 use records::u32_at;
 
+// ---- the rules
+
+// By name; Unknown is every number that document 01 gives to none.
+pub enum Rule {
+    Sum,
+    Branch,
+    Apart,
+    AConf,
+    SConf,
+    SProp,
+    LIntro,
+    LValid,
+    CCollapse,
+    CValid,
+    CInj,
+    Card,
+    Join,
+    Unknown,
+}
+
+// By rule number. Nothing else reads a rule's number, but the table of step forms.
+pub fn rule_of(number: usize) -> Rule
+    ensures { λ r. ⌜ ruleNamed r ≡ ruleOf number ⌝ }
+{
+    match number {
+        1 => Rule::Sum,
+        2 => Rule::Branch,
+        3 => Rule::Apart,
+        4 => Rule::AConf,
+        5 => Rule::SConf,
+        6 => Rule::SProp,
+        7 => Rule::LIntro,
+        8 => Rule::LValid,
+        9 => Rule::CCollapse,
+        10 => Rule::CValid,
+        11 => Rule::CInj,
+        12 => Rule::Card,
+        13 => Rule::Join,
+        _ => Rule::Unknown,
+    }
+}
+
 // ---- "The length of each rule's operands follows a fixed table of step forms"
+
+// "u16 rule, u16 child, operands": where in a body the child stands, and from where the operands.
+pub const CHILD_FIELD: usize = 2;
+
+pub const OPERANDS: usize = 4;
 
 // The least length of a body, rule and child counted in, the stride and the greatest count: at most so many strides more.
 pub struct Form(pub usize, pub usize, pub usize);
 
-// By rule number. 0 is for no rule: "for an unknown rule, only when under 4 bytes".
-const FORMS: [Form; 14] = [
+// The numbers of the rules, and 0, which is for no rule.
+const RULE_NUMBERS: usize = 14;
+
+// By rule number; at 0: "for an unknown rule, only when under 4 bytes".
+const FORMS: [Form; RULE_NUMBERS] = [
     Form(4, 1, TICKET_BYTES),
     // Sum
     Form(14, 6, SUMMAND_LIMIT - 1),
@@ -65,7 +117,11 @@ const FORMS: [Form; 14] = [
 fn form_for(number: usize) -> Form
     ensures { λ r. ⌜ stepForm r ≡ formFor (ruleOf number) ⌝ }
 {
-    if number < 14 { FORMS[number] } else { FORMS[0] }
+    if number < RULE_NUMBERS {
+        FORMS[number]
+    } else {
+        FORMS[0]
+    }
 }
 
 fn fits_form(f: Form, size: usize) -> bool
@@ -86,14 +142,14 @@ fn fits_form(f: Form, size: usize) -> bool
 }
 
 // Whether a body's length fits the form of its rule.
-fn length_fits(b: &[u8], at: usize, size: usize) -> bool
-    requires { ⌜ at + size ≤ length (now b) ⌝ }
-    ensures { λ r. ⌜ r ≡ lengthFits (now (b .entry)) at size ⌝ }
+fn length_fits(b: &[u8], body: usize, size: usize) -> bool
+    requires { ⌜ body + size ≤ length (now b) ⌝ }
+    ensures { λ r. ⌜ r ≡ lengthFits (now (b .entry)) body size ⌝ }
 {
-    if size < 4 {
+    if size < OPERANDS {
         return false;
     }
-    fits_form(form_for(u16_at(b, at)), size)
+    fits_form(form_for(u16_at(b, body)), size)
 }
 
 // ---- the ranges of the operands
@@ -116,19 +172,22 @@ fn multipliers_within(b: &[u8], at: usize, count: usize) -> bool
     true
 }
 
+// The largest i32.
+const DIVISOR_LIMIT: usize = 2147483647;
+
 // Sum: "i32 divisor of at least 1, then 1 to 8 pairs (fact, i32 multiplier)".
-fn sum_in_range(b: &[u8], at: usize, size: usize) -> bool
-    requires { ⌜ (8 ≤ size) × (at + size ≤ length (now b)) ⌝ }
-    ensures { λ r. ⌜ ((p c : ℕ) → r ≡ operandsInRange (now (b .entry)) p c sum at size) ⌝ }
+fn sum_in_range(b: &[u8], body: usize, size: usize) -> bool
+    requires { ⌜ (8 ≤ size) × (body + size ≤ length (now b)) ⌝ }
+    ensures { λ r. ⌜ ((p c : ℕ) → r ≡ operandsInRange (now (b .entry)) p c forms.sum body size) ⌝ }
 {
-    let divisor = u32_at(b, at + 4);
+    let divisor = u32_at(b, body + OPERANDS);
     if divisor < 1 {
         return false;
     }
-    if 2147483647 < divisor {
+    if DIVISOR_LIMIT < divisor {
         return false;
     }
-    multipliers_within(b, at + 8, (size - 8) / 6)
+    multipliers_within(b, body + 8, (size - 8) / 6)
 }
 
 // Whether the count variables from a position are below p.
@@ -149,32 +208,32 @@ fn variables_below(b: &[u8], p: usize, at: usize, count: usize) -> bool
 }
 
 // S-Prop: "function (0 len, 1 code), different variables x, y".
-fn s_prop_in_range(b: &[u8], p: usize, at: usize) -> bool
-    requires { ⌜ at + 10 ≤ length (now b) ⌝ }
-    ensures { λ r. ⌜ ((c m : ℕ) → r ≡ operandsInRange (now (b .entry)) p c sProp at m) ⌝ }
+fn s_prop_in_range(b: &[u8], p: usize, body: usize) -> bool
+    requires { ⌜ body + 10 ≤ length (now b) ⌝ }
+    ensures { λ r. ⌜ ((c m : ℕ) → r ≡ operandsInRange (now (b .entry)) p c forms.sProp body m) ⌝ }
 {
-    if 1 < u16_at(b, at + 4) {
+    if CODE < u16_at(b, body + OPERANDS) {
         return false;
     }
-    variables_below(b, p, at + 6, 2)
+    variables_below(b, p, body + 6, 2)
 }
 
 // Whether the fields of a body whose length fits are in their ranges, over p string variables and c columns; of an unknown rule they are not.
-fn operands_in_range(b: &[u8], p: usize, c: usize, at: usize, size: usize) -> bool
-    requires { ⌜ at + size ≤ length (now b) ⌝ }
-    requires { ⌜ lengthFits (now b) at size ≡ true ⌝ }
-    ensures { λ r. ⌜ r ≡ operandsInRange (now (b .entry)) p c (rule (now (b .entry)) at) at size ⌝ }
+fn operands_in_range(b: &[u8], rule: Rule, p: usize, c: usize, body: usize, size: usize) -> bool
+    requires { ⌜ (body + size ≤ length (now b)) × (fitsForm (formFor (ruleNamed rule)) size ≡ true) ⌝ }
+    ensures { λ r. ⌜ r ≡ operandsInRange (now (b .entry)) p c (ruleNamed rule) body size ⌝ }
 {
-    let number = u16_at(b, at);
-    match number {
-        1 => sum_in_range(b, at, size),
-        2 => form_in_range(b, c, at + 4, (size - 8) / 6),
-        3 | 4 | 5 | 13 => true,
-        6 => s_prop_in_range(b, p, at),
-        7 | 8 | 9 | 10 => variables_below(b, p, at + 4, 1),
-        11 => variables_below(b, p, at + 4, 2),
-        12 => variables_below(b, p, at + 4, (size - 4) / 2),
-        _ => false,
+    match rule {
+        Rule::Sum => sum_in_range(b, body, size),
+        Rule::Branch => form_in_range(b, c, body + OPERANDS, (size - 8) / 6),
+        Rule::Apart | Rule::AConf | Rule::SConf | Rule::Join => true,
+        Rule::SProp => s_prop_in_range(b, p, body),
+        Rule::LIntro | Rule::LValid | Rule::CCollapse | Rule::CValid => {
+            variables_below(b, p, body + OPERANDS, 1)
+        }
+        Rule::CInj => variables_below(b, p, body + OPERANDS, 2),
+        Rule::Card => variables_below(b, p, body + OPERANDS, (size - OPERANDS) / 2),
+        Rule::Unknown => false,
     }
 }
 
@@ -187,23 +246,24 @@ pub enum Conclusions {
     Several,
 }
 
-// By rule number.
-pub fn conclusions_of(number: usize) -> Conclusions
-    ensures { λ r. ⌜ r ≡ conclusionsOf (ruleOf number) ⌝ }
+pub fn conclusions_of(rule: Rule) -> Conclusions
+    ensures { λ r. ⌜ r ≡ conclusionsOf (ruleNamed rule) ⌝ }
 {
-    match number {
-        1 => Conclusions::One,
-        2 => Conclusions::Several,
-        3 => Conclusions::Several,
-        6 => Conclusions::One,
-        7 => Conclusions::One,
-        8 => Conclusions::Several,
-        9 => Conclusions::One,
-        10 => Conclusions::Several,
-        11 => Conclusions::Several,
-        12 => Conclusions::Several,
-        13 => Conclusions::One,
-        _ => Conclusions::Nothing,
+    match rule {
+        Rule::Sum => Conclusions::One,
+        Rule::Branch => Conclusions::Several,
+        Rule::Apart => Conclusions::Several,
+        Rule::AConf => Conclusions::Nothing,
+        Rule::SConf => Conclusions::Nothing,
+        Rule::SProp => Conclusions::One,
+        Rule::LIntro => Conclusions::One,
+        Rule::LValid => Conclusions::Several,
+        Rule::CCollapse => Conclusions::One,
+        Rule::CValid => Conclusions::Several,
+        Rule::CInj => Conclusions::Several,
+        Rule::Card => Conclusions::Several,
+        Rule::Join => Conclusions::One,
+        Rule::Unknown => Conclusions::Nothing,
     }
 }
 
@@ -218,57 +278,60 @@ fn card_children(n: usize, m: usize) -> usize
     if n < 2 { pairs } else { pairs + 1 }
 }
 
-// How many children a body's step has over n characters where it fits; none where its rule closes.
-pub fn child_count(b: &[u8], n: usize, at: usize, size: usize) -> usize
-    requires { ⌜ at + size ≤ length (now b) ⌝ }
-    requires { ⌜ lengthFits (now b) at size ≡ true ⌝ }
-    ensures { λ r. ⌜ r ≡ length (shape n (stepAt (now (b .entry)) at size)) ⌝ }
+// How many children a step of a rule has over n characters, with a body of so many bytes that fits; none where the rule closes.
+pub fn child_count(rule: Rule, n: usize, size: usize) -> usize
+    requires { ⌜ fitsForm (formFor (ruleNamed rule)) size ≡ true ⌝ }
+    ensures { λ r. ⌜ ((b : List ℕ) (body : ℕ) → r ≡ length (shapeOf rule n b body size)) ⌝ }
 {
-    let number = u16_at(b, at);
-    match number {
-        1 | 6 | 7 | 9 | 13 => 1,
-        2 | 3 | 8 | 10 => 2,
-        11 => 3,
-        12 => card_children(n, (size - 4) / 2),
-        _ => 0,
+    match rule {
+        Rule::Sum | Rule::SProp | Rule::LIntro | Rule::CCollapse | Rule::Join => 1,
+        Rule::Branch | Rule::Apart | Rule::LValid | Rule::CValid => 2,
+        Rule::CInj => 3,
+        Rule::Card => card_children(n, (size - OPERANDS) / 2),
+        Rule::AConf | Rule::SConf | Rule::Unknown => 0,
     }
 }
 
-// How many facts child k of a body's step adds, where it fits: C-Valid's children add two and three, all others one.
-pub fn child_facts(b: &[u8], at: usize, k: usize) -> usize
-    requires { ⌜ at + 2 ≤ length (now b) ⌝ }
-    ensures { λ r. ⌜ ((n m : ℕ) → 1 ≤ k → k ≤ length (shape n (stepAt (now (b .entry)) at m)) → r ≡ getD (shape n (stepAt (now (b .entry)) at m)) (k - 1) 0) ⌝ }
+// How many facts child k of a rule's step adds, where it fits: C-Valid's children add two and three, all others one.
+pub fn child_facts(rule: Rule, k: usize) -> usize
+    ensures { λ r. ⌜ ((b : List ℕ) (n body m : ℕ) → 1 ≤ k → k ≤ length (shapeOf rule n b body m) → r ≡ getD (shapeOf rule n b body m) (k - 1) 0) ⌝ }
 {
-    if u16_at(b, at) != 10 {
-        return 1;
+    match rule {
+        Rule::CValid => {
+            if k == 1 {
+                return 2;
+            }
+            3
+        }
+        Rule::Sum | Rule::Branch | Rule::Apart | Rule::AConf | Rule::SConf | Rule::SProp => 1,
+        Rule::LIntro | Rule::LValid | Rule::CCollapse | Rule::CInj | Rule::Card | Rule::Join => 1,
+        Rule::Unknown => 1,
     }
-    if k == 1 { 2 } else { 3 }
 }
 
 // Claim 2: "the child taken, from 1; it is 1 for a rule with one conclusion or none".
-fn child_in_range(b: &[u8], n: usize, at: usize, size: usize) -> bool
-    requires { ⌜ at + size ≤ length (now b) ⌝ }
-    requires { ⌜ lengthFits (now b) at size ≡ true ⌝ }
-    ensures { λ r. ⌜ r ≡ childInRange n (stepAt (now (b .entry)) at size) (childField (now (b .entry)) at) ⌝ }
+fn child_in_range(rule: Rule, n: usize, size: usize, k: usize) -> bool
+    requires { ⌜ fitsForm (formFor (ruleNamed rule)) size ≡ true ⌝ }
+    ensures { λ r. ⌜ ((b : List ℕ) (body : ℕ) → r ≡ isChild (shapeOf rule n b body size) k) ⌝ }
 {
-    let k = u16_at(b, at + 2);
     if k <= 1 {
         return k == 1;
     }
-    k <= child_count(b, n, at, size)
+    k <= child_count(rule, n, size)
 }
 
 // ---- the numbers 5 and 6 of a step's body, 0 for neither
 
 // All but the child field.
-fn operands_fault(b: &[u8], s: Progress, at: usize, size: usize) -> usize
-    requires { ⌜ (at + size ≤ length (now b)) × (s .p ≤ variableLimit) × (s .q ≤ variableLimit) ⌝ }
-    ensures { λ r. ⌜ r ≡ stepFault (now (b .entry)) (asked (now (b .entry)) s) true 0 at size ⌝ }
+fn operands_fault(b: &[u8], s: Progress, body: usize, size: usize) -> usize
+    requires { ⌜ (body + size ≤ length (now b)) × (s .p ≤ variableLimit) × (s .q ≤ variableLimit) ⌝ }
+    ensures { λ r. ⌜ r ≡ faultBut (now (b .entry)) s body size ⌝ }
 {
-    if !length_fits(b, at, size) {
+    if !length_fits(b, body, size) {
         return 5;
     }
-    if operands_in_range(b, s.p, s.q + (s.p + s.p), at, size) {
+    let rule = rule_of(u16_at(b, body));
+    if operands_in_range(b, rule, s.p, s.q + (s.p + s.p), body, size) {
         0
     } else {
         6
@@ -276,27 +339,33 @@ fn operands_fault(b: &[u8], s: Progress, at: usize, size: usize) -> usize
 }
 
 // Claim 1: "the child field is 0".
-pub fn step_fault_one(b: &[u8], s: Progress, at: usize, size: usize) -> usize
-    requires { ⌜ (at + size ≤ length (now b)) × (s .p ≤ variableLimit) × (s .q ≤ variableLimit) ⌝ }
-    ensures { λ r. ⌜ r ≡ stepFault (now (b .entry)) (asked (now (b .entry)) s) (eqb (childField (now (b .entry)) at) 0) 0 at size ⌝ }
+pub fn step_fault_one(b: &[u8], s: Progress, body: usize, size: usize) -> usize
+    requires { ⌜ (body + size ≤ length (now b)) × (s .p ≤ variableLimit) × (s .q ≤ variableLimit) ⌝ }
+    ensures { λ r. ⌜ r ≡ faultOne (now (b .entry)) s body size ⌝ }
 {
-    let f = operands_fault(b, s, at, size);
+    let f = operands_fault(b, s, body, size);
     if f != 0 {
         return f;
     }
-    if u16_at(b, at + 2) == 0 { 0 } else { 6 }
+    if u16_at(b, body + CHILD_FIELD) == 0 {
+        0
+    } else {
+        6
+    }
 }
 
 // Claim 2: the child taken.
-pub fn step_fault_two(b: &[u8], s: Progress, at: usize, size: usize) -> usize
-    requires { ⌜ (at + size ≤ length (now b)) × (s .p ≤ variableLimit) × (s .q ≤ variableLimit) ⌝ }
-    ensures { λ r. ⌜ r ≡ stepFault (now (b .entry)) (asked (now (b .entry)) s) (childInRange (s .n) (stepAt (now (b .entry)) at size) (childField (now (b .entry)) at)) 0 at size ⌝ }
+pub fn step_fault_two(b: &[u8], s: Progress, body: usize, size: usize) -> usize
+    requires { ⌜ (body + size ≤ length (now b)) × (s .p ≤ variableLimit) × (s .q ≤ variableLimit) ⌝ }
+    ensures { λ r. ⌜ r ≡ faultTwo (now (b .entry)) s body size ⌝ }
 {
-    let f = operands_fault(b, s, at, size);
+    let f = operands_fault(b, s, body, size);
     if f != 0 {
         return f;
     }
-    if child_in_range(b, s.n, at, size) {
+    let rule = rule_of(u16_at(b, body));
+    let k = u16_at(b, body + CHILD_FIELD);
+    if child_in_range(rule, s.n, size, k) {
         0
     } else {
         6

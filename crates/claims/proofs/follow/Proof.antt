@@ -21,7 +21,7 @@ abbrev μ-loop : tie.MeasureT-loop
 loop-holds : tie.Need-loop-holds Inv-loop μ-loop
 loop-holds c =
     let s = c .before in
-    starts (now (s .args .ticket)) (s .args .s) (now (s .args .work)) (s .args .r) (s .args .at) (s .pre .1 .0 .0) (s .pre .1 .0 .1) (s .pre .1 .1)
+    starts (now (s .args .ticket)) (s .args .s) (now (s .args .work)) (s .args .r) (s .args .«record») (s .pre .1 .0 .0) (s .pre .1 .0 .1) (s .pre .1 .1)
 
 read-at-requires : tie.Need-read-at-requires Inv-loop μ-loop
 read-at-requires c κs = search needs
@@ -54,7 +54,7 @@ follow-record-requires c κs =
     let s = c .before .before .before .before .before .before .before .before in
     let l = c .before .before .before .before .before .before .loop in
     let w = found-whole (now (s .args .ticket)) (l .i) _ _ (sym (c .before .before .before .before .before .read-at .ensures) ∙ c .before .before .before .kind .given .1) in
-    (s .pre .0, (l .inv .fine, (w .0, w .1, w .2, c .before .if1 .left)))
+    (s .pre .0, (l .inv .fine, (w, c .before .if1 .left)))
 
 same-length-3 : tie.Need-same-length-3 Inv-loop μ-loop
 same-length-3 c = c .before .before .follow-record .kept .1 .1 .1 .1 .1 .0 ∙ c .before .before .before .before .before .before .before .before .before .loop .inv .kept
@@ -65,7 +65,7 @@ returns-3 c =
     let s = c .before .before .before .before .before .before .before .before .before .before .before in
     let l = c .before .before .before .before .before .before .before .before .before .loop in
     let w = found-whole (now (s .args .ticket)) (l .i) _ _ (sym (c .before .before .before .before .before .before .before .before .read-at .ensures) ∙ c .before .before .before .before .before .before .kind .given .1) in
-    (going-refused (now (s .args .ticket)) (s .args .s) _ _ (l .work) (l .count) (l .i) (l .k) (l .inv) _ _ w _ (c .before .before .follow-record .ensures .0) (c .if2 .taken) _, tt)
+    (going-refused (now (s .args .ticket)) (s .args .s) _ _ (l .work) (l .count) (l .i) (l .k) (l .inv) _ _ w _ (c .before .before .follow-record .ensures .fault) (c .if2 .taken) _, tt)
 
 add-i : tie.Need-add-i Inv-loop μ-loop
 add-i c =
@@ -94,7 +94,7 @@ loop-again c =
     let l = c .before .before .before .before .before .before .before .before .before .loop in
     let f = c .before .before .follow-record in
     let w = found-whole (now (s .args .ticket)) (l .i) _ _ (sym (c .before .before .before .before .before .before .before .before .read-at .ensures) ∙ c .before .before .before .before .before .before .kind .given .1) in
-    going-taken (now (s .args .ticket)) (s .args .s) _ _ (l .work) (l .count) (l .i) (l .k) (l .inv) _ _ w _ (f .ensures .0) (c .if2 .left) (c .before .before .before .before .if1 .left) (f .last .1 .1 .1 .1 .1 .0) (f .result .count) (f .kept .1 .1 .1 .1 .1 .0) (f .ensures .1 .0 (c .if2 .left)) (f .ensures .1 .1 (c .if2 .left))
+    going-taken (now (s .args .ticket)) (s .args .s) _ _ (l .work) (l .count) (l .i) (l .k) (l .inv) _ _ w _ (f .ensures .fault) (c .if2 .left) (c .before .before .before .before .if1 .left) (f .last .1 .1 .1 .1 .1 .0) (f .result .count) (f .kept .1 .1 .1 .1 .1 .0) (f .ensures .added (c .if2 .left)) (f .ensures .fine (c .if2 .left))
 
 pub follow-spec : {M : Type 1} → statement M
 follow-spec =

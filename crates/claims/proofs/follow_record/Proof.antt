@@ -23,7 +23,12 @@ returns c =
     let b = now (s .args .ticket) in
     let u = asked b (s .args .s) in
     let p = s .pre .1 .1 in
-    (taken-place b u (s .args .at) (s .args .kind) (s .args .size) (p .0, p .1, p .2) (branchOf (now (s .args .work)) (s .args .count)) (p .3) _ (c .before .open-fault .ensures) (c .if1 .taken), ((λ z. absurd (c .if1 .taken z)), (λ z. absurd (c .if1 .taken z))))
+    let a = s .args in
+    record {
+      fault = taken-place b u (a .«record») (a .kind) (a .size) (p .0) (branchOf (now (a .work)) (a .count)) (p .1) _ (c .before .open-fault .ensures) (c .if1 .taken);
+      added = λ z. absurd (c .if1 .taken z);
+      fine = λ z. absurd (c .if1 .taken z);
+    }
 
 add-step-fault-two : tie.Need-add-step-fault-two
 add-step-fault-two c = search needs
@@ -38,7 +43,13 @@ returns-2 c =
     let b = now (s .args .ticket) in
     let u = asked b (s .args .s) in
     let p = s .pre .1 .1 in
-    (taken-form b u (s .args .at) (s .args .kind) (s .args .size) (p .0, p .1, p .2) (branchOf (now (s .args .work)) (s .args .count)) (p .3) (sym (c .before .before .if1 .left) ∙ c .before .before .before .open-fault .ensures) _ (c .before .step-fault-two .ensures) (c .if2 .taken), ((λ z. absurd (c .if2 .taken z)), (λ z. absurd (c .if2 .taken z))))
+    let a = s .args in
+    let place = sym (c .before .before .if1 .left) ∙ c .before .before .before .open-fault .ensures in
+    record {
+      fault = taken-form b u (a .«record») (a .kind) (a .size) (p .0) (branchOf (now (a .work)) (a .count)) (p .1) place _ (c .before .step-fault-two .ensures) (c .if2 .taken);
+      added = λ z. absurd (c .if2 .taken z);
+      fine = λ z. absurd (c .if2 .taken z);
+    }
 
 add-take-child : tie.Need-add-take-child
 add-take-child c = search needs
@@ -51,8 +62,8 @@ take-child-requires c κs =
     let u = asked b (s .args .s) in
     let p = s .pre .1 .1 in
     let e = sym (c .before .if2 .left) ∙ c .before .before .step-fault-two .ensures in
-    let formed = its-form b u (s .args .at) (s .args .kind) (s .args .size) (p .0, p .1, p .2) _ e in
-    (record { posed = s .pre .0; formed = formed; fine = s .pre .1 .0 }, its-child b u (s .args .at) (s .args .kind) (s .args .size) (p .0, p .1, p .2) e)
+    let formed = its-form b u (s .args .«record») (s .args .kind) (s .args .size) (p .0) _ e in
+    (record { posed = s .pre .0; formed = formed; fine = s .pre .1 .0 }, its-child b u (s .args .«record») (s .args .kind) (s .args .size) (p .0) e)
 
 same-length : tie.Need-same-length
 same-length c = search needs
@@ -64,7 +75,15 @@ returns-3 c =
     let b = now (s .args .ticket) in
     let u = asked b (s .args .s) in
     let p = s .pre .1 .1 in
-    (c .before .take-child .ensures .0 ∙ taken-step b u (s .args .at) (s .args .kind) (s .args .size) (p .0, p .1, p .2) (branchOf (now (s .args .work)) (s .args .count)) (p .3) (sym (c .before .before .before .before .before .if1 .left) ∙ c .before .before .before .before .before .before .open-fault .ensures) (sym (c .before .before .before .if2 .left) ∙ c .before .before .before .before .step-fault-two .ensures), c .before .take-child .ensures .1)
+    let a = s .args in
+    let f = c .before .take-child .ensures in
+    let place = sym (c .before .before .before .before .before .if1 .left) ∙ c .before .before .before .before .before .before .open-fault .ensures in
+    let form = sym (c .before .before .before .if2 .left) ∙ c .before .before .before .before .step-fault-two .ensures in
+    record {
+      fault = f .fault ∙ taken-step b u (a .«record») (a .kind) (a .size) (p .0) (branchOf (now (a .work)) (a .count)) (p .1) place form;
+      added = f .added;
+      fine = f .fine;
+    }
 
 pub follow-record-spec : {M : Type 1} → statement M
 follow-record-spec =

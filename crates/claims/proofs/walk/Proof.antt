@@ -34,7 +34,7 @@ new-requires c κs = c .before .pre .1 .0 .0 .few
 loop-holds : tie.Need-loop-holds Inv-loop μ-loop
 loop-holds c =
     let s = c .before .before in
-    starts (now (s .args .ticket)) (s .args .s) (now (s .args .work)) (c .new .result) (s .args .r) (s .args .at) (s .pre .0) (s .pre .1 .0 .0) (s .pre .1 .0 .1) (c .new .ensures .0) (c .new .ensures .1) (s .pre .1 .1)
+    starts (now (s .args .ticket)) (s .args .s) (now (s .args .work)) (c .new .result) (s .args .r) (s .args .«record») (s .pre .0) (s .pre .1 .0 .0) (s .pre .1 .0 .1) (c .new .ensures .0) (c .new .ensures .1) (s .pre .1 .1)
 
 read-at-requires : tie.Need-read-at-requires Inv-loop μ-loop
 read-at-requires c κs = search needs

@@ -31,7 +31,7 @@ same-length c = search needs
 returns : tie.Need-returns
 returns c =
     let p = c .before .before in
-    let h = p .before .before .before .before .pre .0 in (
+    let h = p .before .before .before .before .pre .ready in (
       eight (before h) (given h) (p .conclusion .result) (row p) (p .conclusion .ensures) (not-true _ (c .if1 .taken)),
       ((λ z. absurd (omega arith)), (λ z. absurd (omega arith))),
     )
@@ -48,7 +48,7 @@ same-length-2 c = search needs
 returns-2 : tie.Need-returns-2
 returns-2 c =
     let p = c .before .before .before .before .before in
-    let h = p .before .before .before .before .pre .0 in (
+    let h = p .before .before .before .before .pre .ready in (
       nine (before h) (given h) (p .conclusion .result) (row p) (p .conclusion .ensures) (not-false _ (c .before .before .before .if1 .left)) (sym (c .before .fact-within .ensures) ∙ not-true _ (c .if2 .taken)),
       ((λ z. absurd (omega arith)), (λ z. absurd (omega arith))),
     )
@@ -59,7 +59,7 @@ same-length-3 c = search needs
 returns-3 : tie.Need-returns-3
 returns-3 c =
     let p = c .before .before .before .before .before .before in
-    let h = p .before .before .before .before .pre .0 in
+    let h = p .before .before .before .before .pre .ready in
     let n = length-branch (now (c .before .before .before .before .before .before .before .before .before .before .args .work)) (c .before .before .before .before .before .before .before .before .before .before .args .count) in (
       ten (before h) (given h) (p .conclusion .result) (row p) (p .conclusion .ensures) (not-false _ (c .before .before .before .before .if1 .left)) (sym (c .before .before .fact-within .ensures) ∙ not-false _ (c .before .if2 .left)) (rw n (c .if3 .taken)),
       ((λ z. absurd (omega arith)), (λ z. absurd (omega arith))),
@@ -78,7 +78,7 @@ returns-4 : tie.Need-returns-4
 returns-4 c =
     let s = c .before .before .before .before .before .before .before .before .before .before .before .before .before .before in
     let p = c .before .before .before .before .before .before .before .before .before .before in
-    let h = p .before .before .before .before .pre .0 in
+    let h = p .before .before .before .before .pre .ready in
     let w = now (s .args .work) in
     let n = length-branch w (s .args .count) in
     let fit = not-false (p .conclusion .result) (c .before .before .before .before .before .before .before .before .if1 .left) in

@@ -15,8 +15,8 @@ use Rattle.conclusions.proofs.sum.Statement.{statement}
 use Rattle.conclusions.proofs.sum.Tie as tie
 
 -- the body by its fields
-body : (c : tie.After-shared-slice-known) → SumBody (now (c .before .args .ticket)) (c .before .args .at) (c .before .args .size)
-body c = sum-body (now (c .before .args .ticket)) (c .before .args .at) (c .before .args .size) 0 0 (c .before .pre .1 .0 .1) (c .before .pre .1 .0 .2)
+body : (c : tie.After-shared-slice-known) → SumBody (now (c .before .args .ticket)) (c .before .args .body) (c .before .args .size)
+body c = sum-body (now (c .before .args .ticket)) (c .before .args .body) (c .before .args .size) 0 0 (c .before .pre .1 .0 .1) (c .before .pre .1 .0 .2)
 
 add-u32-at : tie.Need-add-u32-at
 add-u32-at c = omega (arith, c .before .pre .1 .0 .0, body c .some-pair)
@@ -50,8 +50,8 @@ returns : tie.Need-returns
 returns c =
     let a = c .before .before .before .before .before .args in
     let b = now (a .ticket) in
-    λ (u : Question). sum-made u (branchOf (now (a .work)) (a .count)) (u32 b (a .at + 4)) (sumPairs b (a .at) (a .size)) (c .before .sum-row .result) (c .before .sum-row .last .0)
-    (c .before .sum-row .ensures ∙ ap (λ (d : ℕ). sumFact (branchOf (now (a .work)) (a .count)) d (sumPairs b (a .at) (a .size))) (c .before .before .before .u32-at .ensures .0))
+    λ (u : Question). sum-made u (branchOf (now (a .work)) (a .count)) (u32 b (a .body + 4)) (sumPairs b (a .body) (a .size)) (c .before .sum-row .result) (c .before .sum-row .last .0)
+    (c .before .sum-row .ensures ∙ ap (λ (d : ℕ). sumFact (branchOf (now (a .work)) (a .count)) d (sumPairs b (a .body) (a .size))) (c .before .before .before .u32-at .ensures .0))
 
 pub sum-spec : {M : Type 1} → statement M
 sum-spec =

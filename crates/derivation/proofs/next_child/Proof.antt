@@ -1,9 +1,10 @@
 -- `derivation::next_child` meets its contract.
 use borrow.Author.Needs.{needs}
 use mathlib.Core.Path.{_∙_, ap}
+use Rattle.format.specs.StepForms.{ruleOf}
 use Rattle.branch.specs.Stack.{begunOf}
 use Rattle.derivation.proofs.Holding.{few-splits}
-use Rattle.derivation.proofs.Closing.{record-stands, cut-depth, puts-next, next-begins}
+use Rattle.derivation.proofs.Closing.{record-stands, rule-stands, cut-depth, puts-next, next-begins}
 use Rattle.derivation.proofs.next_child.Statement.{statement}
 use Rattle.derivation.proofs.next_child.Tie as tie
 
@@ -12,13 +13,25 @@ latest-requires c κs =
     let s = c .before in
     (s .pre .1, few-splits (s .pre .0))
 
-cast-at : tie.Need-cast-at
-cast-at c = search needs
+cast-record : tie.Need-cast-record
+cast-record c = search needs
 
 u32-at-requires : tie.Need-u32-at-requires
 u32-at-requires c κs =
     let s = c .before .before .before in
     record-stands (s .pre .0) (s .pre .1) (c .before .latest .result) (c .before .latest .ensures)
+
+add-u16-at : tie.Need-add-u16-at
+add-u16-at c = search needs
+
+u16-at-requires : tie.Need-u16-at-requires
+u16-at-requires c κs =
+    let s = c .before .before .before .before in
+    let split = c .before .before .latest in
+    rule-stands (s .pre .0) (s .pre .1) (split .result) (split .ensures)
+
+rule-of-requires : tie.Need-rule-of-requires
+rule-of-requires c κs = search needs
 
 add-put-child : tie.Need-add-put-child
 add-put-child c = search needs
@@ -31,17 +44,20 @@ cast-put-child-2 c = search needs
 
 put-child-requires : tie.Need-put-child-requires
 put-child-requires c κs =
-    let s = c .before .before .before .before .before .before .before in
-    puts-next (s .pre .0) (s .pre .1) (c .before .before .before .before .before .latest .result) (c .before .before .before .before .before .latest .ensures) (c .before .before .before .u32-at .result) (c .before .before .before .u32-at .ensures .0)
+    let s = c .before .before .before .before .before .before .before .before .before in
+    let split = c .before .before .before .before .before .before .before .latest in
+    let size = c .before .before .before .before .before .u32-at in
+    let rule = c .before .before .before .rule-of in
+    puts-next (s .pre .0) (s .pre .1) (split .result) (split .ensures) (rule .result) (rule .ensures ∙ ap ruleOf (c .before .before .before .before .u16-at .ensures .0)) (size .result) (size .ensures .0)
 
 cut-back-requires : tie.Need-cut-back-requires
 cut-back-requires c κs =
-    let s = c .before .before .before .before .before .before .before .before .before in
+    let s = c .before .before .before .before .before .before .before .before .before .before .before in
     (s .pre .1, few-splits (s .pre .0))
 
 take-next-child-requires : tie.Need-take-next-child-requires
 take-next-child-requires c κs =
-    let s = c .before .before .before .before .before .before .before .before .before .before in
+    let s = c .before .before .before .before .before .before .before .before .before .before .before .before in
     let same = cut-depth (s .args .b) (c .cut-back .result) (c .cut-back .ensures .1) in
     (rw same (s .pre .1), rw same (few-splits (s .pre .0)))
 
@@ -53,9 +69,11 @@ same-length c = search needs
 
 returns : tie.Need-returns
 returns c =
-    let s = c .before .before .before .before .before .before .before .before .before .before .before .before in
+    let s = c .before .before .before .before .before .before .before .before .before .before .before .before .before .before in
+    let split = c .before .before .before .before .before .before .before .before .before .before .before .before .latest in
+    let size = c .before .before .before .before .before .before .before .before .before .before .u32-at in
     let f = c .before .before .before .before .put-child in
-    next-begins (s .pre .0) (s .pre .1) (c .before .before .before .before .before .before .before .before .before .before .latest .result) (c .before .before .before .before .before .before .before .before .before .before .latest .ensures) (f .last .1 .1 .1 .1 .0) (c .extend .result) (c .before .before .before .before .before .before .before .before .u32-at .result) (f .result) (c .before .before .before .before .before .before .before .before .u32-at .ensures .0) (c .extend .ensures .0) (f .ensures .0) (f .ensures .1)
+    next-begins (s .pre .0) (s .pre .1) (split .result) (split .ensures) (f .last .1 .1 .1 .1 .1 .0) (c .extend .result) (size .result) (f .result) (size .ensures .0) (c .extend .ensures .0) (f .ensures .0) (f .ensures .1)
     (c .extend .ensures .1 ∙ c .before .take-next-child .ensures .1 ∙ ap begunOf (c .before .before .cut-back .ensures .1))
 
 pub next-child-spec : {M : Type 1} → statement M
@@ -63,8 +81,11 @@ next-child-spec =
     tie.close
     (tie.spec
     latest-requires
-    cast-at
+    cast-record
     u32-at-requires
+    add-u16-at
+    u16-at-requires
+    rule-of-requires
     add-put-child
     cast-put-child
     cast-put-child-2

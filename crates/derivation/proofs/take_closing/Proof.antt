@@ -17,8 +17,7 @@ add-closes c = search needs
 
 closes-requires : tie.Need-closes-requires
 closes-requires c κs =
-    let s = c .before in
-    (s .pre .0 .0, s .pre .1)
+    c .before .pre .0
 
 returns : tie.Need-returns
 unfolding Acts
@@ -26,7 +25,7 @@ returns c =
     let s = c .before .before .before in
     let a = s .args in
     let b = now (a .ticket) in
-    (step-open b (asked b (a .s)) (branchOf (now (a .work)) (a .count)) (a .at) (a .size) (s .pre .0 .1) (ap closingOf (sym (not-true _ (c .if1 .taken))) ∙ c .before .closes .ensures), λ pending n. omega arith)
+    (step-open b (asked b (a .s)) (branchOf (now (a .work)) (a .count)) (a .«record») (a .size) (s .pre .1) (ap closingOf (sym (not-true _ (c .if1 .taken))) ∙ c .before .closes .ensures), λ pending n. omega arith)
 
 returns-2 : tie.Need-returns-2
 unfolding Acts
@@ -37,7 +36,7 @@ returns-2 c =
     let u = asked b (a .s) in
     let br = branchOf (now (a .work)) (a .count) in
     let e = ap closingOf (sym (not-false _ (c .if1 .left))) ∙ c .before .closes .ensures in
-    (step-closes b u br (a .at) (a .size) (s .pre .0 .1) e, λ pending. (no-children b u br (a .at) (a .size) (s .pre .0 .1) e, refl))
+    (step-closes b u br (a .«record») (a .size) (s .pre .1) e, λ pending. (no-children b u br (a .«record») (a .size) (s .pre .1) e, refl))
 
 pub take-closing-spec : {M : Type 1} → statement M
 take-closing-spec = tie.close (tie.spec add-closes closes-requires returns returns-2)

@@ -2,10 +2,14 @@
 use Prim.Native.Nat.{ℕ, _+_}
 use borrow.Author.Needs.{needs}
 use denote.Ref.{now}
-use mathlib.Core.Path.{_≡_, sym, _∙_, subst}
+use lib.ListN.{length}
+use mathlib.Core.Path.{_≡_, sym, _∙_, ap, subst}
 use native.Mathlib.Omega.{arith}
 use Rattle.rows.specs.Rows.{branchOf}
 use Rattle.question.specs.Posed.{asked}
+use Rattle.calculus.specs.Steps.{shape}
+use Rattle.format.specs.StepForms.{stepAt}
+use Rattle.steps.proofs.Bodies.{its-kind, form-fits, shape-by}
 use Rattle.steps.proofs.Children.{few-children}
 use Rattle.steps.proofs.Concluding.{some-child}
 use Rattle.derivation.specs.Ok.{Splits}
@@ -15,8 +19,14 @@ use Rattle.derivation.proofs.Taking.{numbered, its-splits, room-to-pend
 use Rattle.derivation.proofs.take_split.Statement.{statement}
 use Rattle.derivation.proofs.take_split.Tie as tie
 
+-- how many children the step's form shows
+counted : (c : tie.After-child-count) → let s = c .before .before .before .before .before in c .child-count .result ≡ length (shape (s .args .s .n) (stepAt (now (s .args .ticket)) (s .args .«record» + 6) (s .args .size)))
+counted c =
+    let s = c .before .before .before .before .before in
+    c .child-count .ensures (now (s .args .ticket)) (s .args .«record» + 6) ∙ ap length (shape-by (s .pre .0) (s .args .s .n))
+
 -- none of 8 to 10 applies: the step splits the branch, as its form shows
-splits : (c : tie.After-child-count) → let s = c .before .before .before .before .before in let b = now (s .args .ticket) in Splits b (asked b (s .args .s)) (branchOf (now (s .args .work)) (s .args .count)) (s .args .at) (c .child-count .result)
+splits : (c : tie.After-child-count) → let s = c .before .before .before .before .before in let b = now (s .args .ticket) in Splits b (asked b (s .args .s)) (branchOf (now (s .args .work)) (s .args .count)) (s .args .«record») (c .child-count .result)
 unfolding asked
 splits c =
     let s = c .before .before .before .before .before in
@@ -24,15 +34,14 @@ splits c =
     let b = now (a .ticket) in
     let u = asked b (a .s) in
     let br = branchOf (now (a .work)) (a .count) in
-    subst (λ (n : ℕ). Splits b u br (a .at) n) (sym (c .child-count .ensures)) (its-splits b u br (a .at) (a .size) (a .pending) (s .pre .0 .1) (s .pre .0 .0 .formed) (sym (c .before .before .split-fault .ensures) ∙ c .before .if1 .left))
+    subst (λ (n : ℕ). Splits b u br (a .«record») n) (sym (counted c)) (its-splits b u br (a .«record») (a .size) (a .pending) (s .pre .1) (s .pre .0 .ready .formed) (sym (c .before .before .split-fault .ensures) ∙ c .before .if1 .left))
 
 add-split-fault : tie.Need-add-split-fault
 add-split-fault c = search needs
 
 split-fault-requires : tie.Need-split-fault-requires
 split-fault-requires c κs =
-    let s = c .before .before in
-    (s .pre .0 .0, s .pre .1)
+    c .before .before .pre .0
 
 same-length : tie.Need-same-length
 same-length c = search needs
@@ -44,13 +53,10 @@ returns c =
     let a = s .args in
     let b = now (a .ticket) in
     let u = asked b (a .s) in
-    (numbered b u (branchOf (now (a .work)) (a .count)) (a .at) (a .size) (s .pre .0 .1) (a .pending) (c .before .split-fault .result) (c .before .split-fault .ensures), c .if1 .taken)
-
-add-child-count : tie.Need-add-child-count
-add-child-count c = search needs
+    (numbered b u (branchOf (now (a .work)) (a .count)) (a .«record») (a .size) (s .pre .1) (a .pending) (c .before .split-fault .result) (c .before .split-fault .ensures), c .if1 .taken)
 
 child-count-requires : tie.Need-child-count-requires
-child-count-requires c κs = let h = c .before .before .before .before .pre .0 .0 in (h .formed .within, h .formed .fits)
+child-count-requires c κs = form-fits (c .before .before .before .before .pre .0)
 
 add-put-child : tie.Need-add-put-child
 add-put-child c = search needs
@@ -59,8 +65,8 @@ put-child-requires : tie.Need-put-child-requires
 put-child-requires c κs =
     let s = c .before .before .before .before .before .before in
     let a = s .args in
-    puts (now (a .ticket)) (a .s) (now (a .work)) (a .at) (c .before .child-count .result) 1 (a .size) (a .count) (s .pre .0 .0 .posed) (splits (c .before)) (s .pre .1) (s .pre .0 .0 .fine) (omega arith)
-    (rw (c .before .child-count .ensures) (some-child (now (a .ticket)) (a .s .n) (a .at + 6) (a .size) (s .pre .0 .0 .formed .fits) (s .pre .1))) (s .pre .0 .1)
+    puts (a .rule) (now (a .ticket)) (a .s) (now (a .work)) (a .«record») (c .before .child-count .result) 1 (a .size) (a .count) (s .pre .0 .ready .posed) (splits (c .before)) (s .pre .0 .named) (its-kind (s .pre .0)) (s .pre .0 .ready .fine) (omega arith)
+    (rw (counted (c .before)) (some-child (now (a .ticket)) (a .s .n) (a .«record» + 6) (a .size) (s .pre .0 .ready .formed .fits) (its-kind (s .pre .0)))) (s .pre .1)
 
 same-length-2 : tie.Need-same-length-2
 same-length-2 c = search needs
@@ -74,10 +80,10 @@ returns-2 c =
     let u = asked b (a .s) in
     let br = branchOf (now (a .work)) (a .count) in
     let f = c .before .before .put-child in
-    let last = c .before .before .before .before .child-count .ensures in
-    let one : c .before .before .before .before .child-count .result ≡ 1 = omega (arith, c .if2 .taken, last, some-child b (a .s .n) (a .at + 6) (a .size) (s .pre .0 .0 .formed .fits) (s .pre .1)) in (
-      numbered b u br (a .at) (a .size) (s .pre .0 .1) (a .pending) 0 (sym (c .before .before .before .before .before .if1 .left) ∙ c .before .before .before .before .before .before .split-fault .ensures),
-      first-begins b u br (a .at) (a .size) (s .pre .0 .1) 1 (subst (λ (n : ℕ). Splits b u br (a .at) n) one (splits (c .before .before .before .before))) (f .last .1 .1 .1 .1 .0) (f .result) (f .ensures .0) (f .ensures .1),
+    let last = counted (c .before .before .before .before) in
+    let one : c .before .before .before .before .child-count .result ≡ 1 = omega (arith, c .if2 .taken, last, some-child b (a .s .n) (a .«record» + 6) (a .size) (s .pre .0 .ready .formed .fits) (its-kind (s .pre .0))) in (
+      numbered b u br (a .«record») (a .size) (s .pre .1) (a .pending) 0 (sym (c .before .before .before .before .before .if1 .left) ∙ c .before .before .before .before .before .before .split-fault .ensures),
+      first-begins b u br (a .«record») (a .size) (s .pre .1) 1 (subst (λ (n : ℕ). Splits b u br (a .«record») n) one (splits (c .before .before .before .before))) (f .last .1 .1 .1 .1 .1 .0) (f .result) (f .ensures .0) (f .ensures .1),
     )
 
 same-length-3 : tie.Need-same-length-3
@@ -92,17 +98,17 @@ returns-3 c =
     let u = asked b (a .s) in
     let br = branchOf (now (a .work)) (a .count) in
     let f = c .before .before .put-child in
-    let last = c .before .before .before .before .child-count .ensures in
+    let last = counted (c .before .before .before .before) in
     let two = c .if2 .left in
     let tried = sym (c .before .before .before .before .before .before .split-fault .ensures) ∙ c .before .before .before .before .before .if1 .left in (
-      numbered b u br (a .at) (a .size) (s .pre .0 .1) (a .pending) 0 (sym tried),
+      numbered b u br (a .«record») (a .size) (s .pre .1) (a .pending) 0 (sym tried),
       (
-        first-begins b u br (a .at) (a .size) (s .pre .0 .1) (c .before .before .before .before .child-count .result) (splits (c .before .before .before .before)) (f .last .1 .1 .1 .1 .0) (f .result) (f .ensures .0) (f .ensures .1),
+        first-begins b u br (a .«record») (a .size) (s .pre .1) (c .before .before .before .before .child-count .result) (splits (c .before .before .before .before)) (f .last .1 .1 .1 .1 .1 .0) (f .result) (f .ensures .0) (f .ensures .1),
         record {
-          several = s .pre .1;
+          several = its-kind (s .pre .0);
           two = two;
-          few = omega (arith, last, few-children b (a .s .n) (a .at + 6) (a .size) (s .pre .0 .0 .formed .fits));
-          room = room-to-pend b u br (a .at) (a .size) (a .pending) (s .pre .0 .1) (s .pre .0 .0 .formed) tried (rw last at two);
+          few = omega (arith, last, few-children b (a .s .n) (a .«record» + 6) (a .size) (s .pre .0 .ready .formed .fits));
+          room = room-to-pend b u br (a .«record») (a .size) (a .pending) (s .pre .1) (s .pre .0 .ready .formed) tried (rw last at two);
         },
       ),
     )
@@ -115,7 +121,6 @@ take-split-spec =
     split-fault-requires
     same-length
     returns
-    add-child-count
     child-count-requires
     add-put-child
     put-child-requires

@@ -1,24 +1,34 @@
 -- `derivation::take_step` meets its contract.
-use Prim.Native.Nat.{ℕ, _+_}
+use Prim.Native.Nat.{_+_}
 use borrow.Author.Needs.{needs}
 use denote.Ref.{now}
-use mathlib.Core.Path.{_≡_, sym, _∙_, ap}
+use mathlib.Core.Path.{_∙_, _≡_, ap, sym}
 use native.Mathlib.Omega.{arith}
-use Rattle.format.specs.StepForms.{ruleOf, rule}
-use Rattle.steps.specs.Conclusions.{conclusionsOf}
+use Rattle.format.specs.StepForms.{ruleOf}
+use Rattle.steps.specs.declared.Conclusions.{Conclusions}
+use Rattle.steps.specs.declared.Conclusions.the-variants.{Nothing, One, Several}
+use Rattle.steps.specs.Ready.{ReadyBy}
 use Rattle.steps.proofs.Bodies.{four-bytes}
 use Rattle.derivation.proofs.take_step.Statement.{statement}
 use Rattle.derivation.proofs.take_step.Tie as tie
 
--- how many conclusions the rule has
-said : (c : tie.After-conclusions-of) → conclusionsOf (rule (now (c .before .before .before .args .ticket)) (c .before .before .before .args .at + 6)) ≡ c .conclusions-of .result
-said c = sym (c .conclusions-of .ensures ∙ ap (λ (k : ℕ). conclusionsOf (ruleOf k)) (c .before .u16-at .ensures .0))
+-- the step by its rule, which has so many conclusions
+ready-by : (c : tie.After-conclusions-of) (k : Conclusions) → c .conclusions-of .result ≡ k → let a = c .before .before .before .before .args in ReadyBy (c .before .rule-of .result) k (now (a .ticket)) (a .s) (a .«record» + 6) (a .size) (now (a .work)) (a .count)
+ready-by c k e =
+    record {
+      ready = c .before .before .before .before .pre .0;
+      named = c .before .rule-of .ensures ∙ ap ruleOf (c .before .before .u16-at .ensures .0);
+      concludes = sym (c .conclusions-of .ensures) ∙ e;
+    }
 
 add-u16-at : tie.Need-add-u16-at
 add-u16-at c = search needs
 
 u16-at-requires : tie.Need-u16-at-requires
 u16-at-requires c κs = omega (arith, four-bytes (c .before .pre .0))
+
+rule-of-requires : tie.Need-rule-of-requires
+rule-of-requires c κs = search needs
 
 conclusions-of-requires : tie.Need-conclusions-of-requires
 conclusions-of-requires c κs = search needs
@@ -27,35 +37,31 @@ enum-told : tie.Need-enum-told
 enum-told c = search needs
 
 take-closing-requires : tie.Need-take-closing-requires
-take-closing-requires c κs = (c .before .before .before .before .before .before .pre, said (c .before .before .before) ∙ c .before .enum-told .given .1)
+take-closing-requires c κs = (ready-by (c .before .before .before) Nothing (c .before .enum-told .given .1), c .before .before .before .before .before .before .before .pre .1)
 
 enum-told-2 : tie.Need-enum-told-2
 enum-told-2 c = search needs
 
 take-conclusion-requires : tie.Need-take-conclusion-requires
-take-conclusion-requires c κs = (c .before .before .before .before .before .before .pre, said (c .before .before .before) ∙ c .before .enum-told2 .given .1)
+take-conclusion-requires c κs = (ready-by (c .before .before .before) One (c .before .enum-told2 .given .1), c .before .before .before .before .before .before .before .pre .1)
 
 enum-told-3 : tie.Need-enum-told-3
 enum-told-3 c = search needs
 
 take-split-requires : tie.Need-take-split-requires
-take-split-requires c κs = (c .before .before .before .before .before .before .pre, said (c .before .before .before) ∙ c .before .enum-told3 .given .1)
+take-split-requires c κs = (ready-by (c .before .before .before) Several (c .before .enum-told3 .given .1), c .before .before .before .before .before .before .before .pre .1)
 
 same-length : tie.Need-same-length
 same-length c = search needs
 
 returns : tie.Need-returns
-returns c =
-    let s = c .before .before .before .before .before .before .before in
-    (c .take-closing .ensures .0 (s .args .pending), c .take-closing .ensures .1 (s .args .pending))
+returns c = let s = c .before .before .before .before .before .before .before .before in (c .take-closing .ensures .0 (s .args .pending), c .take-closing .ensures .1 (s .args .pending))
 
 same-length-2 : tie.Need-same-length-2
 same-length-2 c = search needs
 
 returns-2 : tie.Need-returns-2
-returns-2 c =
-    let s = c .before .before .before .before .before .before .before .before in
-    (c .before .take-conclusion .ensures .0 (s .args .pending), c .before .take-conclusion .ensures .1 (s .args .pending))
+returns-2 c = let s = c .before .before .before .before .before .before .before .before .before in (c .before .take-conclusion .ensures .0 (s .args .pending), c .before .take-conclusion .ensures .1 (s .args .pending))
 
 same-length-3 : tie.Need-same-length-3
 same-length-3 c = search needs
@@ -69,6 +75,7 @@ take-step-spec =
     (tie.spec
     add-u16-at
     u16-at-requires
+    rule-of-requires
     conclusions-of-requires
     enum-told
     take-closing-requires

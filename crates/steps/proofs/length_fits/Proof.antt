@@ -13,8 +13,8 @@ use Rattle.steps.proofs.length_fits.Tie as tie
 returns : tie.Need-returns
 returns c =
     let s = c .before .before in
-    let h = least-four (rule (now (s .args .b)) (s .args .at)) in
-    rw (lt-leb (formFor (rule (now (s .args .b)) (s .args .at)) .least) (s .args .size) (omega arith))
+    let h = least-four (rule (now (s .args .b)) (s .args .body)) in
+    rw (lt-leb (formFor (rule (now (s .args .b)) (s .args .body)) .least) (s .args .size) (omega arith))
 
 u16-at-requires : tie.Need-u16-at-requires
 u16-at-requires c κs = search needs

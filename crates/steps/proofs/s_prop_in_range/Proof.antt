@@ -20,7 +20,7 @@ u16-at-requires c κs = search needs
 returns : tie.Need-returns
 unfolding operandsInRange
 returns c =
-    λ k m. rw (lt-leb (u16 (now (c .before .before .before .args .b)) (c .before .before .before .args .at + 4)) 1 (omega arith))
+    λ k m. rw (lt-leb (u16 (now (c .before .before .before .args .b)) (c .before .before .before .args .body + 4)) 1 (omega arith))
 
 add-variables-below : tie.Need-add-variables-below
 add-variables-below c = search needs
@@ -32,8 +32,8 @@ returns-2 : tie.Need-returns-2
 unfolding operandsInRange
 returns-2 c =
     let s = c .before .before .before .before in
-    λ k m. c .variables-below .ensures ∙ ap (areVariables (s .args .p)) (two-variables (now (s .args .b)) (s .args .at) 6)
-    ∙ sym (rw (le-leb (u16 (now (s .args .b)) (s .args .at + 4)) 1 (omega arith)))
+    λ k m. c .variables-below .ensures ∙ ap (areVariables (s .args .p)) (two-variables (now (s .args .b)) (s .args .body) 6)
+    ∙ sym (rw (le-leb (u16 (now (s .args .b)) (s .args .body + 4)) 1 (omega arith)))
 
 pub s-prop-in-range-spec : {M : Type 1} → statement M
 s-prop-in-range-spec =
