@@ -1,5 +1,5 @@
 -- The columns' values of an answer of its form and in its ranges lie within ±100,000,000.
-use Prim.Native.Nat.{ℕ, zero, suc, _+_, _*_, _/_, _%_, _≤_}
+use Prim.Native.Nat.{ℕ, zero, suc, _+_, _*_, _/_, _%_, _<_, _≤_}
 use native.Mathlib.Omega.{arith}
 use mathlib.Core.Path.{_≡_, refl, _∙_, ap}
 use mathlib.Core.Bool.{Bool, true, false, _&&_}
@@ -8,12 +8,13 @@ use mathlib.Core.List.{List, [], _∷_, _++_, map}
 use lib.ListN.{getD}
 use lib.Dec.{leb, eqb}
 use lib.IntN.{pos, natAbs}
-use borrow.Author.Tests.{leb-true, ltb-true}
+use borrow.Author.Tests.{leb-true}
 use Rattle.lists.specs.Lists.{All}
 use Rattle.lists.proofs.Lists.{all-append, all-getD}
-use Rattle.lists.proofs.Tests.{and-both}
+use Rattle.lists.proofs.Tests.{true→, and-both}
 use Rattle.calculus.specs.Limits.{lengthLimit, valueLimit, alphabetLimit, Small}
 use Rattle.calculus.specs.Alphabet.{isCharacter, allCharacters}
+use Rattle.calculus.proofs.Alphabet.{character-below, character→}
 use Rattle.calculus.specs.Facts.{Question, valueOf, len, code, codeOf}
 use Rattle.format.specs.Fields.{allWithin}
 use Rattle.format.specs.Records.{size, kind, next, whole}
@@ -59,7 +60,7 @@ small-lengths b q (suc p) at e =
 small-code : (n : ℕ) (s : List ℕ) → n ≤ alphabetLimit → allCharacters n s ≡ true → Small valueLimit (codeOf s)
 unfolding allCharacters
 small-code n [] h e = omega arith
-small-code n (c ∷ []) h e = let t = ltb-true c n (and-both (isCharacter n c) true e .0) in omega arith
+small-code n (c ∷ []) h e = let t : c < n = character-below n c (character→ n c (true→ (and-both (isCharacter n c) true e .0))) in omega arith
 small-code n (c ∷ d ∷ s) h e = omega arith
 
 small-codes : (n : ℕ) (ss : List (List ℕ)) → n ≤ alphabetLimit → All (λ s. allCharacters n s ≡ true) ss → All (Small valueLimit) (map (valueOf code) ss)

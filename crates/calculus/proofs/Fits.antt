@@ -4,7 +4,7 @@ use native.Mathlib.Omega.{arith}
 use mathlib.Core.Path.{_≡_, refl, sym, _∙_, ap, ap₂, subst}
 use mathlib.Core.Logic.{_⊎_, inl, inr}
 use mathlib.Core.Bool.{Bool, true, false, not, _&&_}
-use mathlib.Core.Option.{some}
+use mathlib.Core.Option.{Option, none, some}
 use mathlib.Core.List.{List, [], _∷_}
 use lib.ListN.{length, getElem?}
 use lib.Dec.{T, leb, eqb}
@@ -12,20 +12,22 @@ use lib.IntN.{ℤ, pos, negsuc, _+ℤ_, _*ℤ_}
 use lib.Signed.{_≤ℤ_, _<ℤ_, nonNeg}
 use borrow.Author.Tests.{leb-true, leb-false}
 use Rattle.integers.proofs.Laws.{minus-one-*ℤ}
-use Rattle.lists.specs.Lists.{any}
+use Rattle.lists.proofs.Every.{some-at}
 use Rattle.lists.proofs.Options.{some-injective, none-some}
 use Rattle.lists.proofs.Lists.{all-at}
-use Rattle.lists.proofs.Tests.{and→, →and, or→, →or-left, →or-right}
+use Rattle.lists.proofs.Tests.{→true, true→, and→, →and, or→, →or-left, →or-right}
 use Rattle.calculus.specs.Limits.{columnLimit}
 use Rattle.calculus.specs.Alphabet.{characterCount}
 use Rattle.calculus.specs.LinearForms.{plus, scale, minus, isZero, eqIntegers, allZero}
-use Rattle.calculus.specs.Facts.{Question, Fact, same, notSame, isLiteral, arithmetic, Branch, Relation, ge, eq, ne, Function, len, code, holds, apply, Holds}
+use Rattle.calculus.specs.Facts.{Question, Fact, same, notSame, isLiteral, arithmetic, Branch, lowestFact, Relation, ge, eq, ne, Function, len, code, holds, columnOf, apply, Holds}
 use Rattle.calculus.specs.Chains.{varNode}
 use Rattle.calculus.specs.Classes.{labels, sameClass, classLiteral, conflict}
 use Rattle.calculus.specs.Steps.{Step, Sum, BranchOn, Apart, AConf, SConf, SProp, LIntro, LValid, CCollapse, CValid, CInj, Card, Join}
 use Rattle.calculus.specs.Children.{sumChild, literalChild, pairChildren, boundChild}
-use Rattle.calculus.specs.Rules.{guard, then, summand, sumOf, divided, isFalse, joinOf, statesZero, sameLength, neighbours, distinct, leastPower, lastChild, cardChildren, children, apartOf, statesEqual}
+use Rattle.calculus.specs.Rules.{guard, then, summand, sumOf, divided, isFalse, joinOf, statesZero, statesDifference, found, sameLength, neighbours, distinct, leastPower, lastChild, cardChildren, children, apartOf, statesEqual}
 use Rattle.calculus.specs.Instances.{entry, FactAt, Stands, Multiplier, Summands, IsSum, IsApart, IsAConf, IsClassLiteral, LengthsStated, Neighbours, LastChild, IsJoin, Instance, StepInRange}
+use Rattle.calculus.proofs.Alphabet.{some-character}
+use Rattle.calculus.proofs.Searches.{found-any, lowest-passes}
 use Rattle.calculus.proofs.InRange.{HeadInRange, FactInRange, FactsInRange}
 use Rattle.calculus.proofs.Tests.{guard→, →guard, then→, →then, differ→, →differ, distinct→, →distinct}
 use Rattle.calculus.proofs.LinearForms.{eqIntegers→, →eqIntegers}
@@ -150,35 +152,39 @@ states→ e (arithmetic ge g) t = absurd t
 states→ e (arithmetic eq g) t = ap (arithmetic eq) (sym (eqIntegers→ e g t))
 states→ e (arithmetic ne g) t = absurd t
 
-stated→ : (e : List ℤ) (b : Branch) → T (any (statesZero e) b) → Stands b (arithmetic eq e)
-stated→ e [] t = absurd t
-stated→ e (f ∷ b) t = go (or→ (statesZero e f) (any (statesZero e) b) t) (stated→ e b)
-  where
-    go : T (statesZero e f) ⊎ T (any (statesZero e) b) → (T (any (statesZero e) b) → Stands b (arithmetic eq e)) → Stands (f ∷ b) (arithmetic eq e)
-    go (inl s) ih = (0, ap some (states→ e f s))
-    go (inr s) ih = let (k, h) = ih s in (suc k, h)
-
-→stated : (e : List ℤ) (b : Branch) (k : ℕ) → FactAt b k (arithmetic eq e) → T (any (statesZero e) b)
-→stated e [] k h = absurd (none-some h)
-→stated e (f ∷ b) zero h = →or-left (statesZero e f) (any (statesZero e) b) (subst (λ f. T (statesZero e f)) (sym (some-injective h)) (→eqIntegers {a = e} refl))
-→stated e (f ∷ b) (suc k) h = →or-right (statesZero e f) (any (statesZero e) b) (→stated e b k h)
-
 module _ (u : Question) (b : Branch) where
-  abbrev oneWay : ℕ → ℕ → Bool
-  oneWay x y = any (statesZero (minus (apply u len x) (apply u len y))) b
+  abbrev difference : ℕ → ℕ → List ℤ
+  difference x y = minus (apply u len x) (apply u len y)
+
+  abbrev states : ℕ → ℕ → Fact → Bool
+  states x y = statesDifference (columnOf u len x) (columnOf u len y)
 
   same-length→ : (x y : ℕ) → T (sameLength u b x y) → LengthsStated u b x y
-  unfolding statesEqual
-  same-length→ x y t = go (or→ (oneWay x y) (oneWay y x) t)
+  unfolding statesEqual statesDifference
+  same-length→ x y t = go (lowestFact (states x y) b) refl t
     where
-      go : T (oneWay x y) ⊎ T (oneWay y x) → LengthsStated u b x y
-      go (inl s) = inl (stated→ (minus (apply u len x) (apply u len y)) b s)
-      go (inr s) = inr (stated→ (minus (apply u len y) (apply u len x)) b s)
+      either : (k : ℕ) (f : Fact) → FactAt b k f → T (statesZero (difference x y) f) ⊎ T (statesZero (difference y x) f) → LengthsStated u b x y
+      either k f h (inl s) = inl (k, h ∙ ap some (states→ (difference x y) f s))
+      either k f h (inr s) = inr (k, h ∙ ap some (states→ (difference y x) f s))
+
+      go : (o : Option ℕ) → lowestFact (states x y) b ≡ o → T (found o) → LengthsStated u b x y
+      go none e t = absurd t
+      go (some k) e t =
+          let (f, h, p) = lowest-passes (states x y) b k e in
+          either k f h (or→ (statesZero (difference x y) f) (statesZero (difference y x) f) (true→ p))
+
+  passing : (x y k : ℕ) (f : Fact) → FactAt b k f → T (states x y f) → T (sameLength u b x y)
+  unfolding statesEqual
+  passing x y k f h t = true→ (found-any (states x y) b ∙ some-at (states x y) b k f h (→true (states x y f) t))
 
   →same-length : (x y : ℕ) → LengthsStated u b x y → T (sameLength u b x y)
-  unfolding statesEqual
-  →same-length x y (inl (k, h)) = →or-left (oneWay x y) (oneWay y x) (→stated (minus (apply u len x) (apply u len y)) b k h)
-  →same-length x y (inr (k, h)) = →or-right (oneWay x y) (oneWay y x) (→stated (minus (apply u len y) (apply u len x)) b k h)
+  unfolding statesDifference
+  →same-length x y (inl (k, h)) =
+      let e : List ℤ = difference x y in
+      passing x y k (arithmetic eq e) h (→or-left (statesZero e (arithmetic eq e)) (statesZero (difference y x) (arithmetic eq e)) (→eqIntegers {a = e} refl))
+  →same-length x y (inr (k, h)) =
+      let e : List ℤ = difference y x in
+      passing x y k (arithmetic eq e) h (→or-right (statesZero (difference x y) (arithmetic eq e)) (statesZero e (arithmetic eq e)) (→eqIntegers {a = e} refl))
 
   neighbours→ : (x : ℕ) (ys : List ℕ) → T (neighbours u b x ys) → Neighbours u b x ys
   neighbours→ x [] t = tt
@@ -193,8 +199,10 @@ last→ u x m h = go (leb (characterCount (u .n)) 1) refl
   where
     go : (t : Bool) → leb (characterCount (u .n)) 1 ≡ t
         → LastChild u x m (elim t as (λ _. List (List Fact)) [ true ↦ [] | false ↦ boundChild u x (leastPower m (characterCount (u .n)) m 0) ])
-    go true e = inl (omega (arith, leb-true (u .n) 1 e), refl)
-    go false e = inr ((λ z. omega (arith, leb-false (u .n) 1 e)), record { power = leastPower m (u .n) m 0; least = least-power (u .n) m (leb-false (u .n) 1 e); adds = refl })
+    go true e = inl (omega (arith, some-character (u .n) h, leb-true (characterCount (u .n)) 1 e), refl)
+    go false e =
+        let many = leb-false (characterCount (u .n)) 1 e in
+        inr ((λ z. omega (arith, many)), record { power = leastPower m (characterCount (u .n)) m 0; least = least-power (characterCount (u .n)) m many; adds = refl })
 
 last-unique : (u : Question) (x m : ℕ) {c d : List (List Fact)} → LastChild u x m c → LastChild u x m d → c ≡ d
 last-unique u x m (inl (e, p)) (inl (f, q)) = p ∙ sym q

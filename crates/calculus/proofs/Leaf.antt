@@ -5,23 +5,24 @@ use native.Mathlib.Decide.{ℕ-discrete}
 use mathlib.Core.Path.{_≡_, refl, sym, _∙_, ap, subst}
 use mathlib.Core.Logic.{_≢_, _⊎_, inl, inr}
 use mathlib.Core.Option.{some}
-use mathlib.Core.List.{List, [], _∷_}
+use mathlib.Core.List.{List, [], _∷_, map}
 use lib.ListN.{getElem?}
 use lib.IntN.{ℤ, pos, negsuc, natAbs, _-ℤ_}
 use lib.Signed.{_≤ℤ_, ≤ℤ-refl}
 use Rattle.integers.proofs.Laws.{≤ℤ-pos, pos-≤ℤ, ≤ℤ-trans, -ℤ-zero→, →-ℤ-zero, -ℤ-nonneg→, abs-nonneg}
 use Rattle.lists.specs.Lists.{All, Any}
 use Rattle.lists.proofs.Options.{some-injective, none-some}
-use Rattle.calculus.specs.Alphabet.{lastCharacter, Character}
-use Rattle.calculus.specs.LinearForms.{number, minus, above, valueIn}
+use Rattle.calculus.specs.Alphabet.{lastCharacter, codeRanges, InCodes, Character}
+use Rattle.calculus.specs.LinearForms.{number, minus, less, above, valueIn}
 use Rattle.calculus.specs.Facts.{Question, Fact, Branch, Function, len, code, literal, apply, valueOf}
 use Rattle.calculus.specs.Chains.{OneClass, ClassHolds, Counts}
 use Rattle.calculus.specs.Steps.{Step, SProp, LIntro, LValid, CCollapse, CValid, CInj}
-use Rattle.calculus.specs.Children.{one, lValidChildren, cValidChildren, cInjChildren}
+use Rattle.calculus.specs.Children.{one, lValidChildren, codeChild, cValidChildren, cInjChildren}
 use Rattle.calculus.specs.Instances.{Instance}
 use Rattle.calculus.specs.Model.{modelValue}
 use Rattle.calculus.specs.Saturation.{HoldsAlready, SomeChild}
-use Rattle.calculus.proofs.LinearForms.{dot-minus, dot-number, dot-column, dot-above}
+use Rattle.calculus.proofs.LinearForms.{dot-minus, dot-number, dot-column, dot-less, dot-above}
+use Rattle.calculus.proofs.Alphabet.{ranges→}
 
 -- ---- some child holds already
 
@@ -78,8 +79,14 @@ module _ (u : Question) (m : List ℤ) where
   pub difference-in : (f : Function) (x y : ℕ) → valueIn m (minus (apply u f x) (apply u f y)) ≡ modelValue u m f x -ℤ modelValue u m f y
   difference-in f x y = dot-minus (apply u f x) (apply u f y) (pos 1 ∷ m) (apply-in f x) (apply-in f y)
 
+  pub low-in : (x k : ℕ) → valueIn m (less (apply u code x) k) ≡ modelValue u m code x -ℤ pos k
+  low-in x k = dot-less m (apply u code x) k (apply-in code x)
+
+  pub high-in : (x k : ℕ) → valueIn m (minus (number (pos k)) (apply u code x)) ≡ pos k -ℤ modelValue u m code x
+  high-in x k = dot-minus (number (pos k)) (apply u code x) (pos 1 ∷ m) (dot-number m (pos k)) (apply-in code x)
+
   pub last-in : (x : ℕ) → valueIn m (minus (number (pos (lastCharacter (u .n)))) (apply u code x)) ≡ pos (lastCharacter (u .n)) -ℤ modelValue u m code x
-  last-in x = dot-minus (number (pos (lastCharacter (u .n)))) (apply u code x) (pos 1 ∷ m) (dot-number m (pos (lastCharacter (u .n)))) (apply-in code x)
+  last-in x = high-in x (lastCharacter (u .n))
 
 module _ (u : Question) (b : Branch) (m : List ℤ) (h : ByClasses u b m) where
   abbrev M : Function → ℕ → ℤ
@@ -117,18 +124,24 @@ module _ (u : Question) (b : Branch) (m : List ℤ) (h : ByClasses u b m) where
   abbrev pub CodeValid : ℕ → Type 0
   CodeValid x = ((M len x ≢ pos 1) × (M code x ≡ negsuc 0)) ⊎ ((M len x ≡ pos 1) × ((c : ℕ) × (M code x ≡ pos c) × Character (u .n) c))
 
+  -- a child of one of the ranges: the code is in it
+  in-codes : (x : ℕ) (rs : List (ℕ × ℕ)) → AnyHeld b m (map (codeChild u x) rs) → (M len x ≡ pos 1) × ((c : ℕ) × (M code x ≡ pos c) × Any (InCodes c) rs)
+  in-codes x [] z = absurd z
+  in-codes x (r ∷ rs) (inl (p, (q, (s, _)))) =
+      let low : pos (r .0) ≤ℤ M code x = -ℤ-nonneg→ (subst (λ z. pos 0 ≤ℤ z) (low-in u m x (r .0)) q) in
+      let high : M code x ≤ℤ pos (r .1) = -ℤ-nonneg→ (subst (λ z. pos 0 ≤ℤ z) (high-in u m x (r .1)) s) in
+      let e : M code x ≡ pos (natAbs (M code x)) = abs-nonneg (M code x) (≤ℤ-trans (pos-≤ℤ {m = 0} {n = r .0} (omega arith)) low) in
+      let within : InCodes (natAbs (M code x)) r = (≤ℤ-pos (subst (λ z. pos (r .0) ≤ℤ z) e low), ≤ℤ-pos (subst (λ z. z ≤ℤ pos (r .1)) e high)) in
+      (-ℤ-zero→ (sym (above-in u m x) ∙ p), (natAbs (M code x), e, inl within))
+  in-codes x (r ∷ rs) (inr h) = let (l, (c, e, i)) = in-codes x rs h in (l, (c, e, inr i))
+
   pub code-valid : 1 ≤ u .n → (x : ℕ) → x < u .p → CodeValid x
   unfolding Instance
   code-valid n x hx = go (some→any b m _ (h .c-valid x hx _ refl))
     where
       go : AnyHeld b m (cValidChildren u x) → CodeValid x
       go (inl (p, (q, _))) = inl ((λ e. p (above-in u m x ∙ →-ℤ-zero e)), -ℤ-zero→ (sym (number-in u m code x (negsuc 0)) ∙ q))
-      go (inr (inl (p, (q, (s, _))))) =
-          let e : M code x ≡ pos (natAbs (M code x)) = abs-nonneg (M code x) (subst (λ z. pos 0 ≤ℤ z) (apply-in u m code x) q) in
-          let k : M code x ≤ℤ pos (lastCharacter (u .n)) = -ℤ-nonneg→ (subst (λ z. pos 0 ≤ℤ z) (last-in u m x) s) in
-          let l : natAbs (M code x) ≤ lastCharacter (u .n) = ≤ℤ-pos (subst (λ z. z ≤ℤ pos (lastCharacter (u .n))) e k) in
-          inr (-ℤ-zero→ (sym (above-in u m x) ∙ p), (natAbs (M code x), e, omega arith))
-      go (inr (inr z)) = absurd z
+      go (inr s) = let (l, (c, e, i)) = in-codes x (codeRanges (u .n)) s in inr (l, (c, e, ranges→ (u .n) c n i))
 
   -- C-Inj: a character is the code of one class only
   pub code-injective : (x y : ℕ) → x < u .p → y < u .p → x ≢ y → (M code x ≡ negsuc 0) ⊎ ((M code x ≢ M code y) ⊎ OneClass b x y)

@@ -1,3 +1,4 @@
+pub mod Alphabet
 pub mod InRange
 pub mod Cases
 pub mod Tests
@@ -7,6 +8,7 @@ pub mod Entries
 pub mod Classes
 pub mod Powers
 pub mod Words
+pub mod Searches
 pub mod Pairs
 pub mod Fits
 pub mod Ranges

@@ -3,16 +3,16 @@ use Prim.Native.Nat.{ℕ, _+_, _<_}
 use native.Mathlib.Omega.{arith}
 use mathlib.Core.Path.{sym, subst}
 use mathlib.Core.Logic.{inl, inr}
-use mathlib.Core.List.{List, [], _∷_}
+use mathlib.Core.List.{List, [], _∷_, map}
 use lib.ListN.{length}
 use lib.IntN.{ℤ, pos, negsuc}
 use Rattle.lists.specs.Lists.{All}
 use Rattle.lists.proofs.Lists.{all-at}
-use Rattle.calculus.specs.Alphabet.{lastCharacter}
+use Rattle.calculus.specs.Alphabet.{codeRanges}
 use Rattle.calculus.specs.LinearForms.{number, minus}
 use Rattle.calculus.specs.Facts.{Question, Fact, Branch, Function, len, code, literal, apply, valueOf}
 use Rattle.calculus.specs.Steps.{Step, Sum, BranchOn, Apart, AConf, SConf, SProp, LIntro, LValid, CCollapse, CValid, CInj, Card, Join}
-use Rattle.calculus.specs.Children.{pairChildrenWith, pairChildren}
+use Rattle.calculus.specs.Children.{codeChild, pairChildrenWith, pairChildren}
 use Rattle.calculus.specs.Instances.{LastChild, Instance, StepInRange}
 use Rattle.calculus.proofs.InRange.{HeadInRange, FactInRange, FactsInRange}
 use Rattle.calculus.proofs.Entries.{Whole, whole-number, whole-column, whole-minus, whole-above, whole-below}
@@ -43,6 +43,12 @@ module _ (u : Question) (w : HeadInRange u) where
   last-range x m cs h (inl (e, p)) = subst InRange (sym p) tt
   last-range x m cs h (inr (e, p)) = subst InRange (sym (p .adds)) ((whole-value len x (pos (p .power)) h, tt), tt)
 
+  codes-range : (x : ℕ) (rs : List (ℕ × ℕ)) → x < u .p → InRange (map (codeChild u x) rs)
+  codes-range x [] h = tt
+  codes-range x (r ∷ rs) h =
+      let c = whole-apply code x h in
+      ((whole-above (apply u len x) (whole-apply len x h), (c, (whole-minus (number (pos (r .1))) (apply u code x) (whole-number (pos (r .1))) c, tt))), codes-range x rs h)
+
   pub children-in-range : (b : Branch) (st : Step) (cs : List (List Fact)) → FactsInRange u b → StepInRange u st → Instance u b st cs → All (FactsInRange u) cs
   unfolding Instance StepInRange
   children-in-range b (Sum d ts) cs r g i = subst InRange (sym (i .adds)) ((i .size, tt), tt)
@@ -56,10 +62,7 @@ module _ (u : Question) (w : HeadInRange u) where
   children-in-range b (LValid x) cs r g i = subst InRange (sym i) (((g, omega arith), tt), ((whole-above (apply u len x) (whole-apply len x g), tt), tt))
   children-in-range b (CCollapse x) cs r g i = subst InRange (sym (i .adds)) ((whole-value code x (valueOf code (literal u (i .held))) g, tt), tt)
   children-in-range b (CValid x) cs r g i =
-      let l = whole-above (apply u len x) (whole-apply len x g) in
-      let c = whole-apply code x g in
-      let k = number (pos (lastCharacter (u .n))) in
-      subst InRange (sym i) ((l, (whole-value code x (negsuc 0) g, tt)), ((l, (c, (whole-minus k (apply u code x) (whole-number (pos (lastCharacter (u .n)))) c, tt))), tt))
+      subst InRange (sym i) ((whole-above (apply u len x) (whole-apply len x g), (whole-value code x (negsuc 0) g, tt)), codes-range x (codeRanges (u .n)) g)
   children-in-range b (CInj x y) cs r (hx, hy) i = subst InRange (sym (i .adds)) ((whole-value code x (negsuc 0) hx, tt), ((whole-difference code x y hx hy, tt), (((hx, hy), tt), tt)))
   children-in-range b (Card []) cs r g i = absurd i
   children-in-range b (Card (x ∷ [])) cs r g i = absurd i

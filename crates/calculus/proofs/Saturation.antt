@@ -29,6 +29,7 @@ use Rattle.calculus.specs.Instances.{LastChild, Instance, StepInRange, I
 use Rattle.calculus.specs.Model.{modelValue}
 use Rattle.calculus.specs.Saturation.{HoldsAlready, SomeChild, LengthsEqual, LeafInstance, Saturated}
 use Rattle.calculus.specs.SaturationTest.{held, heldSome, byChildren, saturatedStep, lowestVariable, lowestOfLength, saturatedCard, saturated}
+use Rattle.calculus.proofs.Alphabet.{some-character}
 use Rattle.calculus.proofs.InRange.{HeadInRange, FactsInRange}
 use Rattle.calculus.proofs.LinearForms.{dot-minus, dot-number}
 use Rattle.calculus.proofs.Relations.{holds→, →holds}
@@ -84,27 +85,30 @@ module _ (u : Question) (w : HeadInRange u) (b : Branch) (r : FactsInRange u b) 
   abbrev ofLength : ℕ → List ℕ
   ofLength x = lowestOfLength u (labels b) m (M x) (u .p)
 
+  abbrev characters : ℕ
+  characters = characterCount (u .n)
+
   abbrev least : ℕ → ℕ
-  least k = leastPower k (characterCount (u .n)) k 0
+  least k = leastPower k characters k 0
 
   -- one class of that length only, or two characters and a length that is large enough
   abbrev Few : ℕ → Type 0
-  Few x = (length (ofLength x) ≤ 1) ⊎ ((1 < u .n) × (least (length (ofLength x)) ≤ natAbs (M x)))
+  Few x = (length (ofLength x) ≤ 1) ⊎ ((1 < characters) × (least (length (ofLength x)) ≤ natAbs (M x)))
 
   card→ : (x : ℕ) → T (saturatedCard u (labels b) m x) → Few x
-  card→ x t = go (or→ (leb (length (ofLength x)) 1) (not (leb (u .n) 1) && leb (least (length (ofLength x))) (natAbs (M x))) t)
+  card→ x t = go (or→ (leb (length (ofLength x)) 1) (not (leb characters 1) && leb (least (length (ofLength x))) (natAbs (M x))) t)
     where
-      go : T (leb (length (ofLength x)) 1) ⊎ T (not (leb (u .n) 1) && leb (least (length (ofLength x))) (natAbs (M x))) → Few x
+      go : T (leb (length (ofLength x)) 1) ⊎ T (not (leb characters 1) && leb (least (length (ofLength x))) (natAbs (M x))) → Few x
       go (inl s) = inl (leb→le (length (ofLength x)) 1 s)
-      go (inr s) = let (p, q) = and→ (not (leb (u .n) 1)) (leb (least (length (ofLength x))) (natAbs (M x))) s in inr (nleb→lt (u .n) 1 p, leb→le (least (length (ofLength x))) (natAbs (M x)) q)
+      go (inr s) = let (p, q) = and→ (not (leb characters 1)) (leb (least (length (ofLength x))) (natAbs (M x))) s in inr (nleb→lt characters 1 p, leb→le (least (length (ofLength x))) (natAbs (M x)) q)
 
   -- the classes of one length are no more than the strings of that length
-  card-enough : (x : ℕ) → T (saturatedCard u (labels b) m x) → length (ofLength x) ≤ u .n ^ natAbs (M x)
+  card-enough : (x : ℕ) → T (saturatedCard u (labels b) m x) → length (ofLength x) ≤ characters ^ natAbs (M x)
   card-enough x t = go (card→ x t)
     where
-      go : Few x → length (ofLength x) ≤ u .n ^ natAbs (M x)
-      go (inl h) = omega (arith, one-le-pow (natAbs (M x)) (u .n) (w .alphabet))
-      go (inr (h, g)) = power-enough (w .alphabet) (least-power (u .n) (length (ofLength x)) h) g
+      go : Few x → length (ofLength x) ≤ characters ^ natAbs (M x)
+      go (inl h) = omega (arith, one-le-pow (natAbs (M x)) characters (some-character (u .n) (w .alphabet)))
+      go (inr (h, g)) = power-enough (some-character (u .n) (w .alphabet)) (least-power characters (length (ofLength x)) h) g
 
   module _ (h : ByClasses u b m) where
     lows-in : (x : ℕ) (ys : List ℕ) → All (λ y. y < u .p) ys → All (λ y. M y ≡ M x) ys → (z : ℕ) → In z (map low ys) → In z (ofLength x)
@@ -121,7 +125,7 @@ module _ (u : Question) (w : HeadInRange u) (b : Branch) (r : FactsInRange u b) 
         go (inl s) = omega arith
         go (inr (s, _)) = omega arith
     last-held x k cs hx l g t (inr (e, p)) =
-        let enough : k ≤ u .n ^ natAbs (M x) = omega (arith, card-enough x t) in
+        let enough : k ≤ characters ^ natAbs (M x) = omega (arith, card-enough x t) in
         subst (AnyHeld b m) (sym (p .adds)) (inl (
           subst (λ z. pos 0 ≤ℤ z) (sym (dot-minus (apply u len x) (number (pos (p .power))) (pos 1 ∷ m) (apply-in u m len x) (dot-number m (pos (p .power)))))
               (→-ℤ-nonneg (subst (λ z. pos (p .power) ≤ℤ z) (sym (abs-nonneg (M x) (length-nonneg u b m h x hx))) (pos-≤ℤ (p .least .least (natAbs (M x)) enough)))),
@@ -153,18 +157,18 @@ module _ (u : Question) (w : HeadInRange u) (b : Branch) (r : FactsInRange u b) 
     unfolding LeafInstance StepInRange
     card-test x = by (ofLength x) (lowests u (labels b) m (M x) (u .p)) (lowests-distinct u (labels b) m (M x) (u .p))
       where
-        by : (rs : List ℕ) → All (IsLowest u (labels b) m (M x) (u .p)) rs → Distinct rs → T (leb (length rs) 1 || (not (leb (u .n) 1) && leb (least (length rs)) (natAbs (M x))))
+        by : (rs : List ℕ) → All (IsLowest u (labels b) m (M x) (u .p)) rs → Distinct rs → T (leb (length rs) 1 || (not (leb characters 1) && leb (least (length rs)) (natAbs (M x))))
         by [] h d = tt
         by (y ∷ []) h d = tt
         by (y ∷ z ∷ ys) h d =
             let rs = y ∷ z ∷ ys in
             let k = length (y ∷ z ∷ ys) in
-            →or-right (leb k 1) (not (leb (u .n) 1) && leb (least k) (natAbs (M x))) (last-test x y k (h .0 .1) (leb (u .n) 1)
+            →or-right (leb k 1) (not (leb characters 1) && leb (least k) (natAbs (M x))) (last-test x y k (h .0 .1) (leb characters 1)
             (pairs-distinct low (All (HoldsAlready b m)) (λ x y p. class→lowest u w b r x y (p .0)) rs (lastChild u y k) (subst Distinct (sym (map-same low rs (all-map rs (λ y h. h .2) h))) d)
             (some→any b m _ (s .some-child (Card rs) (all-map rs (λ y h. h .0) h, omega arith) _
             (record { different = d; lengths = all-map (z ∷ ys) (λ v p. p .1 ∙ sym (h .0 .1)) (h .1); last = lastChild u y k; last-child = last→ u y k (w .alphabet); adds = refl })))))
 
-    pub enough : (x : ℕ) → length (lowestOfLength u (labels b) m (modelValue u m len x) (u .p)) ≤ u .n ^ natAbs (modelValue u m len x)
+    pub enough : (x : ℕ) → length (lowestOfLength u (labels b) m (modelValue u m len x) (u .p)) ≤ characters ^ natAbs (modelValue u m len x)
     enough x = card-enough x (card-test x)
 
     pub by-classes : ByClasses u b m

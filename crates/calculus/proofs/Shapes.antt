@@ -11,16 +11,17 @@ use lib.Dec.{leb, eqb}
 use lib.IntN.{negsuc}
 use borrow.Author.Tests.{lt-leb}
 use Rattle.lists.proofs.Options.{some-injective, none-some}
-use Rattle.calculus.specs.Alphabet.{characterCount}
+use Rattle.calculus.specs.Alphabet.{characterCount, codeRanges}
 use Rattle.calculus.specs.Facts.{Question, Fact, same, notSame, isLiteral, arithmetic, ge, eq, ne, Branch}
 use Rattle.calculus.specs.Classes.{labels, sameClass, classLiteral, conflict}
 use Rattle.calculus.specs.Chains.{varNode}
 use Rattle.calculus.specs.Steps.{Step, Sum, BranchOn, Apart, AConf, SConf, SProp, LIntro, LValid, CCollapse, CValid, CInj, Card, Join, pairCount, lastCount, shape}
 use Rattle.calculus.specs.LinearForms.{scale, eqIntegers}
-use Rattle.calculus.specs.Children.{pairChildrenWith, pairChildren, boundChild}
+use Rattle.calculus.specs.Children.{codeChild, pairChildrenWith, pairChildren, boundChild}
 use Rattle.calculus.specs.Rules.{sumOf, divided, apartOf, isFalse, joinOf, neighbours, distinct, leastPower, lastChild, cardChildren, children}
 use Rattle.calculus.specs.Instances.{LastChild, Instance}
 use Rattle.calculus.specs.Walk.{Waiting, Walk, working, closed, wait, cutBack, enter}
+use Rattle.calculus.proofs.Alphabet.{some-character}
 use Rattle.calculus.proofs.Tests.{guard→, then→}
 
 recount : (cs : List (List Fact)) (j k : ℕ) → j ≡ k → map length cs ≡ replicate j 1 → map length cs ≡ replicate k 1
@@ -37,12 +38,16 @@ pairs-sizes (x ∷ xs) more k h = recount (pairChildren (x ∷ xs) more) (length
 
 last-sizes : (u : Question) (x m : ℕ) (cs : List (List Fact)) → 1 ≤ u .n → LastChild u x m cs → map length cs ≡ replicate (lastCount (characterCount (u .n))) 1
 last-sizes u x m cs h (inl (e, p)) = ap (map length) p ∙ ap (λ n. replicate (lastCount n) 1) (sym e)
-last-sizes u x m cs h (inr (e, p)) = ap (map length) (p .adds) ∙ ap (λ k. replicate k 1) (sym (one-more (u .n) h e))
+last-sizes u x m cs h (inr (e, p)) = ap (map length) (p .adds) ∙ ap (λ k. replicate k 1) (sym (one-more (characterCount (u .n)) (some-character (u .n) h) e))
   where
     one-more : (n : ℕ) → 1 ≤ n → n ≢ 1 → lastCount n ≡ 1
     one-more zero h f = absurd (omega arith)
     one-more (suc zero) h f = absurd (f refl)
     one-more (suc (suc n)) h f = refl
+
+codes-sizes : (u : Question) (x : ℕ) (rs : List (ℕ × ℕ)) → map length (map (codeChild u x) rs) ≡ map (λ r. 3) rs
+codes-sizes u x [] = refl
+codes-sizes u x (r ∷ rs) = ap (λ l. 3 ∷ l) (codes-sizes u x rs)
 
 -- how many children, how many facts each adds, or that the rule closes
 pub instance-shape : (u : Question) → 1 ≤ u .n → (b : Branch) (st : Step) (cs : List (List Fact)) → Instance u b st cs → map length cs ≡ shape (u .n) st
@@ -56,7 +61,7 @@ instance-shape u h b (SProp f x y) cs i = ap (map length) (i .adds)
 instance-shape u h b (LIntro x) cs i = ap (map length) (i .adds)
 instance-shape u h b (LValid x) cs i = ap (map length) i
 instance-shape u h b (CCollapse x) cs i = ap (map length) (i .adds)
-instance-shape u h b (CValid x) cs i = ap (map length) i
+instance-shape u h b (CValid x) cs i = ap (map length) i ∙ ap (λ l. 2 ∷ l) (codes-sizes u x (codeRanges (u .n)))
 instance-shape u h b (CInj x y) cs i = ap (map length) (i .adds)
 instance-shape u h b (Card []) cs i = absurd i
 instance-shape u h b (Card (x ∷ [])) cs i = absurd i
@@ -147,7 +152,7 @@ children-shape u b (SProp f x y) cs e = ap (map length) (sym (guard→ (not (eqb
 children-shape u b (LIntro x) cs e = let (l, _, e2) = then→ (classLiteral u b x) _ e in ap (map length) (sym (some-injective e2))
 children-shape u b (LValid x) cs e = ap (map length) (sym (some-injective e))
 children-shape u b (CCollapse x) cs e = let (l, _, e2) = then→ (classLiteral u b x) _ e in ap (map length) (sym (some-injective e2))
-children-shape u b (CValid x) cs e = ap (map length) (sym (some-injective e))
+children-shape u b (CValid x) cs e = ap (map length) (sym (some-injective e)) ∙ ap (λ l. 2 ∷ l) (codes-sizes u x (codeRanges (u .n)))
 children-shape u b (CInj x y) cs e = ap (map length) (sym (guard→ (not (eqb x y)) e .1))
 children-shape u b (Card xs) cs e = card-shape u b xs e
 children-shape u b (Join j k) cs e =

@@ -13,15 +13,16 @@ use lib.Signed.{_≤ℤ_, ≤ℤ-refl}
 use Rattle.integers.proofs.Laws.{minus-one-*ℤ, pos-injective, pos-≤ℤ, ≤ℤ-antisym, ≤ℤ-trans, +ℤ-mono, *ℤ-mono, -ℤ-zero→, →-ℤ-zero, →-ℤ-nonneg, neg-nonneg→, branch-cases, apart-cases, tighten}
 use Rattle.lists.specs.Lists.{All, Distinct, Any}
 use Rattle.lists.proofs.Lists.{all-at, distinct-at}
-use Rattle.calculus.specs.Alphabet.{lastCharacter, Over}
-use Rattle.calculus.specs.LinearForms.{scale, number, minus, above, below, dot}
+use Rattle.calculus.specs.Alphabet.{characterCount, codeRanges, InCodes, Over}
+use Rattle.calculus.specs.LinearForms.{scale, number, minus, less, above, below, dot}
 use Rattle.calculus.specs.Facts.{Question, Fact, same, notSame, isLiteral, arithmetic, Branch, Relation, ge, eq, ne, Holds, Function, len, code, literal, columnOf, apply, codeOf, valueOf}
 use Rattle.calculus.specs.Chains.{varNode, litNode, Edge, AnyEdge, Chain, here, along, back}
 use Rattle.calculus.specs.Steps.{Step, Sum, BranchOn, Apart, AConf, SConf, SProp, LIntro, LValid, CCollapse, CValid, CInj, Card, Join}
-use Rattle.calculus.specs.Children.{pairChildren, cValidChildren, cInjChildren}
+use Rattle.calculus.specs.Children.{pairChildren, codeChild, cValidChildren, cInjChildren}
 use Rattle.calculus.specs.Instances.{entry, FactAt, Multiplier, Summands, total, IsSum, IsAConf, LiteralsMeet, SidesMeet, IsClassLiteral, LengthsStated, Neighbours, LastChild, IsCard, IsJoin, Instance, StepInRange}
 use Rattle.calculus.specs.Meaning.{Assignment, str, For, columns, value, Meets, Met}
-use Rattle.calculus.proofs.LinearForms.{dot-plus, dot-scale, dot-neg, dot-minus, dot-number, dot-column, dot-above, dot-below}
+use Rattle.calculus.proofs.LinearForms.{dot-plus, dot-scale, dot-neg, dot-minus, dot-number, dot-column, dot-less, dot-above, dot-below}
+use Rattle.calculus.proofs.Alphabet.{→ranges}
 use Rattle.calculus.proofs.Entries.{entry-scale, entry-tail, dot-entries, dot-split, summed, entry-summed}
 use Rattle.calculus.proofs.Powers.{one-power}
 use Rattle.calculus.proofs.Columns.{column-value}
@@ -157,7 +158,7 @@ module _ (u : Question) (a : Assignment) (f : For u a) where
       let k : length (str a y) ≡ l = sym (lengths-met b x y m hx hy s) ∙ e in
       ((f .over y, k), words-met b l y ys m hy g h k)
 
-  last-met : (x m : ℕ) (cs : List (List Fact)) → x < u .p → 2 ≤ m → m ≤ u .n ^ length (str a x) → LastChild u x m cs → AnyMet u a cs
+  last-met : (x m : ℕ) (cs : List (List Fact)) → x < u .p → 2 ≤ m → m ≤ characterCount (u .n) ^ length (str a x) → LastChild u x m cs → AnyMet u a cs
   last-met x m cs hx h g (inl (e, p)) = absurd (let k : m ≤ 1 = subst (λ z. m ≤ z) (ap (λ n. n ^ length (str a x)) e ∙ one-power (length (str a x))) g in omega arith)
   last-met x m cs hx h g (inr (e, p)) = subst (AnyMet u a) (sym (p .adds)) (inl (
     (subst (λ z. pos 0 ≤ℤ z) (sym (dot-minus (apply u len x) (number (pos (p .power))) (pos 1 ∷ v) (apply-value len x hx) (dot-number v (pos (p .power)))))
@@ -168,8 +169,8 @@ module _ (u : Question) (a : Assignment) (f : For u a) where
   card-met : (b : Branch) (x : ℕ) (xs : List ℕ) (cs : List (List Fact)) → Met u a b → All (λ y. y < u .p) (x ∷ xs) → 2 ≤ length (x ∷ xs) → IsCard u (Neighbours u b x xs) x xs cs → AnyMet u a cs
   card-met b x xs cs m (hx, g) l i = subst (AnyMet u a) (sym (i .adds)) (go (pairs-or-distinct (str a) (Met u a) (List-discrete ℕ-discrete) (λ x y e. (e, tt)) (x ∷ xs) (i .last)))
     where
-      few : Distinct (map (str a) (x ∷ xs)) → length (x ∷ xs) ≤ u .n ^ length (str a x)
-      few d = subst (λ k. k ≤ u .n ^ length (str a x)) (length-map (x ∷ xs) (str a))
+      few : Distinct (map (str a) (x ∷ xs)) → length (x ∷ xs) ≤ characterCount (u .n) ^ length (str a x)
+      few d = subst (λ k. k ≤ characterCount (u .n) ^ length (str a x)) (length-map (x ∷ xs) (str a))
           (count (u .n) (length (str a x)) (map (str a) (x ∷ xs)) ((f .over x, refl), words-met b (length (str a x)) x xs m hx g (i .lengths) refl) d)
 
       go : AnyMet u a (pairChildren (x ∷ xs) (i .last)) ⊎ Distinct (map (str a) (x ∷ xs)) → AnyMet u a (pairChildren (x ∷ xs) (i .last))
@@ -207,23 +208,29 @@ module _ (u : Question) (a : Assignment) (f : For u a) where
   instance-sound d b (CCollapse x) cs g i m = literal-met b code x cs m g i
   instance-sound d b (CValid x) cs g i m = subst (AnyMet u a) (sym i) (go (one-or-no-code (str a x)))
     where
-      one-character : (c : ℕ) → str a x ≡ c ∷ [] → c ≤ lastCharacter (u .n)
-      one-character c e = let h : c < u .n = subst (Over (u .n)) e (f .over x) .0 in omega arith
+      one-character : (c : ℕ) → str a x ≡ c ∷ [] → Any (InCodes c) (codeRanges (u .n))
+      one-character c e = →ranges (u .n) c (subst (Over (u .n)) e (f .over x) .0)
+
+      -- the child of the range that its code is in
+      by-range : (c : ℕ) → str a x ≡ c ∷ [] → (rs : List (ℕ × ℕ)) → Any (InCodes c) rs → AnyMet u a (map (codeChild u x) rs)
+      by-range c e [] z = absurd z
+      by-range c e (r ∷ rs) (inl (low, high)) = inl (
+        (above-length x g ∙ →-ℤ-zero (ap (λ s. pos (length s)) e)),
+        (
+          at-least (less (apply u code x) (r .0)) (dot-less v (apply u code x) (r .0) (apply-value code x g ∙ ap codeOf e)) (→-ℤ-nonneg (pos-≤ℤ low)),
+          (
+            at-least (minus (number (pos (r .1))) (apply u code x)) (dot-minus (number (pos (r .1))) (apply u code x) (pos 1 ∷ v) (dot-number v (pos (r .1))) (apply-value code x g ∙ ap codeOf e))
+                (→-ℤ-nonneg (pos-≤ℤ high)),
+            tt,
+          ),
+        ),
+      )
+      by-range c e (r ∷ rs) (inr i) = inr (by-range c e rs i)
 
       go : ((c : ℕ) × (str a x ≡ c ∷ [])) ⊎ ((length (str a x) ≢ 1) × (codeOf (str a x) ≡ negsuc 0))
           → AnyMet u a (cValidChildren u x)
       go (inr (h, e)) = inl ((λ z. h (pos-injective (-ℤ-zero→ (sym (above-length x g) ∙ z)))), (equals-number code x (negsuc 0) g e, tt))
-      go (inl (c, e)) = inr (inl (
-        (above-length x g ∙ →-ℤ-zero (ap (λ s. pos (length s)) e)),
-        (
-          at-least (apply u code x) (apply-value code x g ∙ ap codeOf e) (pos-≤ℤ {m = 0} {n = c} (omega arith)),
-          (
-            at-least (minus (number (pos (lastCharacter (u .n)))) (apply u code x)) (dot-minus (number (pos (lastCharacter (u .n)))) (apply u code x) (pos 1 ∷ v) (dot-number v (pos (lastCharacter (u .n)))) (apply-value code x g ∙ ap codeOf e))
-                (→-ℤ-nonneg (pos-≤ℤ (one-character c e))),
-            tt,
-          ),
-        ),
-      ))
+      go (inl (c, e)) = inr (by-range c e (codeRanges (u .n)) (one-character c e))
   instance-sound d b (CInj x y) cs (hx, hy) i m = subst (AnyMet u a) (sym (i .adds)) (go (no-code-or-equal (str a x) (str a y)))
     where
       go : (codeOf (str a x) ≡ negsuc 0) ⊎ ((codeOf (str a x) ≢ codeOf (str a y)) ⊎ (str a x ≡ str a y))

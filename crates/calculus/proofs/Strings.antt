@@ -17,7 +17,7 @@ use Rattle.lists.specs.Lists.{All, Distinct}
 use Rattle.lists.proofs.Options.{some-injective, none-some, some-none}
 use Rattle.lists.proofs.Lists.{In, in-map, in-append, in-left, in-right, in-at, distinct-at, without, length-without, in-without, at-most, getD-map, all-getD}
 use Rattle.lists.proofs.Tests.{→true, true→}
-use Rattle.calculus.specs.Alphabet.{Character, Over}
+use Rattle.calculus.specs.Alphabet.{characterCount, Character, Over}
 use Rattle.calculus.specs.LinearForms.{eqℤ, valueIn}
 use Rattle.calculus.specs.Facts.{Question, Fact, same, notSame, isLiteral, arithmetic, Branch, Function, len, code, literal, codeOf, valueOf, Holds}
 use Rattle.calculus.specs.Chains.{varNode, litNode, Edge, AnyEdge, Chain, here, along, OneClass, Counts}
@@ -279,7 +279,7 @@ module _ (u : Question) (w : HeadInRange u) (b : Branch) (r : FactsInRange u b) 
         go (inr f) = absurd (some-left (λ i g. f i (omega (arith, lowests-few u (labels b) m (M len x) (u .p)))))
         go (inl (j, q, f, k)) = (subst (Over (u .n)) (sym q) (word-over (u .n) (L u b m x) j (w .alphabet) (below (decLt j (length (ofLength x))))), f)
           where
-            below : Dec (j < length (ofLength x)) → j < u .n ^ L u b m x
+            below : Dec (j < length (ofLength x)) → j < characterCount (u .n) ^ L u b m x
             below (yes g) = omega (arith, enough u w b r m sat x)
             below (no g) = absurd (some-left (λ i a. k i (omega arith)))
 

@@ -8,22 +8,23 @@ use mathlib.Core.Logic.{_≢_, _⊎_, inl, inr}
 use mathlib.Core.Bool.{Bool, true, false}
 use mathlib.Core.List.{List, [], _∷_, head-eq-of-cons-eq, tail-eq-of-cons-eq}
 use lib.ListN.{length}
-use lib.Dec.{T, eqb, ltb→lt, lt→ltb, eqb→eq, eqb-refl}
+use lib.Dec.{T, eqb, eqb→eq, eqb-refl}
 use lib.IntN.{negsuc}
 use Rattle.lists.specs.Lists.{All, NotIn, Distinct}
 use Rattle.lists.proofs.Lists.{In, all-in, at-most, all→, →all, any→, →any, eq-list→, eq-list-refl}
 use Rattle.lists.proofs.Tests.{true→}
-use Rattle.calculus.specs.Alphabet.{characterCount, isCharacter, Over, allCharacters}
+use Rattle.calculus.specs.Alphabet.{characterCount, character, isCharacter, Over, allCharacters}
 use Rattle.calculus.specs.Facts.{codeOf}
 use Rattle.calculus.specs.Strings.{word, eqString, given, freshFrom}
+use Rattle.calculus.proofs.Alphabet.{some-character, character-at, placeOf, character-place, at-place, character-injective, character→, →character}
 
 pub over→ : (n : ℕ) (s : List ℕ) → T (allCharacters n s) → Over n s
 unfolding allCharacters
-over→ n s t = all→ (isCharacter n) s (λ c h. ltb→lt c n h) t
+over→ n s t = all→ (isCharacter n) s (character→ n) t
 
 pub →over : (n : ℕ) (s : List ℕ) → Over n s → T (allCharacters n s)
 unfolding allCharacters
-→over n s h = →all (isCharacter n) s (λ c g. lt→ltb c n g) h
+→over n s h = →all (isCharacter n) s (→character n) h
 
 -- a string has one character, or its code is −1
 pub one-or-no-code : (s : List ℕ) → ((c : ℕ) × (s ≡ c ∷ [])) ⊎ ((length s ≢ 1) × (codeOf s ≡ negsuc 0))
@@ -37,41 +38,45 @@ pub length-word : (n l k : ℕ) → length (word n l k) ≡ l
 length-word n zero k = refl
 length-word n (suc l) k = ap suc (length-word n l (k % characterCount n ^ l))
 
-pub word-over : (n l k : ℕ) → 0 < n → k < n ^ l → Over n (word n l k)
+pub word-over : (n l k : ℕ) → 0 < n → k < characterCount n ^ l → Over n (word n l k)
 word-over n zero k z h = tt
-word-over n (suc l) k z h = (div-lt-iff-lt-mul (one-le-pow l n z) .1 (rw pow-succ' at h), word-over n l (k % n ^ l) z (mod-lt k (one-le-pow l n z)))
+word-over n (suc l) k z h =
+    let some = one-le-pow l (characterCount n) (some-character n z) in
+    (character-at n (k / characterCount n ^ l) (div-lt-iff-lt-mul some .1 (rw pow-succ' at h)), word-over n l (k % characterCount n ^ l) z (mod-lt k some))
 
-word-injective : (n l i j : ℕ) → 0 < n → i < n ^ l → j < n ^ l → word n l i ≡ word n l j → i ≡ j
+word-injective : (n l i j : ℕ) → 0 < n → i < characterCount n ^ l → j < characterCount n ^ l → word n l i ≡ word n l j → i ≡ j
 word-injective n zero i j z h g e = let a : i < 1 = rw pow-zero at h in let b : j < 1 = rw pow-zero at g in omega arith
 word-injective n (suc l) i j z h g e =
-    let q : i / n ^ l ≡ j / n ^ l = head-eq-of-cons-eq e in
-    let r : i % n ^ l ≡ j % n ^ l = word-injective n l (i % n ^ l) (j % n ^ l) z (mod-lt i (one-le-pow l n z)) (mod-lt j (one-le-pow l n z)) (tail-eq-of-cons-eq e) in
-    sym (div-add-mod i (n ^ l)) ∙ ap₂ (λ x y. n ^ l * x + y) q r ∙ div-add-mod j (n ^ l)
+    let some = one-le-pow l (characterCount n) (some-character n z) in
+    let q : i / characterCount n ^ l ≡ j / characterCount n ^ l = character-injective n (i / characterCount n ^ l) (j / characterCount n ^ l) (head-eq-of-cons-eq e) in
+    let r : i % characterCount n ^ l ≡ j % characterCount n ^ l = word-injective n l (i % characterCount n ^ l) (j % characterCount n ^ l) z (mod-lt i some) (mod-lt j some) (tail-eq-of-cons-eq e) in
+    sym (div-add-mod i (characterCount n ^ l)) ∙ ap₂ (λ x y. characterCount n ^ l * x + y) q r ∙ div-add-mod j (characterCount n ^ l)
 
 -- ---- the number of a string among those of its length
 
 place : ℕ → List ℕ → ℕ
 place n [] = 0
-place n (c ∷ s) = place n s + n ^ length s * c
+place n (c ∷ s) = place n s + characterCount n ^ length s * placeOf n c
 
-place-below : (n : ℕ) (s : List ℕ) → Over n s → place n s < n ^ length s
+place-below : (n : ℕ) (s : List ℕ) → Over n s → place n s < characterCount n ^ length s
 unfolding place
 place-below n [] h = rw pow-zero (omega arith)
 place-below n (c ∷ s) (h, hs) =
-    let f : place n s < n ^ length s = place-below n s hs in
-    let g : n ^ length s * suc c ≤ n ^ length s * n = mul-le-mul-left (n ^ length s) h in
-    let e : n ^ suc (length s) ≡ n ^ length s * n = pow-succ' n (length s) ∙ mul-comm n (n ^ length s) in
+    let f : place n s < characterCount n ^ length s = place-below n s hs in
+    let g : characterCount n ^ length s * suc (placeOf n c) ≤ characterCount n ^ length s * characterCount n = mul-le-mul-left (characterCount n ^ length s) (character-place n c h) in
+    let e : characterCount n ^ suc (length s) ≡ characterCount n ^ length s * characterCount n = pow-succ' (characterCount n) (length s) ∙ mul-comm (characterCount n) (characterCount n ^ length s) in
     omega arith
 
 word-place : (n : ℕ) (s : List ℕ) → Over n s → word n (length s) (place n s) ≡ s
 unfolding place
 word-place n [] h = refl
 word-place n (c ∷ s) (h, hs) =
-    let f : place n s < n ^ length s = place-below n s hs in
-    let z : 0 < n ^ length s = omega arith in
-    let q : (place n s + n ^ length s * c) / n ^ length s ≡ c = add-mul-div-left (place n s) c z ∙ ap (λ x. x + c) (div-eq-of-lt f) ∙ (let y : 0 + c ≡ c = omega arith in y) in
-    let r : (place n s + n ^ length s * c) % n ^ length s ≡ place n s = add-mul-mod-self-left (place n s) (n ^ length s) c ∙ mod-eq-of-lt f in
-    ap₂ (λ d k. d ∷ word n (length s) k) q r ∙ ap (λ t. c ∷ t) (word-place n s hs)
+    let f : place n s < characterCount n ^ length s = place-below n s hs in
+    let z : 0 < characterCount n ^ length s = omega arith in
+    let k : ℕ = placeOf n c in
+    let q : (place n s + characterCount n ^ length s * k) / characterCount n ^ length s ≡ k = add-mul-div-left (place n s) k z ∙ ap (λ x. x + k) (div-eq-of-lt f) ∙ (let y : 0 + k ≡ k = omega arith in y) in
+    let r : (place n s + characterCount n ^ length s * k) % characterCount n ^ length s ≡ place n s = add-mul-mod-self-left (place n s) (characterCount n ^ length s) k ∙ mod-eq-of-lt f in
+    ap₂ (λ d j. character n d ∷ word n (length s) j) q r ∙ ap₂ (λ d t. d ∷ t) (at-place n c h) (word-place n s hs)
 
 -- ---- the first k strings of length l
 
@@ -99,27 +104,27 @@ unfolding words
     go (yes p) ih = inl (e ∙ ap (word n l) p)
     go (no f) ih = inr (ih (omega arith) e)
 
-words-not-in : (n l k i : ℕ) → 0 < n → i < n ^ l → k ≤ i → NotIn (word n l i) (words n l k)
+words-not-in : (n l k i : ℕ) → 0 < n → i < characterCount n ^ l → k ≤ i → NotIn (word n l i) (words n l k)
 unfolding words
 words-not-in n l zero i z h g = tt
 words-not-in n l (suc k) i z h g = ((λ e. let c : i ≡ k = word-injective n l i k z h (omega arith) e in omega arith), words-not-in n l k i z h (omega arith))
 
-pub words-distinct : (n l k : ℕ) → 0 < n → k ≤ n ^ l → Distinct (words n l k)
+pub words-distinct : (n l k : ℕ) → 0 < n → k ≤ characterCount n ^ l → Distinct (words n l k)
 unfolding words
 words-distinct n l zero z h = tt
 words-distinct n l (suc k) z h = (words-not-in n l k k z h (omega arith), words-distinct n l k z (omega arith))
 
--- ---- different strings of one length are at most n to its power
+-- ---- different strings of one length are at most as many as the alphabet to its power
 
 -- a string of length l over n characters
 abbrev pub Word : ℕ → ℕ → List ℕ → Type 0
 Word n l s = Over n s × (length s ≡ l)
 
-pub count : (n l : ℕ) (ss : List (List ℕ)) → All (Word n l) ss → Distinct ss → length ss ≤ n ^ l
-count n l ss ws d = subst (λ k. length ss ≤ k) (length-words n l (n ^ l)) (at-most ss (words n l (n ^ l)) d (λ s i. among s (all-in (Word n l) ss s ws i)))
+pub count : (n l : ℕ) (ss : List (List ℕ)) → All (Word n l) ss → Distinct ss → length ss ≤ characterCount n ^ l
+count n l ss ws d = subst (λ k. length ss ≤ k) (length-words n l (characterCount n ^ l)) (at-most ss (words n l (characterCount n ^ l)) d (λ s i. among s (all-in (Word n l) ss s ws i)))
   where
-    among : (s : List ℕ) → Word n l s → In s (words n l (n ^ l))
-    among s (o, e) = →in-words n l (n ^ l) (place n s) s (subst (λ l. place n s < n ^ l) e (place-below n s o)) (sym (word-place n s o) ∙ ap (λ l. word n l (place n s)) e)
+    among : (s : List ℕ) → Word n l s → In s (words n l (characterCount n ^ l))
+    among s (o, e) = →in-words n l (characterCount n ^ l) (place n s) s (subst (λ l. place n s < characterCount n ^ l) e (place-below n s o)) (sym (word-place n s o) ∙ ap (λ l. word n l (place n s)) e)
 
 -- ---- the first word that is not given
 

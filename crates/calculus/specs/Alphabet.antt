@@ -1,7 +1,8 @@
--- The alphabet: "an alphabet of n characters numbered 0 to n−1". Characters and their number are spoken of by these names alone.
-use Prim.Native.Nat.{ℕ, _-_, _<_}
+-- The alphabet: "an alphabet of n characters numbered 0 to n−1". Characters and their number are spoken of by these names alone; what holds of them is in
+-- proofs/Alphabet.
+use Prim.Native.Nat.{ℕ, _-_, _<_, _≤_}
 use mathlib.Core.Bool.{Bool}
-use mathlib.Core.List.{List}
+use mathlib.Core.List.{List, [], _∷_}
 use lib.Dec.{ltb}
 use Rattle.lists.specs.Lists.{All, all}
 
@@ -17,11 +18,19 @@ character n k = k
 abbrev pub lastCharacter : ℕ → ℕ
 lastCharacter n = n - 1
 
+-- the ranges of characters in rising order, each by its first and last code
+abbrev pub codeRanges : ℕ → List (ℕ × ℕ)
+codeRanges n = (0, lastCharacter n) ∷ []
+
+-- the code c is in a range
+abbrev pub InCodes : ℕ → ℕ × ℕ → Type 0
+InCodes c r = (r .0 ≤ c) × (c ≤ r .1)
+
 -- c is a character
-abbrev pub Character : ℕ → ℕ → Type 0
+unfoldable pub Character : ℕ → ℕ → Type 0
 Character n c = c < n
 
-abbrev pub isCharacter : ℕ → ℕ → Bool
+unfoldable pub isCharacter : ℕ → ℕ → Bool
 isCharacter n c = ltb c n
 
 -- a string over the alphabet

@@ -1,11 +1,11 @@
 -- The children that each rule adds, as document 01 prints them: a list for each child, of its facts in order.
 use Prim.Native.Nat.{ℕ, zero, suc}
 use mathlib.Core.Option.{Option, none}
-use mathlib.Core.List.{List, [], _∷_}
+use mathlib.Core.List.{List, [], _∷_, map}
 use lib.ListN.{getElem?}
 use lib.IntN.{ℤ, pos, negsuc}
-use Rattle.calculus.specs.Alphabet.{lastCharacter}
-use Rattle.calculus.specs.LinearForms.{number, minus, above, below}
+use Rattle.calculus.specs.Alphabet.{codeRanges}
+use Rattle.calculus.specs.LinearForms.{number, minus, less, above, below}
 use Rattle.calculus.specs.Facts.{Question, Fact, same, isLiteral, arithmetic, ge, eq, ne, Function, len, code, literal, apply, valueOf}
 
 -- the child of number k: "the child taken, from 1"
@@ -41,12 +41,16 @@ literalChild u f x l = one (arithmetic eq (minus (apply u f x) (number (valueOf 
 abbrev pub lValidChildren : Question → ℕ → List (List Fact)
 lValidChildren u x = (isLiteral x 0 ∷ []) ∷ (arithmetic ge (above (apply u len x)) ∷ []) ∷ []
 
--- C-Valid: "Children len(x) ≠ 1 and code(x) = −1; len(x) = 1, code(x) ≥ 0 and n−1−code(x) ≥ 0"
+-- C-Valid: "Children len(x) ≠ 1 and code(x) = −1"
+abbrev pub codelessChild : Question → ℕ → List Fact
+codelessChild u x = arithmetic ne (above (apply u len x)) ∷ arithmetic eq (minus (apply u code x) (number (negsuc 0))) ∷ []
+
+-- "len(x) = 1, code(x) ≥ 0 and n−1−code(x) ≥ 0", of a range of codes
+abbrev pub codeChild : Question → ℕ → ℕ × ℕ → List Fact
+codeChild u x r = arithmetic eq (above (apply u len x)) ∷ arithmetic ge (less (apply u code x) (r .0)) ∷ arithmetic ge (minus (number (pos (r .1))) (apply u code x)) ∷ []
+
 abbrev pub cValidChildren : Question → ℕ → List (List Fact)
-cValidChildren u x =
-    (arithmetic ne (above (apply u len x)) ∷ arithmetic eq (minus (apply u code x) (number (negsuc 0))) ∷ [])
-    ∷ (arithmetic eq (above (apply u len x)) ∷ arithmetic ge (apply u code x) ∷ arithmetic ge (minus (number (pos (lastCharacter (u .n)))) (apply u code x)) ∷ [])
-    ∷ []
+cValidChildren u x = codelessChild u x ∷ map (codeChild u x) (codeRanges (u .n))
 
 -- C-Inj: "Children code(x) = −1; code(x) − code(y) ≠ 0; x ≈ y"
 abbrev pub cInjChildren : Question → ℕ → ℕ → List (List Fact)

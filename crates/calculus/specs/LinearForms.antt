@@ -4,7 +4,7 @@ use mathlib.Core.Bool.{Bool, true, false}
 use mathlib.Core.List.{List, [], _∷_, _++_, map}
 use lib.ListN.{replicate}
 use lib.Dec.{eqb}
-use lib.IntN.{ℤ, pos, negsuc, _+ℤ_, _*ℤ_}
+use lib.IntN.{ℤ, pos, negsuc, negℤ, _+ℤ_, _*ℤ_}
 use Rattle.integers.specs.Division.{floorDiv}
 use Rattle.lists.specs.Lists.{all, eqList}
 use Rattle.calculus.specs.Limits.{columnLimit}
@@ -30,6 +30,11 @@ column j = pos 0 ∷ (zeros j ++ (pos 1 ∷ zeros (columnLimit - 1 - j)))
 
 abbrev pub minus : List ℤ → List ℤ → List ℤ
 minus a b = plus a (scale (negsuc 0) b)
+
+-- e−k for a number k
+abbrev pub less : List ℤ → ℕ → List ℤ
+less [] k = negℤ (pos k) ∷ []
+less (c ∷ cs) k = (c +ℤ negℤ (pos k)) ∷ cs
 
 -- e−1: at least 0 where e is above 0
 abbrev pub above : List ℤ → List ℤ

@@ -11,7 +11,7 @@ use Rattle.integers.specs.Division.{floorDiv}
 use Rattle.lists.specs.Lists.{any}
 use Rattle.calculus.specs.Alphabet.{characterCount}
 use Rattle.calculus.specs.LinearForms.{plus, scale, minus, isZero, eqIntegers, allZero, floorDivAll, column}
-use Rattle.calculus.specs.Facts.{holds, Fact, Branch, Question, ge, eq, ne, same, notSame, isLiteral, arithmetic, len, code, columnOf, Function}
+use Rattle.calculus.specs.Facts.{holds, Fact, Branch, lowestFact, Question, ge, eq, ne, same, notSame, isLiteral, arithmetic, len, code, columnOf, Function}
 use Rattle.calculus.specs.Chains.{varNode}
 use Rattle.calculus.specs.Classes.{labels, sameClass, classLiteral, conflict}
 use Rattle.calculus.specs.Children.{sumChild, branchChildren, apartChildren, sPropChild, literalChild, lValidChildren, cValidChildren, cInjChildren, pairChildren, boundChild, joinChild}
@@ -86,8 +86,20 @@ statesZero e (arithmetic eq g) = eqIntegers e g
 statesZero e (arithmetic ne g) = false
 
 -- a fact states that the difference of the columns i and j is 0, "coefficients 1 and −1 in either order"
+unfoldable pub statesDifference : ℕ → ℕ → Fact → Bool
+statesDifference i j f = statesZero (minus (column i) (column j)) f || statesZero (minus (column j) (column i)) f
+
+-- the lowest fact that states it
+abbrev pub lowestDifference : Branch → ℕ → ℕ → Option ℕ
+lowestDifference b i j = lowestFact (statesDifference i j) b
+
+-- there is one
+abbrev pub found : Option ℕ → Bool
+found none = false
+found (some k) = true
+
 unfoldable pub statesEqual : Branch → ℕ → ℕ → Bool
-statesEqual b i j = any (statesZero (minus (column i) (column j))) b || any (statesZero (minus (column j) (column i))) b
+statesEqual b i j = found (lowestDifference b i j)
 
 -- "a fact states their lengths' difference = 0"
 abbrev pub sameLength : Question → Branch → ℕ → ℕ → Bool

@@ -1,9 +1,9 @@
 -- Steps with their operands, and what a step gives by its form alone.
 use Prim.Native.Nat.{ℕ, zero, suc, _+_}
-use mathlib.Core.List.{List, [], _∷_}
+use mathlib.Core.List.{List, [], _∷_, map}
 use lib.ListN.{length, replicate}
 use lib.IntN.{ℤ}
-use Rattle.calculus.specs.Alphabet.{characterCount}
+use Rattle.calculus.specs.Alphabet.{characterCount, codeRanges}
 use Rattle.calculus.specs.Facts.{Function}
 
 -- the 13 rules with their operands; BranchOn is document 01's rule Branch
@@ -45,7 +45,7 @@ shape n (SProp f x y) = 1 ∷ []
 shape n (LIntro x) = 1 ∷ []
 shape n (LValid x) = 1 ∷ 1 ∷ []
 shape n (CCollapse x) = 1 ∷ []
-shape n (CValid x) = 2 ∷ 3 ∷ []
+shape n (CValid x) = 2 ∷ map (λ r. 3) (codeRanges n)
 shape n (CInj x y) = 1 ∷ 1 ∷ 1 ∷ []
 shape n (Card xs) = replicate (pairCount (length xs) + lastCount (characterCount n)) 1
 shape n (Join j k) = 1 ∷ []

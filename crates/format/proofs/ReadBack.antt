@@ -17,6 +17,7 @@ use Rattle.lists.proofs.Tests.{→true, and-both}
 use Rattle.lists.proofs.Options.{none-some, some-injective}
 use Rattle.calculus.specs.Limits.{alphabetLimit, variableLimit, lengthLimit, valueLimit}
 use Rattle.calculus.specs.Alphabet.{Over, allCharacters}
+use Rattle.calculus.proofs.Alphabet.{character-below}
 use Rattle.calculus.specs.Facts.{Question}
 use Rattle.calculus.specs.Meaning.{Assignment, For}
 use Rattle.calculus.proofs.Words.{→over}
@@ -66,7 +67,7 @@ unfolding u32s characterBytes flatMap
 characters-back b at n [] rest m h e = refl
 characters-back b at n (c ∷ s) rest m (h, hs) e =
     let f : drop at b ≡ bytesOf 4 c ++ (characterBytes s ++ rest) = e ∙ append-assoc (bytesOf 4 c) (characterBytes s) rest in
-    ap₂ _∷_ (u32-back b at c (characterBytes s ++ rest) (omega arith) f) (characters-back b (at + 4) n s rest m hs (behind b at 4 (bytesOf 4 c) (characterBytes s ++ rest) (length-bytes 4 c) f))
+    ap₂ _∷_ (u32-back b at c (characterBytes s ++ rest) (omega (arith, character-below n c h)) f) (characters-back b (at + 4) n s rest m hs (behind b at 4 (bytesOf 4 c) (characterBytes s ++ rest) (length-bytes 4 c) f))
 
 unsigned-small : (z : ℤ) → within valueLimit z ≡ true → unsigned z < 4294967296
 unsigned-small (pos v) h = omega (arith, leb-true v valueLimit h)

@@ -10,6 +10,7 @@ use borrow.Author.Tests.{lt-ltb, le-ltb, eq-eqb, ne-eqb, le-leb, lt-leb}
 use Rattle.lists.proofs.Every.{along-done, along-fails, along-on}
 use Rattle.lists.proofs.Lists.{down, eq-list-lengths}
 use Rattle.calculus.specs.Alphabet.{isCharacter, allCharacters}
+use Rattle.calculus.proofs.Alphabet.{test-is}
 use Rattle.calculus.specs.Strings.{eqString, given}
 use Rattle.format.specs.Fields.{u16, u32, i32, u32s, pairsAt}
 use Rattle.format.specs.Records.{size, next}
@@ -29,11 +30,11 @@ module _ (b : List ℕ) (n at : ℕ) where
 
   pub characters-yes : (k : ℕ) → 0 < k → u32 b at < n → allCharacters n (u32s b at k) ≡ allCharacters n (u32s b (at + 4) (k - 1))
   unfolding allCharacters u32s
-  characters-yes k h g = along-on (isCharacter n) (λ i. i + 4) (u32 b) at k h (lt-ltb (u32 b at) n g)
+  characters-yes k h g = along-on (isCharacter n) (λ i. i + 4) (u32 b) at k h (test-is n (u32 b at) ∙ lt-ltb (u32 b at) n g)
 
   pub characters-no : (k : ℕ) → 0 < k → n ≤ u32 b at → allCharacters n (u32s b at k) ≡ false
   unfolding allCharacters u32s
-  characters-no k h g = along-fails (isCharacter n) (λ i. i + 4) (u32 b) at k h (le-ltb (u32 b at) n g)
+  characters-no k h g = along-fails (isCharacter n) (λ i. i + 4) (u32 b) at k h (test-is n (u32 b at) ∙ le-ltb (u32 b at) n g)
 
 -- ---- two texts
 

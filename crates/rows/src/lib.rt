@@ -1,20 +1,20 @@
 // A fact as a row of 50 numbers in its own stretch of the work area: read, written, built, tested and evaluated.
 ghost use mathlib.Core.Path.{_≡_};
 ghost use mathlib.Core.Logic.{_≢_};
-ghost use mathlib.Core.Bool.{true};
+ghost use mathlib.Core.Bool.{true, _||_};
 ghost use mathlib.Core.List.{_∷_};
 ghost use Prim.Native.Nat.{_+_, _*_, _≤_, _<_};
 ghost use lib.ListN.{length, getD, drop};
 ghost use lib.IntN.{pos, negsuc};
-ghost use Rattle.lists.specs.Lists.{any};
 ghost use Rattle.calculus.specs.Limits.{variableLimit, columnLimit, numberLimit, valueLimit, factLimit, workNumbers};
 ghost use Rattle.calculus.specs.LinearForms.{zeros, column, scale, minus, above, below, allZero, eqIntegers, valueIn};
 ghost use Rattle.calculus.specs.Facts.{holds, arithmetic, ge, eq};
-ghost use Rattle.calculus.specs.Rules.{isFalse, joinOf, statesZero, statesEqual};
+ghost use Rattle.calculus.specs.Rules.{isFalse, joinOf, lowestDifference, statesEqual};
 ghost use Rattle.format.specs.Fields.{within, allWithin};
 ghost use Rattle.format.specs.Question.{stringFact, relationOf};
 ghost use Rattle.format.specs.Checking.{fits, factWithin, keepsFact, keeps};
 ghost use Rattle.rows.specs.Rows.{rowLength, index, indexBelow, factOf, rowAt, branchOf, Behind};
+ghost use Rattle.rows.specs.Searches.{numberIn};
 ghost use Rattle.rows.specs.Work.{tagOf, Fine, Within, single, difference};
 use encoding::EQ;
 use encoding::GE;
@@ -438,22 +438,42 @@ fn same_row(row: &[i64], other: &[i64]) -> bool
     true
 }
 
-// Does a fact state that column i − column j = 0?
-fn states_difference(work: &[i64], count: usize, i: usize, j: usize) -> bool
+// Is a row one of two?
+fn one_of(row: &[i64], one: &[i64], other: &[i64]) -> bool
+    requires { ⌜ (length (now row) ≡ rowLength) × (length (now one) ≡ rowLength) × (length (now other) ≡ rowLength) ⌝ }
+    ensures { λ r. ⌜ r ≡ (eqIntegers (now (one .entry)) (now (row .entry)) || eqIntegers (now (other .entry)) (now (row .entry))) ⌝ }
+{
+    if same_row(one, row) {
+        return true;
+    }
+    same_row(other, row)
+}
+
+// What a search among the facts of a branch gives.
+pub enum Search {
+    // The number of the lowest fact that was looked for.
+    At(usize),
+    Nothing,
+}
+
+// The lowest fact that states that the difference of two columns is 0, in either order.
+pub fn lowest_difference(work: &[i64], count: usize, i: usize, j: usize) -> Search
     requires { ⌜ (count ≤ factLimit) × (workNumbers ≤ length (now work)) ⌝ }
     requires { ⌜ (i < columnLimit) × (j < columnLimit) × (i ≢ j) ⌝ }
-    ensures { λ r. ⌜ r ≡ any (statesZero (minus (column i) (column j))) (branchOf (now (work .entry)) count) ⌝ }
+    ensures { λ r. ⌜ numberIn r ≡ lowestDifference (branchOf (now (work .entry)) count) i j ⌝ }
 {
-    let mut wanted = [0i64; ROW_LENGTH];
-    fill_difference(&mut wanted, EQ, i, j);
+    let mut one = [0i64; ROW_LENGTH];
+    fill_difference(&mut one, EQ, i, j);
+    let mut other = [0i64; ROW_LENGTH];
+    fill_difference(&mut other, EQ, j, i);
     let mut k = 0;
     while k < count {
-        if same_row(&wanted, row_at(work, k)) {
-            return true;
+        if one_of(row_at(work, k), &one, &other) {
+            return Search::At(k);
         }
         k += 1;
     }
-    false
+    Search::Nothing
 }
 
 // Does a fact state that the difference of two columns is 0, in either order?
@@ -462,10 +482,10 @@ pub fn states_equal(work: &[i64], count: usize, i: usize, j: usize) -> bool
     requires { ⌜ (i < columnLimit) × (j < columnLimit) × (i ≢ j) ⌝ }
     ensures { λ r. ⌜ r ≡ statesEqual (branchOf (now (work .entry)) count) i j ⌝ }
 {
-    if states_difference(work, count, i, j) {
-        return true;
+    match lowest_difference(work, count, i, j) {
+        Search::At(_) => true,
+        Search::Nothing => false,
     }
-    states_difference(work, count, j, i)
 }
 
 // ---- values

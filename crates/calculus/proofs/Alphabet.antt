@@ -1,0 +1,74 @@
+-- What holds of the alphabet: the theorems about rules, strings and bytes rest on these laws alone.
+use Prim.Native.Nat.{ℕ, _-_, _<_, _≤_}
+use native.Mathlib.Omega.{arith}
+use mathlib.Core.Path.{_≡_, refl}
+use mathlib.Core.Logic.{inl, inr}
+use lib.Dec.{T, ltb, ltb→lt, lt→ltb}
+use Rattle.lists.specs.Lists.{Any}
+use Rattle.calculus.specs.Alphabet.{characterCount, character, lastCharacter, codeRanges, InCodes, Character, isCharacter}
+
+-- ---- characters and their places
+
+pub some-character : (n : ℕ) → 1 ≤ n → 1 ≤ characterCount n
+some-character n h = h
+
+-- the k-th character is one
+pub character-at : (n k : ℕ) → k < characterCount n → Character n (character n k)
+unfolding Character
+character-at n k h = h
+
+-- each character has a place
+unfoldable pub placeOf : ℕ → ℕ → ℕ
+placeOf n c = c
+
+pub character-place : (n c : ℕ) → Character n c → placeOf n c < characterCount n
+unfolding Character placeOf
+character-place n c h = h
+
+pub at-place : (n c : ℕ) → Character n c → character n (placeOf n c) ≡ c
+unfolding placeOf
+at-place n c h = refl
+
+-- different places give different characters
+pub character-injective : (n i j : ℕ) → character n i ≡ character n j → i ≡ j
+character-injective n i j e = e
+
+-- ---- codes
+
+pub character-below : (n c : ℕ) → Character n c → c < n
+unfolding Character
+character-below n c h = h
+
+-- the test
+pub character→ : (n c : ℕ) → T (isCharacter n c) → Character n c
+unfolding Character isCharacter
+character→ n c t = ltb→lt c n t
+
+pub →character : (n c : ℕ) → Character n c → T (isCharacter n c)
+unfolding Character isCharacter
+→character n c h = lt→ltb c n h
+
+-- the characters are the codes in the ranges
+pub ranges→ : (n c : ℕ) → 1 ≤ n → Any (InCodes c) (codeRanges n) → Character n c
+unfolding Character
+ranges→ n c h (inl (_, g)) = omega arith
+ranges→ n c h (inr g) = absurd g
+
+pub →ranges : (n c : ℕ) → Character n c → Any (InCodes c) (codeRanges n)
+unfolding Character
+→ranges n c h = inl (omega arith, omega arith)
+
+-- ---- as code has them
+
+pub count-is : (n : ℕ) → characterCount n ≡ n
+count-is n = refl
+
+pub character-is : (n k : ℕ) → character n k ≡ k
+character-is n k = refl
+
+pub last-is : (n : ℕ) → lastCharacter n ≡ n - 1
+last-is n = refl
+
+pub test-is : (n c : ℕ) → isCharacter n c ≡ ltb c n
+unfolding isCharacter
+test-is n c = refl

@@ -1,0 +1,90 @@
+-- The lowest fact that passes a test.
+use Prim.Native.Nat.{ℕ, zero, suc, _<_}
+use native.Mathlib.Omega.{arith}
+use mathlib.Core.Path.{_≡_, refl, _∙_, ap, subst}
+use mathlib.Core.Bool.{Bool, true, false, _||_}
+use mathlib.Core.Option.{Option, none, some}
+use mathlib.Core.List.{List, [], _∷_, _++_}
+use lib.ListN.{length, getElem?, take, drop, take-append-drop}
+use Rattle.lists.specs.Lists.{any}
+use Rattle.lists.proofs.Options.{none-some, some-none, some-injective}
+use Rattle.calculus.specs.Facts.{Fact, Branch, lowestFact}
+use Rattle.calculus.specs.Rules.{found}
+
+module _ (test : Fact → Bool) where
+  -- by whether the first fact passes, and by the lowest of the others
+  abbrev turn : Bool → Option ℕ → Option ℕ
+  turn t o = elim t as (λ _. Option ℕ) [ true ↦ some 0 | false ↦ elim o as (λ _. Option ℕ) [ none ↦ none | some k ↦ some (suc k) ] ]
+
+  -- there is one where some fact passes
+  pub found-any : (b : Branch) → found (lowestFact test b) ≡ any test b
+  unfolding lowestFact
+  found-any [] = refl
+  found-any (f ∷ b) = go (test f) (lowestFact test b) (found-any b)
+    where
+      go : (t : Bool) (o : Option ℕ) → found o ≡ any test b → found (turn t o) ≡ (t || any test b)
+      go true o e = refl
+      go false none e = e
+      go false (some k) e = e
+
+  -- it is a fact of the branch and passes
+  pub lowest-passes : (b : Branch) (k : ℕ) → lowestFact test b ≡ some k → (f : Fact) × (getElem? b k ≡ some f) × (test f ≡ true)
+  unfolding lowestFact
+  lowest-passes [] k e = absurd (none-some e)
+  lowest-passes (f ∷ b) k e = go (test f) refl (lowestFact test b) (lowest-passes b) k e
+    where
+      go : (t : Bool) → test f ≡ t → (o : Option ℕ) → ((j : ℕ) → o ≡ some j → (g : Fact) × (getElem? b j ≡ some g) × (test g ≡ true)) → (k : ℕ) → turn t o ≡ some k
+          → (g : Fact) × (getElem? (f ∷ b) k ≡ some g) × (test g ≡ true)
+      go true p o ih zero e = (f, refl, p)
+      go true p o ih (suc k) e = absurd (let z : _≡_ {A = ℕ} 0 (suc k) = some-injective e in omega arith)
+      go false p none ih k e = absurd (none-some e)
+      go false p (some j) ih zero e = absurd (let z : _≡_ {A = ℕ} (suc j) 0 = some-injective e in omega arith)
+      go false p (some j) ih (suc k) e = ih k (ap some (let z : _≡_ {A = ℕ} (suc j) (suc k) = some-injective e in omega arith))
+
+  -- no lower one passes
+  pub lowest-least : (b : Branch) (k : ℕ) → lowestFact test b ≡ some k → (j : ℕ) → j < k → (f : Fact) → getElem? b j ≡ some f → test f ≡ false
+  unfolding lowestFact
+  lowest-least [] k e j h f g = absurd (none-some e)
+  lowest-least (x ∷ b) k e j h f g = go (test x) refl (lowestFact test b) (lowest-least b) k e j h g
+    where
+      go : (t : Bool) → test x ≡ t → (o : Option ℕ) → ((k : ℕ) → o ≡ some k → (j : ℕ) → j < k → (f : Fact) → getElem? b j ≡ some f → test f ≡ false) → (k : ℕ) → turn t o ≡ some k
+          → (j : ℕ) → j < k → getElem? (x ∷ b) j ≡ some f → test f ≡ false
+      go true p o ih k e j h g = absurd (let z : _≡_ {A = ℕ} 0 k = some-injective e in omega arith)
+      go false p none ih k e j h g = absurd (none-some e)
+      go false p (some i) ih k e zero h g = ap test (let z : f ≡ x = cc in z) ∙ p
+      go false p (some i) ih k e (suc j) h g = ih i refl j (let z : _≡_ {A = ℕ} (suc i) k = some-injective e in omega arith) f g
+
+  -- further facts change nothing where there is one
+  pub lowest-kept : (b c : Branch) (k : ℕ) → lowestFact test b ≡ some k → lowestFact test (b ++ c) ≡ some k
+  unfolding lowestFact
+  lowest-kept [] c k e = absurd (none-some e)
+  lowest-kept (f ∷ b) c k e = go (test f) (lowestFact test b) (lowest-kept b c) e
+    where
+      go : (t : Bool) (o : Option ℕ) → ((j : ℕ) → o ≡ some j → lowestFact test (b ++ c) ≡ some j) → turn t o ≡ some k → turn t (lowestFact test (b ++ c)) ≡ some k
+      go true o ih e = e
+      go false none ih e = absurd (none-some e)
+      go false (some j) ih e = ap (turn false) (ih j refl) ∙ e
+
+  pub lowest-taken : (b : Branch) (m k : ℕ) → lowestFact test (take m b) ≡ some k → lowestFact test b ≡ some k
+  lowest-taken b m k e = subst (λ c. lowestFact test c ≡ some k) (take-append-drop m b) (lowest-kept (take m b) (drop m b) k e)
+
+  -- where there is none, those behind count
+  pub lowest-behind : (b : Branch) (f : Fact) → lowestFact test b ≡ none → test f ≡ false → lowestFact test (b ++ (f ∷ [])) ≡ none
+  unfolding lowestFact
+  lowest-behind [] f e p = ap (λ t. turn t none) p
+  lowest-behind (x ∷ b) f e p = go (test x) (lowestFact test b) (λ q. lowest-behind b f q p) e
+    where
+      go : (t : Bool) (o : Option ℕ) → (o ≡ none → lowestFact test (b ++ (f ∷ [])) ≡ none) → turn t o ≡ none → turn t (lowestFact test (b ++ (f ∷ []))) ≡ none
+      go true o ih e = absurd (some-none e)
+      go false none ih e = ap (turn false) (ih refl)
+      go false (some j) ih e = absurd (some-none e)
+
+  pub lowest-next : (b : Branch) (f : Fact) → lowestFact test b ≡ none → test f ≡ true → lowestFact test (b ++ (f ∷ [])) ≡ some (length b)
+  unfolding lowestFact
+  lowest-next [] f e p = ap (λ t. turn t none) p
+  lowest-next (x ∷ b) f e p = go (test x) (lowestFact test b) (λ q. lowest-next b f q p) e
+    where
+      go : (t : Bool) (o : Option ℕ) → (o ≡ none → lowestFact test (b ++ (f ∷ [])) ≡ some (length b)) → turn t o ≡ none → turn t (lowestFact test (b ++ (f ∷ []))) ≡ some (suc (length b))
+      go true o ih e = absurd (some-none e)
+      go false none ih e = ap (turn false) (ih refl)
+      go false (some j) ih e = absurd (some-none e)
