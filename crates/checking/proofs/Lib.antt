@@ -1,4 +1,2 @@
-pub mod Outcomes
 pub mod Numbers
-pub mod Posing
-pub mod AtModel
+pub mod Promises

@@ -1,7 +1,7 @@
 -- What the code says of the records behind the claim, in the definitions of the format.
 use Prim.Native.Nat.{ℕ, _+_, _≤_}
 use mathlib.Core.Path.{_≡_}
-use mathlib.Core.List.{List}
+use mathlib.Core.List.{List, []}
 use lib.ListN.{length}
 use lib.IntN.{ℤ}
 use Rattle.calculus.specs.Facts.{Question, Fact, Branch}
@@ -33,6 +33,10 @@ abbrev pub HasNumber : List ℕ → Progress → ℕ → ℕ → List ℤ → �
 HasNumber b s at pending w count a =
     (ss : List (Waiting Branch (List Fact))) → length ss ≡ pending → numberOf a ≡ fault (checker (asked b s)) b (asked b s) (proving (working (branchOf w count) ss)) at
 
+-- what is left to read of the steps, from record r at a position on, with nothing but the question's constraints on the branch
+abbrev pub walkFrom : List ℕ → Progress → ℕ → ℕ → Ticket Branch (List Fact)
+walkFrom b s r at = stepsOn (checker (asked b s)) b (asked b s) (proving (working (asked b s .constraints) [])) r at
+
 -- refused, or every branch is closed and reading goes on at a position and record
 unfoldable pub walkedOf : List ℕ → Question → Walked → Ticket Branch (List Fact)
 walkedOf b u (walked.the-variants.Refused c r) = Faulty c r
@@ -44,6 +48,9 @@ walkedOf b u (walked.the-variants.Closed at r) = stepsOn (checker u) b u (provin
 abbrev pub TakesRecord : List ℕ → Progress → ℕ → ℕ → List ℤ → ℕ → List ℤ → Taken → Type 0
 TakesRecord b s at m v count w t =
     Takes b s (at + 6) m v count w (fault (checker (asked b s)) b (asked b s) (taking (branchOf v count)) at) t
+
+abbrev pub pathFrom : List ℕ → Progress → ℕ → ℕ → Ticket Branch (List Fact)
+pathFrom b s r at = stepsOn (checker (asked b s)) b (asked b s) (taking (asked b s .constraints)) r at
 
 -- refused, or reading goes on at the model's record, on the branch of the first count rows
 unfoldable pub followedOf : List ℕ → Question → List ℤ → Followed → Ticket Branch (List Fact)

@@ -1,15 +1,11 @@
 // The steps of a derivation: claim 1's walk over every branch, claim 2's path to its leaf.
 ghost use mathlib.Core.Path.{_≡_};
-ghost use mathlib.Core.List.{[]};
 ghost use Prim.Native.Nat.{_≤_};
-ghost use Rattle.calculus.specs.Walk.{working};
-ghost use Rattle.format.specs.Reading.{proving, taking, stepsOn};
-ghost use Rattle.format.specs.Checking.{checker};
 ghost use Rattle.rows.specs.Rows.{branchOf};
 ghost use Rattle.rows.specs.Work.{Fine};
 ghost use Rattle.question.specs.Posed.{asked, Posed};
 ghost use Rattle.derivation.specs.Actions.{ActsOn};
-ghost use Rattle.claims.specs.Outcomes.{WholeRecord, HasNumber, TakesRecord, walkedOf, followedOf, LeafAt};
+ghost use Rattle.claims.specs.Outcomes.{WholeRecord, HasNumber, TakesRecord, walkFrom, pathFrom, walkedOf, followedOf, LeafAt};
 use branch::Branch;
 use delimiters::open_fault;
 use derivation::Action;
@@ -66,7 +62,7 @@ pub fn walk(ticket: &[u8], s: Progress, record: usize, r: usize, work: &mut [i64
     requires { ⌜ Posed (now ticket) s ⌝ }
     requires { ⌜ Fine (now work) (s .constraints) × (branchOf (now work) (s .constraints) ≡ asked (now ticket) s .constraints) ⌝ }
     requires { ⌜ r ≤ «record» ⌝ }
-    ensures { λ x. ⌜ walkedOf (now (ticket .entry)) (asked (now (ticket .entry)) s) x ≡ stepsOn (checker (asked (now (ticket .entry)) s)) (now (ticket .entry)) (asked (now (ticket .entry)) s) (proving (working (asked (now (ticket .entry)) s .constraints) [])) r «record» ⌝ }
+    ensures { λ x. ⌜ walkedOf (now (ticket .entry)) (asked (now (ticket .entry)) s) x ≡ walkFrom (now (ticket .entry)) s r «record» ⌝ }
 {
     let mut b = Branch::new(s.constraints);
     let mut i = record;
@@ -141,7 +137,7 @@ pub fn follow(ticket: &[u8], s: Progress, record: usize, r: usize, work: &mut [i
     requires { ⌜ Posed (now ticket) s ⌝ }
     requires { ⌜ Fine (now work) (s .constraints) × (branchOf (now work) (s .constraints) ≡ asked (now ticket) s .constraints) ⌝ }
     requires { ⌜ r ≤ «record» ⌝ }
-    ensures followed { λ x. ⌜ followedOf (now (ticket .entry)) (asked (now (ticket .entry)) s) (now (work .exit)) x ≡ stepsOn (checker (asked (now (ticket .entry)) s)) (now (ticket .entry)) (asked (now (ticket .entry)) s) (taking (asked (now (ticket .entry)) s .constraints)) r «record» ⌝ }
+    ensures followed { λ x. ⌜ followedOf (now (ticket .entry)) (asked (now (ticket .entry)) s) (now (work .exit)) x ≡ pathFrom (now (ticket .entry)) s r «record» ⌝ }
     ensures leaf { λ x. ⌜ LeafAt (now (ticket .entry)) (now (work .exit)) x ⌝ }
 {
     let mut count = s.constraints;

@@ -16,6 +16,9 @@ use encoding::KIND_STRING;
 use encoding::RECORD_HEAD;
 use limits::ROW_LENGTH;
 use question::Progress;
+use rows::COEFFICIENTS;
+use rows::CONSTANT;
+use rows::TAG;
 
 // A form at a position, the constant and then pairs, related to 0: relation 0 is ≥, 1 is =, 2 is ≠. It fills a row's stretch with any contents.
 pub fn fill_form(row: &mut [i64], b: &[u8], relation: usize, at: usize, pairs: usize)
@@ -25,14 +28,14 @@ pub fn fill_form(row: &mut [i64], b: &[u8], relation: usize, at: usize, pairs: u
     ensures { λ _. ⌜ factOf (now (row .exit)) ≡ arithmetic (relationOf relation) (formOf (now (b .entry)) at pairs) ⌝ }
 {
     rows::clear_row(row);
-    row[0] = relation as i64;
-    row[1] = records::i32_at(b, at);
+    row[TAG] = relation as i64;
+    row[CONSTANT] = records::i32_at(b, at);
     let mut i = 0;
     while i < pairs {
         let place = at + 4 + 6 * i;
         let column = records::u16_at(b, place);
         let coefficient = records::i32_at(b, place + 2);
-        row[column + 2] = coefficient;
+        row[column + COEFFICIENTS] = coefficient;
         i += 1;
     }
 }

@@ -9,8 +9,9 @@ use Rattle.calculus.specs.Limits.{workNumbers, answerBytes}
 use Rattle.format.specs.Checking as format
 use Rattle.format.specs.Checking.{verdict}
 use Rattle.format.specs.Demands.{written}
-use Rattle.checking.specs.declared.Outcome.{Outcome}
-use Rattle.checking.specs.Outcomes.{told, Promised}
+use Rattle.deciding.specs.declared.Outcome.{Outcome}
+use Rattle.deciding.specs.Outcomes.{told}
+use Rattle.checking.specs.Outcomes.{Promised}
 use Rattle.lines.specs.Lines.{stringsLine}
 use Rattle.lines.specs.Put.{Put}
 use Rattle.lines.specs.Reports.{linesOf, linesBy, Reports}

@@ -8,9 +8,9 @@ use Rattle.format.specs.Records.{records}
 use Rattle.format.specs.Checking as format
 use Rattle.format.specs.Checking.{verdict}
 use Rattle.format.specs.Demands.{written}
-use Rattle.checking.specs.declared.Outcome.{Outcome}
-use Rattle.checking.specs.declared.Outcome.the-variants.{Refused, NoSolution, Strings}
-use Rattle.checking.specs.Outcomes.{told}
+use Rattle.deciding.specs.declared.Outcome.{Outcome}
+use Rattle.deciding.specs.declared.Outcome.the-variants.{Refused, NoSolution, Strings}
+use Rattle.deciding.specs.Outcomes.{told}
 use Rattle.lines.specs.Lines.{refusedLine, noneLine, stringsLine, recordLines}
 
 -- "it prints three lines .. Others print one line": the lines for what checking tells, with the answer at the front of a buffer

@@ -8,9 +8,10 @@ use Rattle.calculus.specs.Limits.{workNumbers}
 use Rattle.format.specs.Checking as format
 use Rattle.format.specs.Checking.{verdict}
 use Rattle.format.specs.Demands.{written}
-use Rattle.checking.specs.declared.Outcome.{Outcome}
-use Rattle.checking.specs.declared.Outcome.the-variants.{Refused, NoSolution, Strings}
-use Rattle.checking.specs.Outcomes.{told, Promised}
+use Rattle.deciding.specs.declared.Outcome.{Outcome}
+use Rattle.deciding.specs.declared.Outcome.the-variants.{Refused, NoSolution, Strings}
+use Rattle.deciding.specs.Outcomes.{told}
+use Rattle.checking.specs.Outcomes.{Promised}
 use Rattle.nuldwich.specs.declared.Reply.{Reply}
 use Rattle.nuldwich.specs.Replies.{checkReply, CheckReplies, LentReplies}
 

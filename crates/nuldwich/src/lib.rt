@@ -1,11 +1,11 @@
 // The host's entries, in C: "calls both operations on numbers and byte slices".
 ghost use mathlib.Core.Path.{_≡_};
 ghost use Rattle.format.specs.Checking as format;
-ghost use Rattle.checking.specs.Outcomes.{told};
+ghost use Rattle.deciding.specs.Outcomes.{told};
 ghost use Rattle.judging.specs.Judgements.{judgementOf};
 ghost use Rattle.nuldwich.specs.Replies.{judgeReply, JudgeReplies, checkReply, CheckReplies, LentReplies};
-use checking::Outcome;
 use checking::check_ticket;
+use deciding::Outcome;
 use judging::Judgement;
 use judging::judge_answer;
 use limits::WORK_NUMBERS;

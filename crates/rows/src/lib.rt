@@ -31,7 +31,7 @@ use limits::VARIABLE_LIMIT;
 // ---- the places in a row
 
 // What the row says.
-const TAG: usize = 0;
+pub const TAG: usize = 0;
 
 // Of an arithmetic fact: the constant of its form, and the coefficient of column 0, with the other columns behind it.
 pub const CONSTANT: usize = 1;

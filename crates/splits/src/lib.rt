@@ -31,6 +31,8 @@ use limits::ROW_LENGTH;
 use question::Progress;
 use question::column_of;
 use records::u16_at;
+use rows::CONSTANT;
+use rows::TAG_NE;
 use steps::OPERANDS;
 use steps::Rule;
 
@@ -44,7 +46,7 @@ fn parts(work: &[i64], count: usize, fact: usize) -> bool
     if count <= fact {
         return false;
     }
-    rows::tag_of(rows::row_at(work, fact)) == NE
+    rows::tag_of(rows::row_at(work, fact)) == TAG_NE
 }
 
 // Is x among the count variables from a position?
@@ -386,7 +388,7 @@ fn apart_within(work: &[i64], fact: usize, k: usize) -> bool
     ensures { λ r. ⌜ r ≡ factsWithin (orNone (childAt (apartAt (now (work .entry)) fact) k)) ⌝ }
 {
     let row = rows::row_at(work, fact);
-    let c = row[1];
+    let c = row[CONSTANT];
     if k == 1 {
         return rows::in_limit(c - 1);
     }

@@ -5,7 +5,7 @@ use denote.Ref.{now}
 use lib.IntN.{pos}
 use lib.ListN.{replicate}
 use mathlib.Core.Path.{_∙_, ap}
-use Rattle.checking.proofs.Outcomes.{decided, small-answer, small-work}
+use Rattle.checking.proofs.Promises.{decided, small-answer, small-work}
 use Rattle.checking.proofs.check_ticket.Statement.{statement}
 use Rattle.checking.proofs.check_ticket.Tie as tie
 

@@ -2,7 +2,7 @@
 use borrow.Author.Needs.{needs}
 use mathlib.Core.Path.{ap, sym}
 use native.Mathlib.Omega.{arith}
-use Rattle.checking.specs.declared.Outcome.{Outcome}
+use Rattle.deciding.specs.declared.Outcome.{Outcome}
 use Rattle.lines.proofs.Puts.{put-same, then}
 use Rattle.lines.specs.Reports.{linesBy}
 use Rattle.lines.proofs.put_lines.Statement.{statement}

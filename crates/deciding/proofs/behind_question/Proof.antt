@@ -1,15 +1,15 @@
--- `checking::behind_question` meets its contract.
+-- `deciding::behind_question` meets its contract.
 use borrow.Author.Needs.{needs}
 use denote.Ref.{now}
 use mathlib.Core.Path.{_∙_, sym}
 use native.Mathlib.Omega.{arith}
-use Rattle.checking.proofs.Outcomes.{decided-by, nonzero, refused}
-use Rattle.checking.proofs.Posing.{claim-good, claims-none, claims-strings, posed}
+use Rattle.deciding.proofs.Outcomes.{decided-by, nonzero, refused}
+use Rattle.deciding.proofs.Posing.{claim-good, claims-none, claims-strings, posed}
 use Rattle.format.proofs.StepTurns.{claim-faulty}
 use Rattle.format.specs.Checking.{checker}
 use Rattle.question.specs.Progress.{progressOf}
-use Rattle.checking.proofs.behind_question.Statement.{statement}
-use Rattle.checking.proofs.behind_question.Tie as tie
+use Rattle.deciding.proofs.behind_question.Statement.{statement}
+use Rattle.deciding.proofs.behind_question.Tie as tie
 
 claim-fault-requires : tie.Need-claim-fault-requires
 claim-fault-requires c κs = search needs

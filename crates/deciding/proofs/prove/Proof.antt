@@ -1,14 +1,14 @@
--- `checking::prove` meets its contract.
+-- `deciding::prove` meets its contract.
 use borrow.Author.Needs.{needs}
 use denote.Ref.{now}
 use mathlib.Core.Path.{_∙_, ap, refl, sym}
-use Rattle.checking.proofs.Outcomes.{decided-by, no-solution, nonzero, refused}
+use Rattle.deciding.proofs.Outcomes.{decided-by, no-solution, nonzero, refused}
 use Rattle.claims.specs.Outcomes.{walkedOf}
 use Rattle.delimiters.proofs.Ends.{closed-done, closed-refused}
 use Rattle.format.specs.Checking.{checker}
 use Rattle.question.specs.Posed.{asked}
-use Rattle.checking.proofs.prove.Statement.{statement}
-use Rattle.checking.proofs.prove.Tie as tie
+use Rattle.deciding.proofs.prove.Statement.{statement}
+use Rattle.deciding.proofs.prove.Tie as tie
 
 walk-requires : tie.Need-walk-requires
 walk-requires c κs = search needs

@@ -1,14 +1,14 @@
--- `checking::decide` meets its contract.
+-- `deciding::decide` meets its contract.
 use borrow.Author.Needs.{needs}
 use denote.Ref.{now}
 use mathlib.Core.Path.{_∙_, ap, sym}
-use Rattle.checking.proofs.Outcomes.{decided-by, refused}
-use Rattle.checking.proofs.Posing.{read-question}
+use Rattle.deciding.proofs.Outcomes.{decided-by, refused}
+use Rattle.deciding.proofs.Posing.{read-question}
 use Rattle.format.specs.Checking.{checker}
 use Rattle.format.specs.Reading.{readBehind}
 use Rattle.question.specs.Progress.{readingOf}
-use Rattle.checking.proofs.decide.Statement.{statement}
-use Rattle.checking.proofs.decide.Tie as tie
+use Rattle.deciding.proofs.decide.Statement.{statement}
+use Rattle.deciding.proofs.decide.Tie as tie
 
 read-question-requires : tie.Need-read-question-requires
 read-question-requires c κs = search needs

@@ -10,7 +10,7 @@ use Rattle.format.specs.Reading.{taking, modelled, modelAt, modelFault, Ticket,
 use Rattle.format.specs.Checking.{checker, leafFault}
 use Rattle.delimiters.specs.Numbers.{endFault}
 use Rattle.delimiters.proofs.Ends.{model-refused, model-taken, modelled-refused, modelled-done}
-use Rattle.checking.proofs.Outcomes.{nonzero}
+use Rattle.deciding.proofs.Outcomes.{nonzero}
 
 module _ (b : List ℕ) (u : Question) (br : Branch) (r at m : ℕ) (em : m ≡ size b at) (k : kind b at ≡ 7) (h : next b at ≤ length b) where
   abbrev fromHere : Ticket Branch (List Fact)

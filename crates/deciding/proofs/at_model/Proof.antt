@@ -1,16 +1,16 @@
--- `checking::at_model` meets its contract.
+-- `deciding::at_model` meets its contract.
 use Prim.Native.Nat.{_+_}
 use borrow.Author.Needs.{needs}
 use denote.Ref.{now}
 use mathlib.Core.Path.{_∙_, sym}
 use native.Mathlib.Omega.{arith}
-use Rattle.checking.proofs.AtModel.{ended, unended, unsettled}
-use Rattle.checking.proofs.Outcomes.{refused, strings}
+use Rattle.deciding.proofs.AtModel.{ended, unended, unsettled}
+use Rattle.deciding.proofs.Outcomes.{refused, strings}
 use Rattle.format.specs.Reading.{modelAt}
 use Rattle.question.specs.Posed.{asked}
 use Rattle.rows.specs.Rows.{branchOf}
-use Rattle.checking.proofs.at_model.Statement.{statement}
-use Rattle.checking.proofs.at_model.Tie as tie
+use Rattle.deciding.proofs.at_model.Statement.{statement}
+use Rattle.deciding.proofs.at_model.Tie as tie
 
 u32-at-requires : tie.Need-u32-at-requires
 u32-at-requires c κs = search needs

@@ -1,12 +1,12 @@
--- `checking::give_answer` meets its contract.
+-- `deciding::give_answer` meets its contract.
 use borrow.Author.Needs.{needs}
 use denote.Ref.{now}
 use mathlib.Core.Path.{_∙_, ap, subst, sym}
-use Rattle.checking.proofs.Outcomes.{decided-by, refused}
+use Rattle.deciding.proofs.Outcomes.{decided-by, refused}
 use Rattle.claims.specs.Outcomes.{followedOf, LeafAt}
 use Rattle.question.specs.Posed.{asked}
-use Rattle.checking.proofs.give_answer.Statement.{statement}
-use Rattle.checking.proofs.give_answer.Tie as tie
+use Rattle.deciding.proofs.give_answer.Statement.{statement}
+use Rattle.deciding.proofs.give_answer.Tie as tie
 
 follow-requires : tie.Need-follow-requires
 follow-requires c κs = search needs

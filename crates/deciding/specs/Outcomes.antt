@@ -1,0 +1,52 @@
+-- What a ticket comes to on buffers that are large enough, as the code tells it.
+use mathlib.Core.Path.{_≡_}
+use mathlib.Core.List.{List, []}
+use Prim.Native.Nat.{ℕ}
+use lib.IntN.{ℤ}
+use Rattle.calculus.specs.Facts.{Fact, Branch}
+use Rattle.calculus.specs.Walk.{working}
+use Rattle.format.specs.Question.{question}
+use Rattle.format.specs.Reading.{State, proving, taking, stepsOn, readClaim, readBehind}
+use Rattle.format.specs.Checking as format
+use Rattle.format.specs.Checking.{checker, outcomeOf}
+use Rattle.format.specs.Demands.{answerAfter}
+use Rattle.question.specs.declared.Progress.{Progress}
+use Rattle.question.specs.Progress.{progressOf}
+use Rattle.question.specs.Posed.{asked, Posed}
+use Rattle.rows.specs.Rows.{branchOf}
+use Rattle.rows.specs.Work.{Fine}
+use Rattle.deciding.specs.declared.Outcome.{Outcome}
+use Rattle.deciding.specs.declared.Outcome.the-variants.{Refused, NoSolution, Strings}
+
+-- "If the answer is an enum, a definition gives this paper's number and values for each of its cases": a refusal's number and record;
+-- of strings the answer's bytes stand in the answer buffer
+unfoldable pub told : format.Outcome → Outcome
+told (format.Refused c r) = Refused c r
+told format.NoSolution = NoSolution
+told (format.Strings s) = Strings
+
+-- what reading comes to in a state behind the claim, from record r at a position on
+abbrev pub outcomeFrom : List ℕ → Progress → State Branch (List Fact) → ℕ → ℕ → format.Outcome
+outcomeFrom b s st r at = outcomeOf (stepsOn (checker (asked b s)) b (asked b s) st r at)
+
+-- behind claim 1, behind claim 2, at the claim, and at the first record
+abbrev pub provedFrom : List ℕ → Progress → ℕ → ℕ → format.Outcome
+provedFrom b s r at = outcomeFrom b s (proving (working (asked b s .constraints) [])) r at
+
+abbrev pub followedFrom : List ℕ → Progress → ℕ → ℕ → format.Outcome
+followedFrom b s r at = outcomeFrom b s (taking (asked b s .constraints)) r at
+
+abbrev pub claimedFrom : List ℕ → Progress → ℕ → ℕ → format.Outcome
+claimedFrom b s at r = outcomeOf (readClaim checker b (progressOf b s) at r)
+
+abbrev pub readWhole : List ℕ → format.Outcome
+readWhole b = outcomeOf (readBehind checker b (question b))
+
+-- a question that was read, with its constraints in their rows
+abbrev pub Loaded : List ℕ → Progress → List ℤ → Type 0
+Loaded b s work = Posed b s × Fine work (s .constraints) × (branchOf work (s .constraints) ≡ asked b s .constraints)
+
+-- a part of checking comes to an outcome: it tells it, and of the answer buffer changes the answer's bytes only
+pub record Decided (o : format.Outcome) (answer answer' : List ℕ) (r : Outcome) : Type 0 where
+  pub tells : r ≡ told o
+  pub answer-after : answer' ≡ answerAfter o answer

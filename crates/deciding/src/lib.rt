@@ -1,0 +1,145 @@
+// What a ticket comes to, on buffers that are large enough: the question, the claim, the steps and the end, 2 to 14 in their order.
+ghost use mathlib.Core.Path.{_≡_};
+ghost use mathlib.Core.List.{List};
+ghost use Prim.Native.Nat.{ℕ, _+_, _≤_};
+ghost use lib.ListN.{length};
+ghost use Rattle.calculus.specs.Limits.{workNumbers, answerBytes, ticketBytes, factLimit};
+ghost use Rattle.format.specs.Records.{kind, next};
+ghost use Rattle.format.specs.Question.{checkingManner};
+ghost use Rattle.format.specs.Reading.{taking};
+ghost use Rattle.question.specs.Posed.{Posed};
+ghost use Rattle.question.specs.Standing.{StandsTo};
+ghost use Rattle.rows.specs.Rows.{branchOf};
+ghost use Rattle.rows.specs.Work.{Fine};
+ghost use Rattle.deciding.specs.Outcomes.{outcomeFrom, provedFrom, followedFrom, claimedFrom, readWhole, Loaded, Decided};
+use claims::Followed;
+use claims::Walked;
+use claims::follow;
+use claims::walk;
+use constraints::load;
+use delimiters::claim_fault;
+use delimiters::end_fault;
+use encoding::CLAIM_NO_SOLUTION;
+use encoding::RECORD_HEAD;
+use model::settle;
+use model::write;
+use question::CHECKING;
+use question::Progress;
+use question::Reading;
+use question::read_question;
+use records::u16_at;
+use records::u32_at;
+
+pub enum Outcome {
+    // The number of a refusal and its record.
+    Refused(usize, usize),
+    NoSolution,
+    // The answer stands in the answer buffer.
+    Strings,
+}
+
+// ---- claim 1
+
+// The steps, up to the last closed branch, and the end behind it. No answer buffer is written.
+fn prove(ticket: &[u8], s: Progress, at: usize, r: usize, work: &mut [i64]) -> Outcome
+    requires { ⌜ Loaded (now ticket) s (now work) × (r ≤ at) ⌝ }
+    ensures { λ o. ⌜ ((answer : List ℕ) → Decided (provedFrom (now (ticket .entry)) s r at) answer answer o) ⌝ }
+{
+    match walk(ticket, s, at, r, work) {
+        Walked::Refused(c, k) => Outcome::Refused(c, k),
+        Walked::Closed(to, k) => {
+            let c = end_fault(ticket, to);
+            if c != 0 {
+                return Outcome::Refused(c, k);
+            }
+            Outcome::NoSolution
+        }
+    }
+}
+
+// ---- claim 2
+
+// The model's record, the end behind it, and the answer, which is written when both are good.
+fn at_model(
+    ticket: &[u8],
+    s: Progress,
+    at: usize,
+    r: usize,
+    work: &[i64],
+    count: usize,
+    answer: &mut [u8],
+) -> Outcome
+    requires { ⌜ Posed (now ticket) s × (kind (now ticket) at ≡ 7) × (next (now ticket) at ≤ length (now ticket)) × (r ≤ at)
+        × Fine (now work) count × (answerBytes ≤ length (now answer)) ⌝ }
+    ensures { λ o. ⌜ Decided (outcomeFrom (now (ticket .entry)) s (taking (branchOf (now (work .entry)) count)) r at)
+        (now (answer .entry)) (now (answer .exit)) o ⌝ }
+{
+    let size = u32_at(ticket, at);
+    let settled = settle(ticket, s, at + RECORD_HEAD, size, work, count);
+    let f = settled.fault;
+    if f != 0 {
+        return Outcome::Refused(f, r);
+    }
+    let c = end_fault(ticket, at + RECORD_HEAD + size);
+    if c != 0 {
+        return Outcome::Refused(c, r + 1);
+    }
+    write(ticket, s, settled, answer);
+    Outcome::Strings
+}
+
+// The steps up to the model, and what stands there.
+fn give_answer(
+    ticket: &[u8],
+    s: Progress,
+    at: usize,
+    r: usize,
+    work: &mut [i64],
+    answer: &mut [u8],
+) -> Outcome
+    requires { ⌜ Loaded (now ticket) s (now work) × (r ≤ at) × (answerBytes ≤ length (now answer)) ⌝ }
+    ensures { λ o. ⌜ Decided (followedFrom (now (ticket .entry)) s r at) (now (answer .entry)) (now (answer .exit)) o ⌝ }
+{
+    match follow(ticket, s, at, r, work) {
+        Followed::Refused(c, k) => Outcome::Refused(c, k),
+        Followed::Model(to, k, count) => at_model(ticket, s, to, k, work, count, answer),
+    }
+}
+
+// ---- the whole ticket
+
+// The claim and what stands behind it, where reading of the question ended. Record r stands there.
+fn behind_question(
+    ticket: &[u8],
+    s: Progress,
+    at: usize,
+    r: usize,
+    work: &mut [i64],
+    answer: &mut [u8],
+) -> Outcome
+    requires { ⌜ StandsTo (checkingManner .greatest) (now ticket) s at × (at + 6 ≤ length (now ticket)) × (length (now ticket) ≤ ticketBytes) × (s .constraints ≤ factLimit) × (r ≤ at) ⌝ }
+    requires { ⌜ (workNumbers ≤ length (now work)) × (answerBytes ≤ length (now answer)) ⌝ }
+    ensures { λ o. ⌜ Decided (claimedFrom (now (ticket .entry)) s at r) (now (answer .entry)) (now (answer .exit)) o ⌝ }
+{
+    let c = claim_fault(ticket, s, at);
+    if c != 0 {
+        return Outcome::Refused(c, r);
+    }
+    load(ticket, s, work);
+    let claim = u16_at(ticket, at + RECORD_HEAD);
+    if claim == CLAIM_NO_SOLUTION {
+        return prove(ticket, s, at + 8, r + 1, work);
+    }
+    give_answer(ticket, s, at + 8, r + 1, work, answer)
+}
+
+// The outcome on buffers that are large enough. Anything may be left in the work area.
+pub fn decide(ticket: &[u8], work: &mut [i64], answer: &mut [u8]) -> Outcome
+    requires { ⌜ (workNumbers ≤ length (now work)) × (answerBytes ≤ length (now answer)) ⌝ }
+    ensures { λ o. ⌜ Decided (readWhole (now (ticket .entry))) (now (answer .entry)) (now (answer .exit)) o ⌝ }
+{
+    match read_question(CHECKING, ticket) {
+        Reading::Stopped(c, r) => Outcome::Refused(c, r),
+        Reading::Ended(s, at, r) => behind_question(ticket, s, at, r, work, answer),
+    }
+}
