@@ -26,7 +26,8 @@ module _ {A : Type 0} (item : A → ℕ) where
   items-more : (b : List ℕ) (s : List A) (d : A) (at i : ℕ) → i < length s
       → sets (sets b at (bytes (take i s))) (at + 4 * i) (bytesOf 4 (item (getD s i d))) ≡ sets b at (bytes (take (i + 1) s))
   items-more b s d at i h =
-      let n : length (bytes (take i s)) ≡ 4 * i = length-flatMap (λ x. bytesOf 4 (item x)) 4 (λ x. length-bytes 4 (item x)) (take i s) ∙ ap (λ (k : ℕ). 4 * k) (length-take-le i s (omega arith)) in
+      let n : length (bytes (take i s)) ≡ 4 * i =
+      length-flatMap (λ x. bytesOf 4 (item x)) 4 (λ x. length-bytes 4 (item x)) (take i s) ∙ ap (λ (k : ℕ). 4 * k) (length-take-le i s (omega arith)) in
       let e : bytes (take (i + 1) s) ≡ bytes (take i s) ++ bytesOf 4 (item (getD s i d)) =
       rw (add-one, take-suc s i d h, flatMap-snoc (λ x. bytesOf 4 (item x)) (take i s) (getD s i d)) in
       rw (← n, sets-sets, e)
@@ -48,13 +49,15 @@ length-row characters x k h r = length-take-le k (drop (lengthLimit * x) charact
 
 module _ (characters sizes : List ℕ) where
   pub strings-more : (x : ℕ)
-      → stringRecords (tableStrings characters sizes (x + 1)) ≡ stringRecords (tableStrings characters sizes x) ++ recordBytes 9 (characterBytes (row characters x (getD sizes x 0)))
+      → stringRecords (tableStrings characters sizes (x + 1))
+      ≡ stringRecords (tableStrings characters sizes x) ++ recordBytes 9 (characterBytes (row characters x (getD sizes x 0)))
   unfolding tableStrings
   strings-more x = rw add-one (records-snoc (tableStrings characters sizes x) (row characters x (getD sizes x 0)))
 
   -- a turn of the loop that writes strings
   pub strings-put : (b : List ℕ) (x : ℕ)
-      → sets (sets b 0 (stringRecords (tableStrings characters sizes x))) (length (stringRecords (tableStrings characters sizes x))) (recordBytes 9 (characterBytes (row characters x (getD sizes x 0))))
+      → sets (sets b 0 (stringRecords (tableStrings characters sizes x))) (length (stringRecords (tableStrings characters sizes x)))
+      (recordBytes 9 (characterBytes (row characters x (getD sizes x 0))))
       ≡ sets b 0 (stringRecords (tableStrings characters sizes (x + 1)))
   strings-put b x =
       let w : List ℕ = stringRecords (tableStrings characters sizes x) in
@@ -71,7 +74,8 @@ module _ (characters sizes : List ℕ) where
   short-strings p t (suc x) h =
       let k : getD sizes x 0 ≤ lengthLimit = t .short x (omega arith) in
       let n : length (row characters x (getD sizes x 0)) ≡ getD sizes x 0 = length-row characters x (getD sizes x 0) k (omega (arith, t .room)) in
-      all-append (λ (s : List ℕ). length s ≤ lengthLimit) (tableStrings characters sizes x) (row characters x (getD sizes x 0) ∷ []) (short-strings p t x (omega arith)) (omega arith, tt)
+      all-append (λ (s : List ℕ). length s ≤ lengthLimit) (tableStrings characters sizes x) (row characters x (getD sizes x 0) ∷ [])
+      (short-strings p t x (omega arith)) (omega arith, tt)
 
   -- the records of the first x strings, and a further one behind them, fit the buffer
   pub strings-most : (p : ℕ) → Table characters sizes p → (x : ℕ) → x ≤ p → length (stringRecords (tableStrings characters sizes x)) ≤ (6 + 4 * lengthLimit) * x
@@ -93,7 +97,8 @@ tail-put b at q zs e =
 
 -- the whole answer
 pub answer-put : (b characters sizes : List ℕ) (p : ℕ) (model : List ℤ) (q : ℕ) → Table characters sizes p → Integers model q → answerBytes ≤ length b
-    → sets (sets b 0 (stringRecords (tableStrings characters sizes p))) (length (stringRecords (tableStrings characters sizes p))) (recordBytes 10 (integerBytes (take q model)) ++ recordBytes 8 [])
+    → sets (sets b 0 (stringRecords (tableStrings characters sizes p))) (length (stringRecords (tableStrings characters sizes p)))
+    (recordBytes 10 (integerBytes (take q model)) ++ recordBytes 8 [])
     ≡ encode (tableAnswer characters sizes p model q) ++ drop (length (encode (tableAnswer characters sizes p model q))) b
 unfolding encode
 answer-put b characters sizes p model q t z h =
@@ -101,5 +106,6 @@ answer-put b characters sizes p model q t z h =
     let v : List ℕ = recordBytes 10 (integerBytes (take q model)) ++ recordBytes 8 [] in
     let few : length (tableStrings characters sizes p) ≤ variableLimit = omega (arith, length-tables characters sizes p, t .few) in
     let ints : length (take q model) ≤ variableLimit = omega (arith, length-take-le q model (z .there), z .few) in
-    let room : length (w ++ v) ≤ length b = omega (arith, encode-short (tableAnswer characters sizes p model q) few (short-strings characters sizes p t p (omega arith)) ints) in
+    let room : length (w ++ v) ≤ length b =
+    omega (arith, encode-short (tableAnswer characters sizes p model q) few (short-strings characters sizes p t p (omega arith)) ints) in
     ap (λ (k : ℕ). sets (sets b 0 w) k v) (sym (zero-add (length w))) ∙ sets-sets w v b 0 ∙ sets-front (w ++ v) b room

@@ -40,7 +40,9 @@ inside b u zero r at e = record { strings = tt; integers = go (allWithin valueLi
     go false e = absurd (let z : _≡_ {A = ℕ} 0 1 = cc in omega arith)
 inside b u (suc p) r at e = go (allCharacters (u .n) (textAt b at)) refl e (λ f. inside b u p (suc r) (next b at) f)
   where
-    go : (t : Bool) → allCharacters (u .n) (textAt b at) ≡ t → _≡_ {A = Option ℕ} (elim t as (λ _. Option ℕ) [ true ↦ outside b u p (suc r) (next b at) | false ↦ some r ]) none
+    go : (t : Bool)
+        → allCharacters (u .n) (textAt b at) ≡ t
+        → _≡_ {A = Option ℕ} (elim t as (λ _. Option ℕ) [ true ↦ outside b u p (suc r) (next b at) | false ↦ some r ]) none
         → (outside b u p (suc r) (next b at) ≡ none → Inside b u p (next b at)) → Inside b u (suc p) at
     go true h f ih = let i = ih f in record { strings = (h, i .strings); integers = i .integers }
     go false h f ih = absurd (let z : _≡_ {A = ℕ} 0 1 = cc in omega arith)
@@ -54,7 +56,8 @@ small-lengths b q (suc p) at e =
     let (h, f) = and-both (stringForm b at) (answerForm b p q (next b at)) e in
     let (w, h2) = and-both (whole b at) (eqb (kind b at) 9 && (eqb (size b at % 4) 0 && leb (size b at) (4 * lengthLimit))) h in
     let (k, h3) = and-both (eqb (kind b at) 9) (eqb (size b at % 4) 0 && leb (size b at) (4 * lengthLimit)) h2 in
-    let short : size b at ≤ 4 * lengthLimit = leb-true (size b at) (4 * lengthLimit) (and-both (eqb (size b at % 4) 0) (leb (size b at) (4 * lengthLimit)) h3 .1) in
+    let short : size b at ≤ 4 * lengthLimit =
+    leb-true (size b at) (4 * lengthLimit) (and-both (eqb (size b at % 4) 0) (leb (size b at) (4 * lengthLimit)) h3 .1) in
     (omega (arith, length-u32s b (at + 6) (size b at / 4)), small-lengths b q p (next b at) f)
 
 small-code : (n : ℕ) (s : List ℕ) → n ≤ alphabetLimit → allCharacters n s ≡ true → Small valueLimit (codeOf s)
@@ -84,4 +87,5 @@ unfolding outside
 outside-same b u w zero r at e f = ap (λ (q : ℕ). elim (allWithin valueLimit (integersAt b q at)) as (λ _. Option ℕ) [ true ↦ none | false ↦ some r ]) f
 outside-same b u w (suc p) r at e f =
     ap (λ (n : ℕ). elim (allCharacters n (textAt b at)) as (λ _. Option ℕ) [ true ↦ outside b u p (suc r) (next b at) | false ↦ some r ]) e
-    ∙ ap (λ (o : Option ℕ). elim (allCharacters (w .n) (textAt b at)) as (λ _. Option ℕ) [ true ↦ o | false ↦ some r ]) (outside-same b u w p (suc r) (next b at) e f)
+    ∙ ap (λ (o : Option ℕ). elim (allCharacters (w .n) (textAt b at)) as (λ _. Option ℕ) [ true ↦ o | false ↦ some r ])
+    (outside-same b u w p (suc r) (next b at) e f)

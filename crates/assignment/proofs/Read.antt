@@ -57,7 +57,8 @@ record-there b at k m e =
     (leb-true (next b at) (length b) w, eqb-true (size b at) m (and-both (eqb (kind b at) k) (eqb (size b at) m) t .1))
 
 pub string-there : (b : List ℕ) (at : ℕ) → stringForm b at ≡ true → next b at ≤ length b
-string-there b at e = leb-true (next b at) (length b) (and-both (whole b at) (eqb (kind b at) 9 && (eqb (size b at % 4) 0 && leb (size b at) (4 * lengthLimit))) e .0)
+string-there b at e =
+    leb-true (next b at) (length b) (and-both (whole b at) (eqb (kind b at) 9 && (eqb (size b at % 4) 0 && leb (size b at) (4 * lengthLimit))) e .0)
 
 -- ---- where the records of a formed answer stand
 
@@ -68,7 +69,8 @@ form-tail b q (suc p) at e = form-tail b q p (next b at) (and-both (stringForm b
 
 pub tail-there : (b : List ℕ) (q at : ℕ) → answerForm b 0 q at ≡ true → (next b at ≤ length b) × (size b at ≡ 4 * q)
 unfolding answerForm
-tail-there b q at e = record-there b at 10 (4 * q) (and-both (recordIs b at 10 (4 * q)) (recordIs b (next b at) 8 0 && eqb (next b (next b at)) (length b)) e .0)
+tail-there b q at e =
+    record-there b at 10 (4 * q) (and-both (recordIs b at 10 (4 * q)) (recordIs b (next b at) 8 0 && eqb (next b (next b at)) (length b)) e .0)
 
 -- ---- the ranges, record by record
 

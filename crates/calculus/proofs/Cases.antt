@@ -37,5 +37,6 @@ through-a-literal : OneClass (isLiteral 0 1 ∷ isLiteral 1 1 ∷ []) 0 1
 through-a-literal = along (inl (refl, refl)) (back (inr (inl (refl, refl))) here)
 
 -- the second child starts at the mark, without the facts of the first
-siblings : enter _++_ [] ((same 0 1 ∷ []) ∷ (isLiteral 0 0 ∷ []) ∷ []) [] ≡ working (same 0 1 ∷ []) (record { mark = []; child = isLiteral 0 0 ∷ []; rest = [] } ∷ [])
+siblings : enter _++_ [] ((same 0 1 ∷ []) ∷ (isLiteral 0 0 ∷ []) ∷ []) []
+    ≡ working (same 0 1 ∷ []) (record { mark = []; child = isLiteral 0 0 ∷ []; rest = [] } ∷ [])
 siblings = refl

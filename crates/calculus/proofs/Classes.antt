@@ -1,4 +1,5 @@
--- Classes: two nodes have one label exactly when a chain of ≈ facts joins them; what checking computes by labels, the lowest literal and the conflict, is what the words say by chains.
+-- Classes: two nodes have one label exactly when a chain of ≈ facts joins them; what checking computes by labels, the lowest literal and the conflict, is what
+-- the words say by chains.
 use Prim.Native.Nat.{ℕ, zero, suc, _+_, _<_, _≤_}
 use native.Mathlib.Omega.{arith}
 use native.Mathlib.Decide.{ℕ-discrete, decLt}
@@ -16,7 +17,8 @@ use Rattle.lists.proofs.Tests.{true→, or→, →or-left, →or-right}
 use Rattle.lists.proofs.Below.{any-below→, →any-below}
 use Rattle.calculus.specs.Facts.{Question, Fact, same, notSame, isLiteral, arithmetic, Branch}
 use Rattle.calculus.specs.Chains.{varNode, litNode, Edge, AnyEdge, Chain, here, along, back, OneClass, ClassHolds, Counts}
-use Rattle.calculus.specs.Classes.{upFrom, relabel, label, mergeNodes, mergeFact, labelsFrom, nodeCount, labels, sameClass, lowestLiteral, classLiteral, literalsMeet, sidesMeet, conflict}
+use Rattle.calculus.specs.Classes.{upFrom, relabel, label, mergeNodes, mergeFact, labelsFrom, nodeCount, labels}
+use Rattle.calculus.specs.Classes.{sameClass, lowestLiteral, classLiteral, literalsMeet, sidesMeet, conflict}
 use Rattle.calculus.specs.Instances.{FactAt, Stands, LiteralsMeet, SidesMeet}
 use Rattle.calculus.proofs.InRange.{HeadInRange, FactInRange, FactsInRange}
 
@@ -52,7 +54,8 @@ module _ (b : Branch) where
   relabel-reached old new (c ∷ cs) (suc i) d r = relabel-reached old new cs i d r
 
   merge-reached : (ls : List ℕ) (i j : ℕ) → Chain b i j → Reached ls → Reached (mergeNodes ls i j)
-  merge-reached ls i j c h k = chain-trans (h k) (relabel-reached (label ls j) (label ls i) ls k k (chain-trans (chain-sym (h j)) (chain-trans (chain-sym c) (h i))))
+  merge-reached ls i j c h k =
+      chain-trans (h k) (relabel-reached (label ls j) (label ls i) ls k k (chain-trans (chain-sym (h j)) (chain-trans (chain-sym c) (h i))))
 
   fact-reached : (ls : List ℕ) (f : Fact) → ((i j : ℕ) → Edge f i j → Chain b i j) → Reached ls → Reached (mergeFact ls f)
   fact-reached ls (same x y) g h = merge-reached ls (varNode x) (varNode y) (g (varNode x) (varNode y) (refl, refl)) h
@@ -107,7 +110,8 @@ merges ls i j h g = label-relabel (label ls j) (label ls i) ls i i h ∙ moved-n
     ∙ sym (label-relabel (label ls j) (label ls i) ls j j g ∙ moved-old (label ls j) (label ls i))
 
 keeps-nodes : (ls : List ℕ) (x y i j : ℕ) → i < length ls → j < length ls → label ls i ≡ label ls j → label (mergeNodes ls x y) i ≡ label (mergeNodes ls x y) j
-keeps-nodes ls x y i j h g e = label-relabel (label ls y) (label ls x) ls i i h ∙ ap (moved (label ls y) (label ls x)) e ∙ sym (label-relabel (label ls y) (label ls x) ls j j g)
+keeps-nodes ls x y i j h g e =
+    label-relabel (label ls y) (label ls x) ls i i h ∙ ap (moved (label ls y) (label ls x)) e ∙ sym (label-relabel (label ls y) (label ls x) ls j j g)
 
 keeps : (ls : List ℕ) (f : Fact) (i j : ℕ) → i < length ls → j < length ls → label ls i ≡ label ls j → label (mergeFact ls f) i ≡ label (mergeFact ls f) j
 keeps ls (same x y) i j h g e = keeps-nodes ls (varNode x) (varNode y) i j h g e
@@ -115,12 +119,18 @@ keeps ls (notSame x y) i j h g e = e
 keeps ls (isLiteral x l) i j h g e = keeps-nodes ls (varNode x) (litNode l) i j h g e
 keeps ls (arithmetic r t) i j h g e = e
 
-keeps-all : (b : Branch) (ls : List ℕ) (i j : ℕ) → i < length ls → j < length ls → label ls i ≡ label ls j → label (labelsFrom ls b) i ≡ label (labelsFrom ls b) j
+keeps-all : (b : Branch) (ls : List ℕ) (i j : ℕ)
+    → i < length ls
+    → j < length ls
+    → label ls i ≡ label ls j
+    → label (labelsFrom ls b) i ≡ label (labelsFrom ls b) j
 keeps-all [] ls i j h g e = e
 keeps-all (f ∷ b) ls i j h g e = keeps-all b (mergeFact ls f) i j (rw length-merge h) (rw length-merge g) (keeps ls f i j h g e)
 
 merge-edge : (ls : List ℕ) (x y i j : ℕ) → i ≡ x → j ≡ y → i < length ls → j < length ls → label (mergeNodes ls x y) i ≡ label (mergeNodes ls x y) j
-merge-edge ls x y i j p q h g = subst (λ n. label (mergeNodes ls n y) i ≡ label (mergeNodes ls n y) j) p (subst (λ n. label (mergeNodes ls i n) i ≡ label (mergeNodes ls i n) j) q (merges ls i j h g))
+merge-edge ls x y i j p q h g =
+    subst (λ n. label (mergeNodes ls n y) i ≡ label (mergeNodes ls n y) j) p
+    (subst (λ n. label (mergeNodes ls i n) i ≡ label (mergeNodes ls i n) j) q (merges ls i j h g))
 
 edge-merges : (ls : List ℕ) (f : Fact) (i j : ℕ) → Edge f i j → i < length ls → j < length ls → label (mergeFact ls f) i ≡ label (mergeFact ls f) j
 edge-merges ls (same x y) i j (p, q) h g = merge-edge ls (varNode x) (varNode y) i j p q h g
@@ -184,7 +194,11 @@ module _ (ls : List ℕ) (x : ℕ) where
       later : (t : Bool) → sameClass ls (varNode x) (litNode k) ≡ t → t ≡ false → Holding k → ⊥
       later t s e h = subst T (s ∙ e) h
 
-      go : (t : Bool) → sameClass ls (varNode x) (litNode k) ≡ t → (o : Option ℕ) → Found ls x (suc k) m o → Found ls x k (suc m) (elim t as (λ _. Option ℕ) [ true ↦ some k | false ↦ o ])
+      go : (t : Bool)
+          → sameClass ls (varNode x) (litNode k) ≡ t
+          → (o : Option ℕ)
+          → Found ls x (suc k) m o
+          → Found ls x k (suc m) (elim t as (λ _. Option ℕ) [ true ↦ some k | false ↦ o ])
       go true s o h = (omega arith, true→ s, λ i a c t. omega arith)
       go false s none h = skip k (k + suc m) (later false s refl) (λ i a c t. h i a (omega arith) t)
       go false s (some l) (g, q, h) = (omega arith, q, skip k l (later false s refl) h)
@@ -222,7 +236,9 @@ module _ (u : Question) (w : HeadInRange u) (b : Branch) (r : FactsInRange u b) 
 
   lowest-same : (x y k m : ℕ) → label (labels b) (varNode x) ≡ label (labels b) (varNode y) → lowestLiteral (labels b) x k m ≡ lowestLiteral (labels b) y k m
   lowest-same x y k zero e = refl
-  lowest-same x y k (suc m) e = ap₂ {B = Option ℕ} {C = Option ℕ} (λ t o. elim (eqb t (label (labels b) (litNode k))) as (λ _. Option ℕ) [ true ↦ some k | false ↦ o ]) e (lowest-same x y (suc k) m e)
+  lowest-same x y k (suc m) e =
+      ap₂ {B = Option ℕ} {C = Option ℕ} (λ t o. elim (eqb t (label (labels b) (litNode k))) as (λ _. Option ℕ) [ true ↦ some k | false ↦ o ]) e
+      (lowest-same x y (suc k) m e)
 
   pub literal-same : (x y : ℕ) → OneClass b x y → classLiteral u b x ≡ classLiteral u b y
   literal-same x y c = lowest-same x y 0 (suc (length (u .literals))) (chain→label u w b r c)
@@ -237,10 +253,19 @@ module _ (u : Question) (w : HeadInRange u) (b : Branch) (r : FactsInRange u b) 
   literals-meet→ t =
       let (i, hi, s) = any-below→ (suc (length (u .literals))) (λ i. anyBelow i (meets i)) t in
       let (j, hj, q) = any-below→ i (meets i) s in
-      record { first = i; second = j; first-defined = omega arith; second-defined = omega arith; different = λ e. omega arith; joined = class→chain b (litNode i) (litNode j) q }
+      record {
+        first = i;
+        second = j;
+        first-defined = omega arith;
+        second-defined = omega arith;
+        different = λ e. omega arith;
+        joined = class→chain b (litNode i) (litNode j) q;
+      }
 
   meet-in-order : (i j : ℕ) → i ≤ length (u .literals) → j < i → Chain b (litNode i) (litNode j) → T (literalsMeet (suc (length (u .literals))) (labels b))
-  meet-in-order i j hi hj c = →any-below (suc (length (u .literals))) (λ i. anyBelow i (meets i)) i (omega arith) (→any-below i (meets i) j hj (chain→class u w b r (litNode i) (litNode j) c))
+  meet-in-order i j hi hj c =
+      →any-below (suc (length (u .literals))) (λ i. anyBelow i (meets i)) i (omega arith)
+      (→any-below i (meets i) j hj (chain→class u w b r (litNode i) (litNode j) c))
 
   →literals-meet : LiteralsMeet u b → T (literalsMeet (suc (length (u .literals))) (labels b))
   →literals-meet m = go (decLt (m .second) (m .first)) (decLt (m .first) (m .second))
@@ -258,14 +283,16 @@ sides-meet→ ls (isLiteral x y ∷ c) t = let (x', y', (k, h), s) = sides-meet�
 sides-meet→ ls (arithmetic r e ∷ c) t = let (x', y', (k, h), s) = sides-meet→ ls c t in (x', y', (suc k, h), s)
 sides-meet→ ls (notSame x y ∷ c) t = go (or→ (sameClass ls (varNode x) (varNode y)) (sidesMeet ls c) t) (sides-meet→ ls c)
   where
-    go : T (sameClass ls (varNode x) (varNode y)) ⊎ T (sidesMeet ls c) → (T (sidesMeet ls c) → (x : ℕ) × (y : ℕ) × Stands c (notSame x y) × T (sameClass ls (varNode x) (varNode y)))
+    go : T (sameClass ls (varNode x) (varNode y)) ⊎ T (sidesMeet ls c)
+        → (T (sidesMeet ls c) → (x : ℕ) × (y : ℕ) × Stands c (notSame x y) × T (sameClass ls (varNode x) (varNode y)))
         → (x' : ℕ) × (y' : ℕ) × Stands (notSame x y ∷ c) (notSame x' y') × T (sameClass ls (varNode x') (varNode y'))
     go (inl s) ih = (x, y, (0, refl), s)
     go (inr s) ih = let (x', y', (k, h), q) = ih s in (x', y', (suc k, h), q)
 
 →sides-meet : (ls : List ℕ) (c : Branch) (x y k : ℕ) → FactAt c k (notSame x y) → T (sameClass ls (varNode x) (varNode y)) → T (sidesMeet ls c)
 →sides-meet ls [] x y k h t = absurd (none-some h)
-→sides-meet ls (f ∷ c) x y zero h t = subst (λ f. T (sidesMeet ls (f ∷ c))) (sym (some-injective h)) (→or-left (sameClass ls (varNode x) (varNode y)) (sidesMeet ls c) t)
+→sides-meet ls (f ∷ c) x y zero h t =
+    subst (λ f. T (sidesMeet ls (f ∷ c))) (sym (some-injective h)) (→or-left (sameClass ls (varNode x) (varNode y)) (sidesMeet ls c) t)
 →sides-meet ls (same p q ∷ c) x y (suc k) h t = →sides-meet ls c x y k h t
 →sides-meet ls (isLiteral p q ∷ c) x y (suc k) h t = →sides-meet ls c x y k h t
 →sides-meet ls (arithmetic r e ∷ c) x y (suc k) h t = →sides-meet ls c x y k h t
@@ -277,7 +304,9 @@ module _ (u : Question) (w : HeadInRange u) (b : Branch) (r : FactsInRange u b) 
     where
       go : T (literalsMeet (suc (length (u .literals))) (labels b)) ⊎ T (sidesMeet (labels b) b) → LiteralsMeet u b ⊎ SidesMeet b
       go (inl s) = inl (literals-meet→ u w b r s)
-      go (inr s) = let (x, y, h, q) = sides-meet→ (labels b) b s in inr (record { left = x; right = y; stands = h; joined = class→chain b (varNode x) (varNode y) q })
+      go (inr s) =
+          let (x, y, h, q) = sides-meet→ (labels b) b s in
+          inr (record { left = x; right = y; stands = h; joined = class→chain b (varNode x) (varNode y) q })
 
   pub →conflict : LiteralsMeet u b ⊎ SidesMeet b → T (conflict u b)
   →conflict (inl m) = →or-left (literalsMeet (suc (length (u .literals))) (labels b)) (sidesMeet (labels b) b) (→literals-meet u w b r m)

@@ -26,12 +26,16 @@ module _ (u : Question) (a : Assignment) (strings : length (a .strs) ≡ u .p) (
   value-at f x h = getD-map (valueOf f) (a .strs) x [] (pos 0) (omega (arith, strings))
 
   pub length-columns : length (columns a) ≡ columnCount u
-  length-columns = length-append (a .ints) (stretch len ++ stretch code) ∙ omega (arith, length-append (stretch len) (stretch code), integers, long len, long code)
+  length-columns =
+      length-append (a .ints) (stretch len ++ stretch code) ∙ omega (arith, length-append (stretch len) (stretch code), integers, long len, long code)
 
   pub integer-value : (j : ℕ) → j < u .q → getD (columns a) j (pos 0) ≡ getD (a .ints) j (pos 0)
   integer-value j h = List·getD-append (a .ints) (stretch len ++ stretch code) (pos 0) j (omega (arith, integers))
 
   pub column-value : (f : Function) (x : ℕ) → x < u .p → getD (columns a) (columnOf u f x) (pos 0) ≡ valueOf f (str a x)
   column-value len x h =
-      behind (a .ints) (stretch len ++ stretch code) (u .q) x integers ∙ List·getD-append (stretch len) (stretch code) (pos 0) x (omega (arith, long len)) ∙ value-at len x h
-  column-value code x h = behind (a .ints) (stretch len ++ stretch code) (u .q) (u .p + x) integers ∙ behind (stretch len) (stretch code) (u .p) x (long len) ∙ value-at code x h
+      behind (a .ints) (stretch len ++ stretch code) (u .q) x integers
+      ∙ List·getD-append (stretch len) (stretch code) (pos 0) x (omega (arith, long len))
+      ∙ value-at len x h
+  column-value code x h =
+      behind (a .ints) (stretch len ++ stretch code) (u .q) (u .p + x) integers ∙ behind (stretch len) (stretch code) (u .p) x (long len) ∙ value-at code x h

@@ -103,7 +103,8 @@ whole-number k = refl
 
 pub whole-column : (j : ℕ) → j < columnLimit → Whole (column j)
 whole-column j h =
-    let e : length (zeros j ++ (pos 1 ∷ zeros (columnLimit - 1 - j))) ≡ length (zeros j) + suc (length (zeros (columnLimit - 1 - j))) = length-append (zeros j) (pos 1 ∷ zeros (columnLimit - 1 - j)) in
+    let e : length (zeros j ++ (pos 1 ∷ zeros (columnLimit - 1 - j))) ≡ length (zeros j) + suc (length (zeros (columnLimit - 1 - j))) =
+    length-append (zeros j) (pos 1 ∷ zeros (columnLimit - 1 - j)) in
     let f : length (zeros j) ≡ j = length-replicate j (pos 0) in
     let g : length (zeros (columnLimit - 1 - j)) ≡ columnLimit - 1 - j = length-replicate (columnLimit - 1 - j) (pos 0) in
     let k : length (zeros j ++ (pos 1 ∷ zeros (columnLimit - 1 - j))) ≡ columnLimit = omega arith in
@@ -162,5 +163,7 @@ pub →divided : (d : ℕ) (r e : List ℤ) → 1 ≤ d → 1 ≤ length r → D
     let s : suc (length ks) ≡ suc (length cs) = w .size in
     let q : floorDivAll cs d ≡ ks = div-entries cs ks d h (omega arith) (w .columns) in
     let f : floorDiv c d ≡ k = floor-unique c d k h (w .floor-low) (w .floor-high) in
-    let exact : scale (pos d) (floorDivAll cs d) ≡ cs = ap (scale (pos d)) q ∙ by-entries (scale (pos d) ks) cs (length-scale (pos d) ks ∙ omega arith) (λ j. entry-scale (pos d) ks j ∙ w .columns j) in
-    →guard (leb 1 d && eqIntegers (scale (pos d) (floorDivAll cs d)) cs) (→and (leb 1 d) (eqIntegers (scale (pos d) (floorDivAll cs d)) cs) (le→leb 1 d h) (→eqIntegers exact)) (ap₂ _∷_ f q)
+    let exact : scale (pos d) (floorDivAll cs d) ≡ cs =
+    ap (scale (pos d)) q ∙ by-entries (scale (pos d) ks) cs (length-scale (pos d) ks ∙ omega arith) (λ j. entry-scale (pos d) ks j ∙ w .columns j) in
+    →guard (leb 1 d && eqIntegers (scale (pos d) (floorDivAll cs d)) cs)
+    (→and (leb 1 d) (eqIntegers (scale (pos d) (floorDivAll cs d)) cs) (le→leb 1 d h) (→eqIntegers exact)) (ap₂ _∷_ f q)

@@ -19,20 +19,24 @@ use Rattle.lists.proofs.Tests.{→true, true→, and→, →and, or→, →or-l
 use Rattle.calculus.specs.Limits.{columnLimit}
 use Rattle.calculus.specs.Alphabet.{characterCount}
 use Rattle.calculus.specs.LinearForms.{plus, scale, minus, isZero, eqIntegers, allZero}
-use Rattle.calculus.specs.Facts.{Question, Fact, same, notSame, isLiteral, arithmetic, Branch, lowestFact, Relation, ge, eq, ne, Function, len, code, holds, columnOf, apply, Holds}
+use Rattle.calculus.specs.Facts.{Question, Fact, same, notSame, isLiteral, arithmetic, Branch, lowestFact}
+use Rattle.calculus.specs.Facts.{Relation, ge, eq, ne, Function, len, code, holds, columnOf, apply, Holds}
 use Rattle.calculus.specs.Chains.{varNode}
 use Rattle.calculus.specs.Classes.{labels, sameClass, classLiteral, conflict}
 use Rattle.calculus.specs.Steps.{Step, Sum, BranchOn, Apart, AConf, SConf, SProp, LIntro, LValid, CCollapse, CValid, CInj, Card, Join}
 use Rattle.calculus.specs.Children.{sumChild, literalChild, pairChildren, boundChild}
-use Rattle.calculus.specs.Rules.{guard, then, summand, sumOf, divided, isFalse, joinOf, statesZero, statesDifference, found, sameLength, neighbours, distinct, leastPower, lastChild, cardChildren, children, apartOf, statesEqual}
-use Rattle.calculus.specs.Instances.{entry, FactAt, Stands, Multiplier, Summands, IsSum, IsApart, IsAConf, IsClassLiteral, LengthsStated, Neighbours, LastChild, IsJoin, Instance, StepInRange}
+use Rattle.calculus.specs.Rules.{guard, then, summand, sumOf, divided, isFalse, joinOf, statesZero, statesDifference, found}
+use Rattle.calculus.specs.Rules.{sameLength, neighbours, distinct, leastPower, lastChild, cardChildren, children, apartOf, statesEqual}
+use Rattle.calculus.specs.Instances.{entry, FactAt, Stands, Multiplier, Summands, IsSum, IsApart, IsAConf}
+use Rattle.calculus.specs.Instances.{IsClassLiteral, LengthsStated, Neighbours, LastChild, IsJoin, Instance, StepInRange}
 use Rattle.calculus.proofs.Alphabet.{some-character}
 use Rattle.calculus.proofs.Searches.{found-any, lowest-passes}
 use Rattle.calculus.proofs.InRange.{HeadInRange, FactInRange, FactsInRange}
 use Rattle.calculus.proofs.Tests.{guard→, →guard, then→, →then, differ→, →differ, distinct→, →distinct}
 use Rattle.calculus.proofs.LinearForms.{eqIntegers→, →eqIntegers}
 use Rattle.calculus.proofs.Relations.{nonzero→, →nonzero, fails→, →fails, positive→, →positive}
-use Rattle.calculus.proofs.Entries.{entry-scale, by-entries, allZero→, →allZero, summed, entry-summed, Whole, length-plus, length-scale, whole-scale, Divided, divided→, →divided}
+use Rattle.calculus.proofs.Entries.{entry-scale, by-entries, allZero→, →allZero, summed, entry-summed, Whole}
+use Rattle.calculus.proofs.Entries.{length-plus, length-scale, whole-scale, Divided, divided→, →divided}
 use Rattle.calculus.proofs.Classes.{class→chain, chain→class, literal→counts, counts→literal, conflict→, →conflict}
 use Rattle.calculus.proofs.Powers.{least-power, least-unique}
 
@@ -50,8 +54,12 @@ summand→ : (m : ℤ) (f : Fact) {s : List ℤ} → summand m f ≡ some s → 
 summand→ m (same x y) e = absurd (none-some e)
 summand→ m (notSame x y) e = absurd (none-some e)
 summand→ m (isLiteral x l) e = absurd (none-some e)
-summand→ m (arithmetic ge g) e = let (t, h) = guard→ (nonNeg m && not (isZero m)) e in record { relation = ge; form = g; is = refl; multiplier = positive→ m t; times = sym h }
-summand→ m (arithmetic eq g) e = let (t, h) = guard→ (not (isZero m)) e in record { relation = eq; form = g; is = refl; multiplier = nonzero→ m t; times = sym h }
+summand→ m (arithmetic ge g) e =
+    let (t, h) = guard→ (nonNeg m && not (isZero m)) e in
+    record { relation = ge; form = g; is = refl; multiplier = positive→ m t; times = sym h }
+summand→ m (arithmetic eq g) e =
+    let (t, h) = guard→ (not (isZero m)) e in
+    record { relation = eq; form = g; is = refl; multiplier = nonzero→ m t; times = sym h }
 summand→ m (arithmetic ne g) e = absurd (none-some e)
 
 →summand : (m : ℤ) (r : Relation) (e : List ℤ) → Multiplier r m → summand m (arithmetic r e) ≡ some (scale m e)
@@ -66,14 +74,18 @@ sum→ b (t ∷ ts) e =
     let (s, es, e2) = then→ (summand (t .1) f) (λ e. then (sumOf b ts) (λ r. some (plus e r))) e1 in
     let (q, sq, e3) = then→ (sumOf b ts) (λ r. some (plus s r)) e2 in
     let w = summand→ (t .1) f es in
-    let (gs, h, p) = sum→ b ts sq in
-    (w .form ∷ gs, (record { relation = w .relation; named = ef ∙ ap some (w .is); multiplier = w .multiplier }, h), sym (some-injective e3) ∙ ap₂ plus (w .times) p)
+    let (gs, h, p) = sum→ b ts sq in (
+      w .form ∷ gs,
+      (record { relation = w .relation; named = ef ∙ ap some (w .is); multiplier = w .multiplier }, h),
+      sym (some-injective e3) ∙ ap₂ plus (w .times) p,
+    )
 
 →sum : (b : Branch) (ts : List (ℕ × ℤ)) (es : List (List ℤ)) → Summands b ts es → sumOf b ts ≡ some (summed ts es)
 →sum b [] [] h = refl
 →sum b [] (e ∷ es) h = absurd h
 →sum b (t ∷ ts) [] h = absurd h
-→sum b (t ∷ ts) (e ∷ es) (h, hs) = →then _ (h .named) (→then _ (→summand (t .1) (h .relation) e (h .multiplier)) (→then (λ r. some (plus (scale (t .1) e) r)) (→sum b ts es hs) refl))
+→sum b (t ∷ ts) (e ∷ es) (h, hs) =
+    →then _ (h .named) (→then _ (→summand (t .1) (h .relation) e (h .multiplier)) (→then (λ r. some (plus (scale (t .1) e) r)) (→sum b ts es hs) refl))
 
 -- a sum of whole forms is a whole form
 module _ (u : Question) (b : Branch) (g : FactsInRange u b) where
@@ -133,7 +145,8 @@ conf-fits : (b : Branch) (k : ℕ) (f : Fact) {cs : List (List Fact)} → FactAt
 conf-fits b k (same x y) h t n = absurd t
 conf-fits b k (notSame x y) h t n = absurd t
 conf-fits b k (isLiteral x l) h t n = absurd t
-conf-fits b k (arithmetic r []) h t n = record { relation = r; form = []; named = h; no-coefficient = λ j. refl; false-constant = fails→ r (pos 0) t; closes = n }
+conf-fits b k (arithmetic r []) h t n =
+    record { relation = r; form = []; named = h; no-coefficient = λ j. refl; false-constant = fails→ r (pos 0) t; closes = n }
 conf-fits b k (arithmetic r (c ∷ a)) h t n =
     let (z, s) = and→ (allZero a) (not (holds r c)) t in
     record { relation = r; form = c ∷ a; named = h; no-coefficient = allZero→ a z; false-constant = fails→ r c s; closes = n }
@@ -202,7 +215,10 @@ last→ u x m h = go (leb (characterCount (u .n)) 1) refl
     go true e = inl (omega (arith, some-character (u .n) h, leb-true (characterCount (u .n)) 1 e), refl)
     go false e =
         let many = leb-false (characterCount (u .n)) 1 e in
-        inr ((λ z. omega (arith, many)), record { power = leastPower m (characterCount (u .n)) m 0; least = least-power (characterCount (u .n)) m many; adds = refl })
+        inr (
+          (λ z. omega (arith, many)),
+          record { power = leastPower m (characterCount (u .n)) m 0; least = least-power (characterCount (u .n)) m many; adds = refl },
+        )
 
 last-unique : (u : Question) (x m : ℕ) {c d : List (List Fact)} → LastChild u x m c → LastChild u x m d → c ≡ d
 last-unique u x m (inl (e, p)) (inl (f, q)) = p ∙ sym q
@@ -239,7 +255,14 @@ join-fits : (b : Branch) (j k : ℕ) (f g : Fact) {cs : List (List Fact)} → Fa
 join-fits b j k (arithmetic ge e) (arithmetic ge a) hf hg h =
     let (t, n) = guard→ (eqIntegers (scale (negsuc 0) e) a) h in
     let p : scale (negsuc 0) e ≡ a = eqIntegers→ (scale (negsuc 0) e) a t in
-    record { form = e; negative = a; first = hf; second = hg; negated = λ i. ap (λ a. entry a i) (sym p) ∙ entry-scale (negsuc 0) e i ∙ minus-one-*ℤ (entry e i); adds = sym n }
+    record {
+      form = e;
+      negative = a;
+      first = hf;
+      second = hg;
+      negated = λ i. ap (λ a. entry a i) (sym p) ∙ entry-scale (negsuc 0) e i ∙ minus-one-*ℤ (entry e i);
+      adds = sym n;
+    }
 join-fits b j k (arithmetic ge e) (arithmetic eq a) hf hg h = absurd (none-some h)
 join-fits b j k (arithmetic ge e) (arithmetic ne a) hf hg h = absurd (none-some h)
 join-fits b j k (arithmetic ge e) (same x y) hf hg h = absurd (none-some h)
@@ -263,12 +286,16 @@ fits-join u b j k r i =
 
 module _ (u : Question) (w : HeadInRange u) (b : Branch) (r : FactsInRange u b) where
   -- 7 L-Intro and 9 C-Collapse
-  literal-fits : (f : Function) (x : ℕ) {cs : List (List Fact)} → then (classLiteral u b x) (λ l. some (literalChild u f x l)) ≡ some cs → IsClassLiteral u b f x cs
+  literal-fits : (f : Function) (x : ℕ) {cs : List (List Fact)}
+      → then (classLiteral u b x) (λ l. some (literalChild u f x l)) ≡ some cs
+      → IsClassLiteral u b f x cs
   literal-fits f x e =
       let (l, el, e1) = then→ (classLiteral u b x) (λ l. some (literalChild u f x l)) e in
       record { held = l; counts = literal→counts u w b r x el; adds = sym (some-injective e1) }
 
-  fits-literal : (f : Function) (x : ℕ) {cs : List (List Fact)} → IsClassLiteral u b f x cs → then (classLiteral u b x) (λ l. some (literalChild u f x l)) ≡ some cs
+  fits-literal : (f : Function) (x : ℕ) {cs : List (List Fact)}
+      → IsClassLiteral u b f x cs
+      → then (classLiteral u b x) (λ l. some (literalChild u f x l)) ≡ some cs
   fits-literal f x i = →then (λ l. some (literalChild u f x l)) (counts→literal u w b r x (i .held) (i .counts)) (ap some (sym (i .adds)))
 
   pub fits→instance : (st : Step) {cs : List (List Fact)} → StepInRange u st → children u b st ≡ some cs → Instance u b st cs
@@ -301,10 +328,14 @@ module _ (u : Question) (w : HeadInRange u) (b : Branch) (r : FactsInRange u b) 
   instance→fits (Sum d ts) g i = fits-sum u b r d ts i
   instance→fits (BranchOn a) g i = ap some (sym i)
   instance→fits (Apart k) g i = →then apartOf (i .named) (ap some (sym (i .adds)))
-  instance→fits (AConf k) g i = →then (λ f. guard (isFalse f) []) (i .named) (→guard (isFalse (arithmetic (i .relation) (i .form))) (fits-conf (i .relation) (i .form) (i .no-coefficient) (i .false-constant)) (sym (i .closes)))
+  instance→fits (AConf k) g i =
+      →then (λ f. guard (isFalse f) []) (i .named)
+      (→guard (isFalse (arithmetic (i .relation) (i .form))) (fits-conf (i .relation) (i .form) (i .no-coefficient) (i .false-constant)) (sym (i .closes)))
   instance→fits SConf g i = →guard (conflict u b) (→conflict u w b r (i .clash)) (sym (i .closes))
   instance→fits (SProp f x y) g i = →guard (not (eqb x y) && sameClass (labels b) (varNode x) (varNode y))
-      (→and (not (eqb x y)) (sameClass (labels b) (varNode x) (varNode y)) (→differ x y (i .different)) (chain→class u w b r (varNode x) (varNode y) (i .joined))) (sym (i .adds))
+      (→and (not (eqb x y)) (sameClass (labels b) (varNode x) (varNode y)) (→differ x y (i .different))
+      (chain→class u w b r (varNode x) (varNode y) (i .joined)))
+      (sym (i .adds))
   instance→fits (LIntro x) g i = fits-literal len x i
   instance→fits (LValid x) g i = ap some (sym i)
   instance→fits (CCollapse x) g i = fits-literal code x i

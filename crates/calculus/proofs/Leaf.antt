@@ -104,8 +104,10 @@ module _ (u : Question) (b : Branch) (m : List ℤ) (h : ByClasses u b m) where
   -- L-Intro and C-Collapse: the values of a literal
   pub literal-value : (f : Function) (x l : ℕ) → x < u .p → Counts u b x l → M f x ≡ valueOf f (literal u l)
   unfolding Instance
-  literal-value len x l hx c = -ℤ-zero→ (sym (number-in u m len x (valueOf len (literal u l))) ∙ only b m _ (h .l-intro x hx _ (record { held = l; counts = c; adds = refl })))
-  literal-value code x l hx c = -ℤ-zero→ (sym (number-in u m code x (valueOf code (literal u l))) ∙ only b m _ (h .c-collapse x hx _ (record { held = l; counts = c; adds = refl })))
+  literal-value len x l hx c =
+      -ℤ-zero→ (sym (number-in u m len x (valueOf len (literal u l))) ∙ only b m _ (h .l-intro x hx _ (record { held = l; counts = c; adds = refl })))
+  literal-value code x l hx c =
+      -ℤ-zero→ (sym (number-in u m code x (valueOf code (literal u l))) ∙ only b m _ (h .c-collapse x hx _ (record { held = l; counts = c; adds = refl })))
 
   -- L-Valid: no length is negative
   pub length-nonneg : (x : ℕ) → x < u .p → pos 0 ≤ℤ M len x

@@ -33,7 +33,11 @@ module _ (b : Branch) (x : ℕ) where
   lowest-from zero y e = (here, omega arith, λ k g h t. omega arith)
   lowest-from (suc d) y e = go (sameClass (labels b) (varNode x) (varNode y)) refl (lowestFrom d (labels b) x (suc y)) (lowest-from d (suc y) (omega arith))
     where
-      go : (t : Bool) → sameClass (labels b) (varNode x) (varNode y) ≡ t → (z : ℕ) → LowestFrom (suc y) z → LowestFrom y (elim t as (λ _. ℕ) [ true ↦ y | false ↦ z ])
+      go : (t : Bool)
+          → sameClass (labels b) (varNode x) (varNode y) ≡ t
+          → (z : ℕ)
+          → LowestFrom (suc y) z
+          → LowestFrom y (elim t as (λ _. ℕ) [ true ↦ y | false ↦ z ])
       go true s z h = (class→chain b (varNode x) (varNode y) (true→ s), omega arith, λ k g i t. omega arith)
       go false s z (c, l, h) = (c, l, λ k g i t. skip k g i t (ℕ-discrete k y))
         where
@@ -64,7 +68,8 @@ module _ (u : Question) (w : HeadInRange u) (b : Branch) (r : FactsInRange u b) 
   pub class→lowest : (x y : ℕ) → OneClass b x y → lowestVariable (labels b) x ≡ lowestVariable (labels b) y
   class→lowest x y c =
       let h : lowestVariable (labels b) x ≤ lowestVariable (labels b) y = lowest-least x (lowestVariable (labels b) y) (chain-trans c (lowest-joined b y)) in
-      let g : lowestVariable (labels b) y ≤ lowestVariable (labels b) x = lowest-least y (lowestVariable (labels b) x) (chain-trans (chain-sym c) (lowest-joined b x)) in
+      let g : lowestVariable (labels b) y ≤ lowestVariable (labels b) x =
+      lowest-least y (lowestVariable (labels b) x) (chain-trans (chain-sym c) (lowest-joined b x)) in
       omega arith
 
   pub lowest-lowest : (x : ℕ) → lowestVariable (labels b) (lowestVariable (labels b) x) ≡ lowestVariable (labels b) x
@@ -84,8 +89,13 @@ module _ (u : Question) (ls : List ℕ) (m : List ℤ) (z : ℤ) where
   lowests zero = tt
   lowests (suc k) = go (test k) refl (all-map (lowestOfLength u ls m z k) (λ y h. (omega (arith, h .0), h .1, h .2)) (lowests k))
     where
-      go : (t : Bool) → test k ≡ t → All (IsLowest (suc k)) (lowestOfLength u ls m z k) → All (IsLowest (suc k)) (elim t as (λ _. List ℕ) [ true ↦ k ∷ lowestOfLength u ls m z k | false ↦ lowestOfLength u ls m z k ])
-      go true e h = let (p, q) = and→ (eqℤ (modelValue u m len k) z) (eqb (lowestVariable ls k) k) (true→ e) in ((omega arith, eqℤ→ (modelValue u m len k) z p, eqb→eq (lowestVariable ls k) k q), h)
+      go : (t : Bool)
+          → test k ≡ t
+          → All (IsLowest (suc k)) (lowestOfLength u ls m z k)
+          → All (IsLowest (suc k)) (elim t as (λ _. List ℕ) [ true ↦ k ∷ lowestOfLength u ls m z k | false ↦ lowestOfLength u ls m z k ])
+      go true e h =
+          let (p, q) = and→ (eqℤ (modelValue u m len k) z) (eqb (lowestVariable ls k) k) (true→ e) in
+          ((omega arith, eqℤ→ (modelValue u m len k) z p, eqb→eq (lowestVariable ls k) k q), h)
       go false e h = h
 
   pub in-lowests : (k y : ℕ) → IsLowest k y → In y (lowestOfLength u ls m z k)
@@ -93,21 +103,30 @@ module _ (u : Question) (ls : List ℕ) (m : List ℤ) (z : ℤ) where
   in-lowests (suc k) y h = go (ℕ-discrete y k) (in-lowests k y)
     where
       passed : y ≡ k → test k ≡ true
-      passed p = →true (test k) (subst (λ k. T (test k)) p (→and (eqℤ (modelValue u m len y) z) (eqb (lowestVariable ls y) y) (→eqℤ (h .1)) (subst (λ x. T (eqb (lowestVariable ls y) x)) (h .2) (eqb-refl (lowestVariable ls y)))))
+      passed p =
+          →true (test k) (subst (λ k. T (test k)) p (→and (eqℤ (modelValue u m len y) z) (eqb (lowestVariable ls y) y) (→eqℤ (h .1))
+          (subst (λ x. T (eqb (lowestVariable ls y) x)) (h .2) (eqb-refl (lowestVariable ls y)))))
 
-      behind : (t : Bool) → In y (lowestOfLength u ls m z k) → In y (elim t as (λ _. List ℕ) [ true ↦ k ∷ lowestOfLength u ls m z k | false ↦ lowestOfLength u ls m z k ])
+      behind : (t : Bool)
+          → In y (lowestOfLength u ls m z k)
+          → In y (elim t as (λ _. List ℕ) [ true ↦ k ∷ lowestOfLength u ls m z k | false ↦ lowestOfLength u ls m z k ])
       behind true i = inr i
       behind false i = i
 
-      go : Dec (y ≡ k) → (IsLowest k y → In y (lowestOfLength u ls m z k)) → In y (elim (test k) as (λ _. List ℕ) [ true ↦ k ∷ lowestOfLength u ls m z k | false ↦ lowestOfLength u ls m z k ])
-      go (yes p) ih = subst (λ t. In y (elim t as (λ _. List ℕ) [ true ↦ k ∷ lowestOfLength u ls m z k | false ↦ lowestOfLength u ls m z k ])) (sym (passed p)) (inl p)
+      go : Dec (y ≡ k)
+          → (IsLowest k y → In y (lowestOfLength u ls m z k))
+          → In y (elim (test k) as (λ _. List ℕ) [ true ↦ k ∷ lowestOfLength u ls m z k | false ↦ lowestOfLength u ls m z k ])
+      go (yes p) ih =
+          subst (λ t. In y (elim t as (λ _. List ℕ) [ true ↦ k ∷ lowestOfLength u ls m z k | false ↦ lowestOfLength u ls m z k ])) (sym (passed p)) (inl p)
       go (no f) ih = behind (test k) (ih (omega (arith, h .0), h .1, h .2))
 
   pub lowests-distinct : (k : ℕ) → Distinct (lowestOfLength u ls m z k)
   lowests-distinct zero = tt
   lowests-distinct (suc k) = go (test k) (lowests-distinct k)
     where
-      go : (t : Bool) → Distinct (lowestOfLength u ls m z k) → Distinct {A = ℕ} (elim t as (λ _. List ℕ) [ true ↦ k ∷ lowestOfLength u ls m z k | false ↦ lowestOfLength u ls m z k ])
+      go : (t : Bool)
+          → Distinct (lowestOfLength u ls m z k)
+          → Distinct {A = ℕ} (elim t as (λ _. List ℕ) [ true ↦ k ∷ lowestOfLength u ls m z k | false ↦ lowestOfLength u ls m z k ])
       go true d = (→not-in k (lowestOfLength u ls m z k) (λ i. omega (arith, all-in (IsLowest k) (lowestOfLength u ls m z k) k (lowests k) i .0)), d)
       go false d = d
 
@@ -115,6 +134,8 @@ module _ (u : Question) (ls : List ℕ) (m : List ℤ) (z : ℤ) where
   lowests-few zero = omega arith
   lowests-few (suc k) = go (test k) (lowests-few k)
     where
-      go : (t : Bool) → length (lowestOfLength u ls m z k) ≤ k → length {A = ℕ} (elim t as (λ _. List ℕ) [ true ↦ k ∷ lowestOfLength u ls m z k | false ↦ lowestOfLength u ls m z k ]) ≤ suc k
+      go : (t : Bool)
+          → length (lowestOfLength u ls m z k) ≤ k
+          → length {A = ℕ} (elim t as (λ _. List ℕ) [ true ↦ k ∷ lowestOfLength u ls m z k | false ↦ lowestOfLength u ls m z k ]) ≤ suc k
       go true h = omega arith
       go false h = omega arith

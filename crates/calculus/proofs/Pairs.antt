@@ -22,7 +22,9 @@ module _ {K : Type 0} (key : ℕ → K) (P : List Fact → Type 0) where
     pair-or-distinct x [] more = inr tt
     pair-or-distinct x (y ∷ ys) more = go (discrete (key x) (key y)) (pair-or-distinct x ys more)
       where
-        go : Dec (key x ≡ key y) → Any P (pairChildrenWith x ys more) ⊎ NotIn (key x) (map key ys) → Any P (pairChildrenWith x (y ∷ ys) more) ⊎ NotIn (key x) (map key (y ∷ ys))
+        go : Dec (key x ≡ key y)
+            → Any P (pairChildrenWith x ys more) ⊎ NotIn (key x) (map key ys)
+            → Any P (pairChildrenWith x (y ∷ ys) more) ⊎ NotIn (key x) (map key (y ∷ ys))
         go (yes e) h = inl (inl (equal x y e))
         go (no f) (inl h) = inl (inr h)
         go (no f) (inr h) = inr (f, h)
@@ -31,7 +33,9 @@ module _ {K : Type 0} (key : ℕ → K) (P : List Fact → Type 0) where
     pairs-or-distinct [] more = inr tt
     pairs-or-distinct (x ∷ xs) more = go (pair-or-distinct x xs (pairChildren xs more)) (pairs-or-distinct xs more)
       where
-        go : Any P (pairChildrenWith x xs (pairChildren xs more)) ⊎ NotIn (key x) (map key xs) → Any P (pairChildren xs more) ⊎ Distinct (map key xs) → Any P (pairChildren (x ∷ xs) more) ⊎ Distinct (map key (x ∷ xs))
+        go : Any P (pairChildrenWith x xs (pairChildren xs more)) ⊎ NotIn (key x) (map key xs)
+            → Any P (pairChildren xs more) ⊎ Distinct (map key xs)
+            → Any P (pairChildren (x ∷ xs) more) ⊎ Distinct (map key (x ∷ xs))
         go (inl h) d = inl h
         go (inr h) (inl g) = inl (pair-last x xs (pairChildren xs more) g)
         go (inr h) (inr g) = inr (h, g)

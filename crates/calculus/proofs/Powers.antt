@@ -12,7 +12,8 @@ use Rattle.calculus.specs.Instances.{LeastPower}
 
 least-power-reaches : (d n m j : ℕ) → m ≤ n ^ (d + j) → m ≤ n ^ leastPower d n m j
 least-power-reaches zero n m j h = subst (λ k. m ≤ n ^ k) (let z : 0 + j ≡ j = omega arith in z) h
-least-power-reaches (suc d) n m j h = go (leb m (n ^ j)) refl (least-power-reaches d n m (suc j) (subst (λ k. m ≤ n ^ k) (let z : suc d + j ≡ d + suc j = omega arith in z) h))
+least-power-reaches (suc d) n m j h =
+    go (leb m (n ^ j)) refl (least-power-reaches d n m (suc j) (subst (λ k. m ≤ n ^ k) (let z : suc d + j ≡ d + suc j = omega arith in z) h))
   where
     go : (t : Bool) → leb m (n ^ j) ≡ t → m ≤ n ^ leastPower d n m (suc j) → m ≤ n ^ (elim t as (λ _. ℕ) [ true ↦ j | false ↦ leastPower d n m (suc j) ])
     go true e ih = leb-true m (n ^ j) e
@@ -22,7 +23,11 @@ least-power-least : (d n m j k : ℕ) → m ≤ n ^ k → j ≤ k → leastPower
 least-power-least zero n m j k h g = g
 least-power-least (suc d) n m j k h g = go (leb m (n ^ j)) refl (ℕ-discrete j k) (least-power-least d n m (suc j) k h)
   where
-    go : (t : Bool) → leb m (n ^ j) ≡ t → Dec (j ≡ k) → (suc j ≤ k → leastPower d n m (suc j) ≤ k) → (elim t as (λ _. ℕ) [ true ↦ j | false ↦ leastPower d n m (suc j) ]) ≤ k
+    go : (t : Bool)
+        → leb m (n ^ j) ≡ t
+        → Dec (j ≡ k)
+        → (suc j ≤ k → leastPower d n m (suc j) ≤ k)
+        → (elim t as (λ _. ℕ) [ true ↦ j | false ↦ leastPower d n m (suc j) ]) ≤ k
     go true e c ih = g
     go false e (yes p) ih = absurd (let f : n ^ j < m = leb-false m (n ^ j) e in let c : m ≤ n ^ j = subst (λ i. m ≤ n ^ i) (sym p) h in omega arith)
     go false e (no f) ih = ih (omega arith)

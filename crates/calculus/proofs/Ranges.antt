@@ -46,8 +46,10 @@ module _ (u : Question) (w : HeadInRange u) where
   codes-range : (x : ℕ) (rs : List (ℕ × ℕ)) → x < u .p → InRange (map (codeChild u x) rs)
   codes-range x [] h = tt
   codes-range x (r ∷ rs) h =
-      let c = whole-apply code x h in
-      ((whole-above (apply u len x) (whole-apply len x h), (c, (whole-minus (number (pos (r .1))) (apply u code x) (whole-number (pos (r .1))) c, tt))), codes-range x rs h)
+      let c = whole-apply code x h in (
+        (whole-above (apply u len x) (whole-apply len x h), (c, (whole-minus (number (pos (r .1))) (apply u code x) (whole-number (pos (r .1))) c, tt))),
+        codes-range x rs h,
+      )
 
   pub children-in-range : (b : Branch) (st : Step) (cs : List (List Fact)) → FactsInRange u b → StepInRange u st → Instance u b st cs → All (FactsInRange u) cs
   unfolding Instance StepInRange
@@ -63,8 +65,10 @@ module _ (u : Question) (w : HeadInRange u) where
   children-in-range b (CCollapse x) cs r g i = subst InRange (sym (i .adds)) ((whole-value code x (valueOf code (literal u (i .held))) g, tt), tt)
   children-in-range b (CValid x) cs r g i =
       subst InRange (sym i) ((whole-above (apply u len x) (whole-apply len x g), (whole-value code x (negsuc 0) g, tt)), codes-range x (codeRanges (u .n)) g)
-  children-in-range b (CInj x y) cs r (hx, hy) i = subst InRange (sym (i .adds)) ((whole-value code x (negsuc 0) hx, tt), ((whole-difference code x y hx hy, tt), (((hx, hy), tt), tt)))
+  children-in-range b (CInj x y) cs r (hx, hy) i =
+      subst InRange (sym (i .adds)) ((whole-value code x (negsuc 0) hx, tt), ((whole-difference code x y hx hy, tt), (((hx, hy), tt), tt)))
   children-in-range b (Card []) cs r g i = absurd i
   children-in-range b (Card (x ∷ [])) cs r g i = absurd i
-  children-in-range b (Card (x ∷ y ∷ xs)) cs r g i = subst InRange (sym (i .adds)) (pairs-range (x ∷ y ∷ xs) (i .last) (g .0) (last-range x (length (x ∷ y ∷ xs)) (i .last) (g .0 .0) (i .last-child)))
+  children-in-range b (Card (x ∷ y ∷ xs)) cs r g i =
+      subst InRange (sym (i .adds)) (pairs-range (x ∷ y ∷ xs) (i .last) (g .0) (last-range x (length (x ∷ y ∷ xs)) (i .last) (g .0 .0) (i .last-child)))
   children-in-range b (Join j k) cs r g i = subst InRange (sym (i .adds)) ((all-at (FactInRange u) b j r (i .first), tt), tt)

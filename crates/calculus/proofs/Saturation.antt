@@ -100,7 +100,9 @@ module _ (u : Question) (w : HeadInRange u) (b : Branch) (r : FactsInRange u b) 
     where
       go : T (leb (length (ofLength x)) 1) ⊎ T (not (leb characters 1) && leb (least (length (ofLength x))) (natAbs (M x))) → Few x
       go (inl s) = inl (leb→le (length (ofLength x)) 1 s)
-      go (inr s) = let (p, q) = and→ (not (leb characters 1)) (leb (least (length (ofLength x))) (natAbs (M x))) s in inr (nleb→lt characters 1 p, leb→le (least (length (ofLength x))) (natAbs (M x)) q)
+      go (inr s) =
+          let (p, q) = and→ (not (leb characters 1)) (leb (least (length (ofLength x))) (natAbs (M x))) s in
+          inr (nleb→lt characters 1 p, leb→le (least (length (ofLength x))) (natAbs (M x)) q)
 
   -- the classes of one length are no more than the strings of that length
   card-enough : (x : ℕ) → T (saturatedCard u (labels b) m x) → length (ofLength x) ≤ characters ^ natAbs (M x)
@@ -115,10 +117,17 @@ module _ (u : Question) (w : HeadInRange u) (b : Branch) (r : FactsInRange u b) 
     lows-in x [] g e z i = absurd i
     lows-in x (y ∷ ys) (g, gs) (e, es) z (inl p) =
         let k : low y < u .p = omega (arith, lowest-le b y) in
-        subst (λ z. In z (ofLength x)) (sym p) (in-lowests u (labels b) m (M x) (u .p) (low y) (k, sym (class-value u b m h len y (low y) g k (lowest-joined b y)) ∙ e, lowest-lowest u w b r y))
+        subst (λ z. In z (ofLength x)) (sym p)
+        (in-lowests u (labels b) m (M x) (u .p) (low y) (k, sym (class-value u b m h len y (low y) g k (lowest-joined b y)) ∙ e, lowest-lowest u w b r y))
     lows-in x (y ∷ ys) (g, gs) (e, es) z (inr i) = lows-in x ys gs es z i
 
-    last-held : (x k : ℕ) (cs : List (List Fact)) → x < u .p → 2 ≤ k → k ≤ length (ofLength x) → T (saturatedCard u (labels b) m x) → LastChild u x k cs → AnyHeld b m cs
+    last-held : (x k : ℕ) (cs : List (List Fact))
+        → x < u .p
+        → 2 ≤ k
+        → k ≤ length (ofLength x)
+        → T (saturatedCard u (labels b) m x)
+        → LastChild u x k cs
+        → AnyHeld b m cs
     last-held x k cs hx l g t (inl (e, p)) = absurd (go (card→ x t))
       where
         go : Few x → ⊥
@@ -128,11 +137,17 @@ module _ (u : Question) (w : HeadInRange u) (b : Branch) (r : FactsInRange u b) 
         let enough : k ≤ characters ^ natAbs (M x) = omega (arith, card-enough x t) in
         subst (AnyHeld b m) (sym (p .adds)) (inl (
           subst (λ z. pos 0 ≤ℤ z) (sym (dot-minus (apply u len x) (number (pos (p .power))) (pos 1 ∷ m) (apply-in u m len x) (dot-number m (pos (p .power)))))
-              (→-ℤ-nonneg (subst (λ z. pos (p .power) ≤ℤ z) (sym (abs-nonneg (M x) (length-nonneg u b m h x hx))) (pos-≤ℤ (p .least .least (natAbs (M x)) enough)))),
+              (→-ℤ-nonneg
+              (subst (λ z. pos (p .power) ≤ℤ z) (sym (abs-nonneg (M x) (length-nonneg u b m h x hx))) (pos-≤ℤ (p .least .least (natAbs (M x)) enough)))),
           tt,
         ))
 
-    card-chosen : (x : ℕ) (xs : List ℕ) (cs : List (List Fact)) → All (λ y. y < u .p) (x ∷ xs) → 2 ≤ length (x ∷ xs) → T (saturatedCard u (labels b) m x) → IsCard u (LengthsEqual u m x xs) x xs cs → SomeChild b m cs
+    card-chosen : (x : ℕ) (xs : List ℕ) (cs : List (List Fact))
+        → All (λ y. y < u .p) (x ∷ xs)
+        → 2 ≤ length (x ∷ xs)
+        → T (saturatedCard u (labels b) m x)
+        → IsCard u (LengthsEqual u m x xs) x xs cs
+        → SomeChild b m cs
     card-chosen x xs cs g l t i = any→some b m cs (subst (AnyHeld b m) (sym (i .adds))
         (go (pairs-or-distinct low (All (HoldsAlready b m)) ℕ-discrete (λ x y e. (lowest→class b x y e, tt)) (x ∷ xs) (i .last))))
       where
@@ -151,22 +166,33 @@ module _ (u : Question) (w : HeadInRange u) (b : Branch) (r : FactsInRange u b) 
     last-test x y k e true h = absurd h
     last-test x y k e false (inr h) = absurd h
     last-test x y k e false (inl (h, _)) = le→leb (least k) (natAbs (M x)) (≤ℤ-abs (M x) (subst (λ z. pos (least k) ≤ℤ z) e
-        (-ℤ-nonneg→ (subst (λ z. pos 0 ≤ℤ z) (dot-minus (apply u len y) (number (pos (least k))) (pos 1 ∷ m) (apply-in u m len y) (dot-number m (pos (least k)))) h))))
+        (-ℤ-nonneg→
+        (subst (λ z. pos 0 ≤ℤ z) (dot-minus (apply u len y) (number (pos (least k))) (pos 1 ∷ m) (apply-in u m len y) (dot-number m (pos (least k)))) h))))
 
     card-test : (x : ℕ) → T (saturatedCard u (labels b) m x)
     unfolding LeafInstance StepInRange
     card-test x = by (ofLength x) (lowests u (labels b) m (M x) (u .p)) (lowests-distinct u (labels b) m (M x) (u .p))
       where
-        by : (rs : List ℕ) → All (IsLowest u (labels b) m (M x) (u .p)) rs → Distinct rs → T (leb (length rs) 1 || (not (leb characters 1) && leb (least (length rs)) (natAbs (M x))))
+        by : (rs : List ℕ)
+            → All (IsLowest u (labels b) m (M x) (u .p)) rs
+            → Distinct rs
+            → T (leb (length rs) 1 || (not (leb characters 1) && leb (least (length rs)) (natAbs (M x))))
         by [] h d = tt
         by (y ∷ []) h d = tt
         by (y ∷ z ∷ ys) h d =
             let rs = y ∷ z ∷ ys in
             let k = length (y ∷ z ∷ ys) in
             →or-right (leb k 1) (not (leb characters 1) && leb (least k) (natAbs (M x))) (last-test x y k (h .0 .1) (leb characters 1)
-            (pairs-distinct low (All (HoldsAlready b m)) (λ x y p. class→lowest u w b r x y (p .0)) rs (lastChild u y k) (subst Distinct (sym (map-same low rs (all-map rs (λ y h. h .2) h))) d)
+            (pairs-distinct low (All (HoldsAlready b m)) (λ x y p. class→lowest u w b r x y (p .0)) rs (lastChild u y k)
+            (subst Distinct (sym (map-same low rs (all-map rs (λ y h. h .2) h))) d)
             (some→any b m _ (s .some-child (Card rs) (all-map rs (λ y h. h .0) h, omega arith) _
-            (record { different = d; lengths = all-map (z ∷ ys) (λ v p. p .1 ∙ sym (h .0 .1)) (h .1); last = lastChild u y k; last-child = last→ u y k (w .alphabet); adds = refl })))))
+            (record {
+              different = d;
+              lengths = all-map (z ∷ ys) (λ v p. p .1 ∙ sym (h .0 .1)) (h .1);
+              last = lastChild u y k;
+              last-child = last→ u y k (w .alphabet);
+              adds = refl;
+            })))))
 
     pub enough : (x : ℕ) → length (lowestOfLength u (labels b) m (modelValue u m len x) (u .p)) ≤ characters ^ natAbs (modelValue u m len x)
     enough x = card-enough x (card-test x)
@@ -194,15 +220,24 @@ module _ (u : Question) (w : HeadInRange u) (b : Branch) (r : FactsInRange u b) 
         let c = by-classes in
         ap₂ _&&_ (→true (not (conflict u b)) (not-T (conflict u b) (λ t. s .no-conflict [] (record { clash = conflict→ u w b r t; closes = refl }))))
         (allBelow≡ (u .p) _ (λ x hx.
-        ap₂ _&&_ (ap₂ _&&_ (ap₂ _&&_ (ap₂ _&&_ (ap₂ _&&_ (step≡ (LIntro x) hx (c .l-intro x hx)) (step≡ (LValid x) hx (c .l-valid x hx))) (step≡ (CCollapse x) hx (c .c-collapse x hx))) (step≡ (CValid x) hx (c .c-valid x hx))) (→true (saturatedCard u (labels b) m x) (card-test x)))
+        ap₂ _&&_ (ap₂ _&&_ (ap₂ _&&_
+        (ap₂ _&&_ (ap₂ _&&_ (step≡ (LIntro x) hx (c .l-intro x hx)) (step≡ (LValid x) hx (c .l-valid x hx))) (step≡ (CCollapse x) hx (c .c-collapse x hx)))
+        (step≡ (CValid x) hx (c .c-valid x hx)))
+        (→true (saturatedCard u (labels b) m x) (card-test x)))
         (allBelow≡ (u .p) _ (λ y hy.
-        ap₂ _&&_ (ap₂ _&&_ (step≡ (SProp len x y) (hx, hy) (c .s-prop len x y hx hy)) (step≡ (SProp code x y) (hx, hy) (c .s-prop code x y hx hy))) (step≡ (CInj x y) (hx, hy) (c .c-inj x y hx hy))))))
+        ap₂ _&&_ (ap₂ _&&_ (step≡ (SProp len x y) (hx, hy) (c .s-prop len x y hx hy)) (step≡ (SProp code x y) (hx, hy) (c .s-prop code x y hx hy)))
+        (step≡ (CInj x y) (hx, hy) (c .c-inj x y hx hy))))))
 
   -- ---- the test gives the words
 
   module _ (ok : saturated u b m ≡ true) where
     abbrev ofOne : ℕ → Bool
-    ofOne x = saturatedStep u b m (LIntro x) && saturatedStep u b m (LValid x) && saturatedStep u b m (CCollapse x) && saturatedStep u b m (CValid x) && saturatedCard u (labels b) m x
+    ofOne x =
+        saturatedStep u b m (LIntro x)
+        && saturatedStep u b m (LValid x)
+        && saturatedStep u b m (CCollapse x)
+        && saturatedStep u b m (CValid x)
+        && saturatedCard u (labels b) m x
 
     abbrev ofTwo : ℕ → ℕ → Bool
     ofTwo x y = saturatedStep u b m (SProp len x y) && saturatedStep u b m (SProp code x y) && saturatedStep u b m (CInj x y)
@@ -213,16 +248,28 @@ module _ (u : Question) (w : HeadInRange u) (b : Branch) (r : FactsInRange u b) 
     of-variable : (x : ℕ) → x < u .p → T (ofOne x) × T (allBelow (u .p) (ofTwo x))
     of-variable x hx = and→ (ofOne x) (allBelow (u .p) (ofTwo x)) (all-below→ (u .p) (λ x. ofOne x && allBelow (u .p) (ofTwo x)) (parts .1) x hx)
 
-    of-one : (x : ℕ) → x < u .p → T (saturatedStep u b m (LIntro x)) × T (saturatedStep u b m (LValid x)) × T (saturatedStep u b m (CCollapse x)) × T (saturatedStep u b m (CValid x)) × T (saturatedCard u (labels b) m x)
+    of-one : (x : ℕ)
+        → x < u .p
+        → T (saturatedStep u b m (LIntro x))
+        × T (saturatedStep u b m (LValid x))
+        × T (saturatedStep u b m (CCollapse x))
+        × T (saturatedStep u b m (CValid x))
+        × T (saturatedCard u (labels b) m x)
     of-one x hx =
-        let s0 = saturatedStep u b m (LIntro x) in let s1 = saturatedStep u b m (LValid x) in let s2 = saturatedStep u b m (CCollapse x) in let s3 = saturatedStep u b m (CValid x) in
+        let s0 = saturatedStep u b m (LIntro x) in
+        let s1 = saturatedStep u b m (LValid x) in
+        let s2 = saturatedStep u b m (CCollapse x) in
+        let s3 = saturatedStep u b m (CValid x) in
         let (t3, t4) = and→ (s0 && s1 && s2 && s3) (saturatedCard u (labels b) m x) (of-variable x hx .0) in
         let (t2, p3) = and→ (s0 && s1 && s2) s3 t3 in
         let (t1, p2) = and→ (s0 && s1) s2 t2 in
         let (p0, p1) = and→ s0 s1 t1 in
         (p0, p1, p2, p3, t4)
 
-    of-two : (x y : ℕ) → x < u .p → y < u .p → T (saturatedStep u b m (SProp len x y)) × T (saturatedStep u b m (SProp code x y)) × T (saturatedStep u b m (CInj x y))
+    of-two : (x y : ℕ)
+        → x < u .p
+        → y < u .p
+        → T (saturatedStep u b m (SProp len x y)) × T (saturatedStep u b m (SProp code x y)) × T (saturatedStep u b m (CInj x y))
     of-two x y hx hy =
         let s0 = saturatedStep u b m (SProp len x y) in let s1 = saturatedStep u b m (SProp code x y) in
         let (t1, p2) = and→ (s0 && s1) (saturatedStep u b m (CInj x y)) (all-below→ (u .p) (ofTwo x) (of-variable x hx .1) y hy) in

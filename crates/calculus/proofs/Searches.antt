@@ -33,7 +33,12 @@ module _ (test : Fact → Bool) where
   lowest-passes [] k e = absurd (none-some e)
   lowest-passes (f ∷ b) k e = go (test f) refl (lowestFact test b) (lowest-passes b) k e
     where
-      go : (t : Bool) → test f ≡ t → (o : Option ℕ) → ((j : ℕ) → o ≡ some j → (g : Fact) × (getElem? b j ≡ some g) × (test g ≡ true)) → (k : ℕ) → turn t o ≡ some k
+      go : (t : Bool)
+          → test f ≡ t
+          → (o : Option ℕ)
+          → ((j : ℕ) → o ≡ some j → (g : Fact) × (getElem? b j ≡ some g) × (test g ≡ true))
+          → (k : ℕ)
+          → turn t o ≡ some k
           → (g : Fact) × (getElem? (f ∷ b) k ≡ some g) × (test g ≡ true)
       go true p o ih zero e = (f, refl, p)
       go true p o ih (suc k) e = absurd (let z : _≡_ {A = ℕ} 0 (suc k) = some-injective e in omega arith)
@@ -47,7 +52,12 @@ module _ (test : Fact → Bool) where
   lowest-least [] k e j h f g = absurd (none-some e)
   lowest-least (x ∷ b) k e j h f g = go (test x) refl (lowestFact test b) (lowest-least b) k e j h g
     where
-      go : (t : Bool) → test x ≡ t → (o : Option ℕ) → ((k : ℕ) → o ≡ some k → (j : ℕ) → j < k → (f : Fact) → getElem? b j ≡ some f → test f ≡ false) → (k : ℕ) → turn t o ≡ some k
+      go : (t : Bool)
+          → test x ≡ t
+          → (o : Option ℕ)
+          → ((k : ℕ) → o ≡ some k → (j : ℕ) → j < k → (f : Fact) → getElem? b j ≡ some f → test f ≡ false)
+          → (k : ℕ)
+          → turn t o ≡ some k
           → (j : ℕ) → j < k → getElem? (x ∷ b) j ≡ some f → test f ≡ false
       go true p o ih k e j h g = absurd (let z : _≡_ {A = ℕ} 0 k = some-injective e in omega arith)
       go false p none ih k e j h g = absurd (none-some e)
@@ -60,7 +70,10 @@ module _ (test : Fact → Bool) where
   lowest-kept [] c k e = absurd (none-some e)
   lowest-kept (f ∷ b) c k e = go (test f) (lowestFact test b) (lowest-kept b c) e
     where
-      go : (t : Bool) (o : Option ℕ) → ((j : ℕ) → o ≡ some j → lowestFact test (b ++ c) ≡ some j) → turn t o ≡ some k → turn t (lowestFact test (b ++ c)) ≡ some k
+      go : (t : Bool) (o : Option ℕ)
+          → ((j : ℕ) → o ≡ some j → lowestFact test (b ++ c) ≡ some j)
+          → turn t o ≡ some k
+          → turn t (lowestFact test (b ++ c)) ≡ some k
       go true o ih e = e
       go false none ih e = absurd (none-some e)
       go false (some j) ih e = ap (turn false) (ih j refl) ∙ e
@@ -84,7 +97,10 @@ module _ (test : Fact → Bool) where
   lowest-next [] f e p = ap (λ t. turn t none) p
   lowest-next (x ∷ b) f e p = go (test x) (lowestFact test b) (λ q. lowest-next b f q p) e
     where
-      go : (t : Bool) (o : Option ℕ) → (o ≡ none → lowestFact test (b ++ (f ∷ [])) ≡ some (length b)) → turn t o ≡ none → turn t (lowestFact test (b ++ (f ∷ []))) ≡ some (suc (length b))
+      go : (t : Bool) (o : Option ℕ)
+          → (o ≡ none → lowestFact test (b ++ (f ∷ [])) ≡ some (length b))
+          → turn t o ≡ none
+          → turn t (lowestFact test (b ++ (f ∷ []))) ≡ some (suc (length b))
       go true o ih e = absurd (some-none e)
       go false none ih e = ap (turn false) (ih refl)
       go false (some j) ih e = absurd (some-none e)

@@ -15,7 +15,8 @@ use Rattle.calculus.specs.Alphabet.{characterCount, codeRanges}
 use Rattle.calculus.specs.Facts.{Question, Fact, same, notSame, isLiteral, arithmetic, ge, eq, ne, Branch}
 use Rattle.calculus.specs.Classes.{labels, sameClass, classLiteral, conflict}
 use Rattle.calculus.specs.Chains.{varNode}
-use Rattle.calculus.specs.Steps.{Step, Sum, BranchOn, Apart, AConf, SConf, SProp, LIntro, LValid, CCollapse, CValid, CInj, Card, Join, pairCount, lastCount, shape}
+use Rattle.calculus.specs.Steps.{Step, Sum, BranchOn, Apart, AConf, SConf, SProp, LIntro, LValid}
+use Rattle.calculus.specs.Steps.{CCollapse, CValid, CInj, Card, Join, pairCount, lastCount, shape}
 use Rattle.calculus.specs.LinearForms.{scale, eqIntegers}
 use Rattle.calculus.specs.Children.{codeChild, pairChildrenWith, pairChildren, boundChild}
 use Rattle.calculus.specs.Rules.{sumOf, divided, apartOf, isFalse, joinOf, neighbours, distinct, leastPower, lastChild, cardChildren, children}
@@ -27,13 +28,19 @@ use Rattle.calculus.proofs.Tests.{guard→, then→}
 recount : (cs : List (List Fact)) (j k : ℕ) → j ≡ k → map length cs ≡ replicate j 1 → map length cs ≡ replicate k 1
 recount cs j k e h = h ∙ ap (λ n. replicate n 1) e
 
-pairs-with-sizes : (x : ℕ) (ys : List ℕ) (more : List (List Fact)) (k : ℕ) → map length more ≡ replicate k 1 → map length (pairChildrenWith x ys more) ≡ replicate (length ys + k) 1
+pairs-with-sizes : (x : ℕ) (ys : List ℕ) (more : List (List Fact)) (k : ℕ)
+    → map length more ≡ replicate k 1
+    → map length (pairChildrenWith x ys more) ≡ replicate (length ys + k) 1
 pairs-with-sizes x [] more k h = recount more k (0 + k) (omega arith) h
-pairs-with-sizes x (y ∷ ys) more k h = recount (pairChildrenWith x (y ∷ ys) more) (suc (length ys + k)) (suc (length ys) + k) (omega arith) (ap (λ l. 1 ∷ l) (pairs-with-sizes x ys more k h))
+pairs-with-sizes x (y ∷ ys) more k h =
+    recount (pairChildrenWith x (y ∷ ys) more) (suc (length ys + k)) (suc (length ys) + k) (omega arith) (ap (λ l. 1 ∷ l) (pairs-with-sizes x ys more k h))
 
-pairs-sizes : (xs : List ℕ) (more : List (List Fact)) (k : ℕ) → map length more ≡ replicate k 1 → map length (pairChildren xs more) ≡ replicate (pairCount (length xs) + k) 1
+pairs-sizes : (xs : List ℕ) (more : List (List Fact)) (k : ℕ)
+    → map length more ≡ replicate k 1
+    → map length (pairChildren xs more) ≡ replicate (pairCount (length xs) + k) 1
 pairs-sizes [] more k h = recount more k (0 + k) (omega arith) h
-pairs-sizes (x ∷ xs) more k h = recount (pairChildren (x ∷ xs) more) (length xs + (pairCount (length xs) + k)) ((length xs + pairCount (length xs)) + k) (omega arith)
+pairs-sizes (x ∷ xs) more k h =
+    recount (pairChildren (x ∷ xs) more) (length xs + (pairCount (length xs) + k)) ((length xs + pairCount (length xs)) + k) (omega arith)
     (pairs-with-sizes x xs (pairChildren xs more) (pairCount (length xs) + k) (pairs-sizes xs more k h))
 
 last-sizes : (u : Question) (x m : ℕ) (cs : List (List Fact)) → 1 ≤ u .n → LastChild u x m cs → map length cs ≡ replicate (lastCount (characterCount (u .n))) 1
@@ -65,7 +72,9 @@ instance-shape u h b (CValid x) cs i = ap (map length) i ∙ ap (λ l. 2 ∷ l) 
 instance-shape u h b (CInj x y) cs i = ap (map length) (i .adds)
 instance-shape u h b (Card []) cs i = absurd i
 instance-shape u h b (Card (x ∷ [])) cs i = absurd i
-instance-shape u h b (Card (x ∷ y ∷ xs)) cs i = ap (map length) (i .adds) ∙ pairs-sizes (x ∷ y ∷ xs) (i .last) (lastCount (characterCount (u .n))) (last-sizes u x (length (x ∷ y ∷ xs)) (i .last) h (i .last-child))
+instance-shape u h b (Card (x ∷ y ∷ xs)) cs i =
+    ap (map length) (i .adds)
+    ∙ pairs-sizes (x ∷ y ∷ xs) (i .last) (lastCount (characterCount (u .n))) (last-sizes u x (length (x ∷ y ∷ xs)) (i .last) h (i .last-child))
 instance-shape u h b (Join j k) cs i = ap (map length) (i .adds)
 
 -- ---- the walk counted
@@ -78,7 +87,8 @@ abbrev pub count : Walk Branch (List Fact) → Walk ℕ ℕ
 count (working b ss) = working (length b) (map counted ss)
 count closed = closed
 
-wait-counted : (b : Branch) (cs : List (List Fact)) (ss : List (Waiting Branch (List Fact))) → map counted (wait b cs ss) ≡ wait (length b) (map length cs) (map counted ss)
+wait-counted : (b : Branch) (cs : List (List Fact)) (ss : List (Waiting Branch (List Fact)))
+    → map counted (wait b cs ss) ≡ wait (length b) (map length cs) (map counted ss)
 wait-counted b [] ss = refl
 wait-counted b (c ∷ cs) ss = refl
 
@@ -86,7 +96,8 @@ cut-back-counted : (ss : List (Waiting Branch (List Fact))) → count (cutBack _
 cut-back-counted [] = refl
 cut-back-counted (s ∷ ss) = ap₂ working (length-append (s .mark) (s .child)) (wait-counted (s .mark) (s .rest) ss)
 
-enter-counted : (b : Branch) (cs : List (List Fact)) (ss : List (Waiting Branch (List Fact))) → count (enter _++_ b cs ss) ≡ enter _+_ (length b) (map length cs) (map counted ss)
+enter-counted : (b : Branch) (cs : List (List Fact)) (ss : List (Waiting Branch (List Fact)))
+    → count (enter _++_ b cs ss) ≡ enter _+_ (length b) (map length cs) (map counted ss)
 enter-counted b [] ss = cut-back-counted ss
 enter-counted b (c ∷ cs) ss = ap₂ working (length-append b c) (wait-counted b cs ss)
 
@@ -105,16 +116,21 @@ last-count (suc (suc n)) = rw (lt-leb (suc (suc n)) 1 (omega arith))
 last-shape : (u : Question) (x m : ℕ) → map length (lastChild u x m) ≡ replicate (lastCount (characterCount (u .n))) 1
 last-shape u x m = by-test (leb (characterCount (u .n)) 1) ∙ ap (λ k. replicate k 1) (sym (last-count (characterCount (u .n))))
   where
-    by-test : (t : Bool) → map (length {A = Fact}) (elim t as (λ _. List (List Fact)) [ true ↦ [] | false ↦ boundChild u x (leastPower m (characterCount (u .n)) m 0) ]) ≡ replicate (elim t as (λ _. ℕ) [ true ↦ 0 | false ↦ 1 ]) 1
+    by-test : (t : Bool)
+        → map (length {A = Fact}) (elim t as (λ _. List (List Fact)) [ true ↦ [] | false ↦ boundChild u x (leastPower m (characterCount (u .n)) m 0) ])
+        ≡ replicate (elim t as (λ _. ℕ) [ true ↦ 0 | false ↦ 1 ]) 1
     by-test true = refl
     by-test false = refl
 
-card-shape : (u : Question) (b : Branch) (xs : List ℕ) {cs : List (List Fact)} → cardChildren u b xs ≡ some cs → map length cs ≡ replicate (pairCount (length xs) + lastCount (characterCount (u .n))) 1
+card-shape : (u : Question) (b : Branch) (xs : List ℕ) {cs : List (List Fact)}
+    → cardChildren u b xs ≡ some cs
+    → map length cs ≡ replicate (pairCount (length xs) + lastCount (characterCount (u .n))) 1
 card-shape u b [] e = absurd (none-some e)
 card-shape u b (x ∷ []) e = absurd (none-some e)
 card-shape u b (x ∷ y ∷ xs) e =
     let m : ℕ = length (x ∷ y ∷ xs) in
-    ap (map length) (sym (guard→ (distinct (x ∷ y ∷ xs) && neighbours u b x (y ∷ xs)) e .1)) ∙ pairs-sizes (x ∷ y ∷ xs) (lastChild u x m) (lastCount (characterCount (u .n))) (last-shape u x m)
+    ap (map length) (sym (guard→ (distinct (x ∷ y ∷ xs) && neighbours u b x (y ∷ xs)) e .1))
+    ∙ pairs-sizes (x ∷ y ∷ xs) (lastChild u x m) (lastCount (characterCount (u .n))) (last-shape u x m)
 
 parted-shape : (f : Fact) {cs : List (List Fact)} → apartOf f ≡ some cs → map length cs ≡ 1 ∷ 1 ∷ []
 parted-shape (same x y) e = absurd (none-some e)

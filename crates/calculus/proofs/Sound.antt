@@ -10,16 +10,19 @@ use lib.ListN.{length, length-map}
 use lib.Dec.{eqb}
 use lib.IntN.{ℤ, pos, negsuc, negℤ, _+ℤ_, _-ℤ_, _*ℤ_, +ℤ-idr, *ℤ-zero, ℤ-discrete, pos-ne-negsuc}
 use lib.Signed.{_≤ℤ_, ≤ℤ-refl}
-use Rattle.integers.proofs.Laws.{minus-one-*ℤ, pos-injective, pos-≤ℤ, ≤ℤ-antisym, ≤ℤ-trans, +ℤ-mono, *ℤ-mono, -ℤ-zero→, →-ℤ-zero, →-ℤ-nonneg, neg-nonneg→, branch-cases, apart-cases, tighten}
+use Rattle.integers.proofs.Laws.{minus-one-*ℤ, pos-injective, pos-≤ℤ, ≤ℤ-antisym, ≤ℤ-trans, +ℤ-mono, *ℤ-mono, -ℤ-zero→}
+use Rattle.integers.proofs.Laws.{→-ℤ-zero, →-ℤ-nonneg, neg-nonneg→, branch-cases, apart-cases, tighten}
 use Rattle.lists.specs.Lists.{All, Distinct, Any}
 use Rattle.lists.proofs.Lists.{all-at, distinct-at}
 use Rattle.calculus.specs.Alphabet.{characterCount, codeRanges, InCodes, Over}
 use Rattle.calculus.specs.LinearForms.{scale, number, minus, less, above, below, dot}
-use Rattle.calculus.specs.Facts.{Question, Fact, same, notSame, isLiteral, arithmetic, Branch, Relation, ge, eq, ne, Holds, Function, len, code, literal, columnOf, apply, codeOf, valueOf}
+use Rattle.calculus.specs.Facts.{Question, Fact, same, notSame, isLiteral, arithmetic, Branch, Relation, ge}
+use Rattle.calculus.specs.Facts.{eq, ne, Holds, Function, len, code, literal, columnOf, apply, codeOf, valueOf}
 use Rattle.calculus.specs.Chains.{varNode, litNode, Edge, AnyEdge, Chain, here, along, back}
 use Rattle.calculus.specs.Steps.{Step, Sum, BranchOn, Apart, AConf, SConf, SProp, LIntro, LValid, CCollapse, CValid, CInj, Card, Join}
 use Rattle.calculus.specs.Children.{pairChildren, codeChild, cValidChildren, cInjChildren}
-use Rattle.calculus.specs.Instances.{entry, FactAt, Multiplier, Summands, total, IsSum, IsAConf, LiteralsMeet, SidesMeet, IsClassLiteral, LengthsStated, Neighbours, LastChild, IsCard, IsJoin, Instance, StepInRange}
+use Rattle.calculus.specs.Instances.{entry, FactAt, Multiplier, Summands, total, IsSum, IsAConf, LiteralsMeet, SidesMeet}
+use Rattle.calculus.specs.Instances.{IsClassLiteral, LengthsStated, Neighbours, LastChild, IsCard, IsJoin, Instance, StepInRange}
 use Rattle.calculus.specs.Meaning.{Assignment, str, For, columns, value, Meets, Met}
 use Rattle.calculus.proofs.LinearForms.{dot-plus, dot-scale, dot-neg, dot-minus, dot-number, dot-column, dot-less, dot-above, dot-below}
 use Rattle.calculus.proofs.Alphabet.{→ranges}
@@ -38,7 +41,9 @@ AnyMet u a cs = Any (Met u a) cs
 no-code-or-equal : (s t : List ℕ) → (codeOf s ≡ negsuc 0) ⊎ ((codeOf s ≢ codeOf t) ⊎ (s ≡ t))
 no-code-or-equal s t = go (one-or-no-code s) (one-or-no-code t) (ℤ-discrete (codeOf s) (codeOf t))
   where
-    go : ((c : ℕ) × (s ≡ c ∷ [])) ⊎ ((length s ≢ 1) × (codeOf s ≡ negsuc 0)) → ((d : ℕ) × (t ≡ d ∷ [])) ⊎ ((length t ≢ 1) × (codeOf t ≡ negsuc 0)) → Dec (codeOf s ≡ codeOf t)
+    go : ((c : ℕ) × (s ≡ c ∷ [])) ⊎ ((length s ≢ 1) × (codeOf s ≡ negsuc 0))
+        → ((d : ℕ) × (t ≡ d ∷ [])) ⊎ ((length t ≢ 1) × (codeOf t ≡ negsuc 0))
+        → Dec (codeOf s ≡ codeOf t)
         → (codeOf s ≡ negsuc 0) ⊎ ((codeOf s ≢ codeOf t) ⊎ (s ≡ t))
     go (inr (f, p)) h d = inl p
     go (inl (c, p)) h (no f) = inr (inl f)
@@ -73,20 +78,27 @@ module _ (u : Question) (a : Assignment) (f : For u a) where
   sum-met b [] [] m h = ≤ℤ-refl (pos 0)
   sum-met b [] (e ∷ es) m h = absurd h
   sum-met b (t ∷ ts) [] m h = absurd h
-  sum-met b (t ∷ ts) (e ∷ es) m (h, hs) = subst (λ z. pos 0 ≤ℤ z) (sym (dot-plus (scale (t .1) e) (summed ts es) (pos 1 ∷ v) ∙ ap (λ z. z +ℤ value a (summed ts es)) (dot-scale (t .1) e (pos 1 ∷ v))))
+  sum-met b (t ∷ ts) (e ∷ es) m (h, hs) =
+      subst (λ z. pos 0 ≤ℤ z)
+      (sym (dot-plus (scale (t .1) e) (summed ts es) (pos 1 ∷ v) ∙ ap (λ z. z +ℤ value a (summed ts es)) (dot-scale (t .1) e (pos 1 ∷ v))))
       (+ℤ-mono (summand-met (h .relation) (t .1) e (h .multiplier) (all-at (Meets u a) b (t .0) m (h .named))) (sum-met b ts es m hs))
 
   new-met : (b : Branch) (d : ℕ) (ts : List (ℕ × ℤ)) (cs : List (List Fact)) → Met u a b → (i : IsSum b d ts cs) → pos 0 ≤ℤ value a (i .new)
   new-met b d ts cs m i = subst (λ z. pos 0 ≤ℤ z) (sym (dot-split (i .new) v))
       (tighten d (dot-tail (i .new)) (total 0 ts (i .forms)) (entry (i .new) 0) (i .floor-high)
-      (subst (λ z. pos 0 ≤ℤ z) (dot-split (summed ts (i .forms)) v ∙ ap₂ _+ℤ_ (entry-summed ts (i .forms) 0) quotient) (sum-met b ts (i .forms) m (i .summands))))
+      (subst (λ z. pos 0 ≤ℤ z) (dot-split (summed ts (i .forms)) v ∙ ap₂ _+ℤ_ (entry-summed ts (i .forms) 0) quotient)
+      (sum-met b ts (i .forms) m (i .summands))))
     where
       dot-tail : List ℤ → ℤ
       dot-tail e = dot (tail e) v
 
       quotient : dot-tail (summed ts (i .forms)) ≡ pos d *ℤ dot-tail (i .new)
       quotient = dot-entries (tail (summed ts (i .forms))) (scale (pos d) (tail (i .new))) v (λ j.
-          entry-tail (summed ts (i .forms)) j ∙ entry-summed ts (i .forms) (suc j) ∙ sym (i .columns j) ∙ ap (λ c. pos d *ℤ c) (sym (entry-tail (i .new) j)) ∙ sym (entry-scale (pos d) (tail (i .new)) j))
+          entry-tail (summed ts (i .forms)) j
+          ∙ entry-summed ts (i .forms) (suc j)
+          ∙ sym (i .columns j)
+          ∙ ap (λ c. pos d *ℤ c) (sym (entry-tail (i .new) j))
+          ∙ sym (entry-scale (pos d) (tail (i .new)) j))
           ∙ dot-scale (pos d) (tail (i .new)) v
 
   -- ---- 4 A-Conf, 13 Join
@@ -95,13 +107,20 @@ module _ (u : Question) (a : Assignment) (f : For u a) where
   conf-dead b k cs m i = i .false-constant (subst (Holds (i .relation)) constant (all-at (Meets u a) b k m (i .named)))
     where
       constant : value a (i .form) ≡ entry (i .form) 0
-      constant = dot-split (i .form) v ∙ ap (λ z. entry (i .form) 0 +ℤ z) (dot-entries (tail (i .form)) [] v (λ j. entry-tail (i .form) j ∙ i .no-coefficient j)) ∙ +ℤ-idr (entry (i .form) 0)
+      constant =
+          dot-split (i .form) v
+          ∙ ap (λ z. entry (i .form) 0 +ℤ z) (dot-entries (tail (i .form)) [] v (λ j. entry-tail (i .form) j ∙ i .no-coefficient j))
+          ∙ +ℤ-idr (entry (i .form) 0)
 
   join-met : (b : Branch) (j k : ℕ) (cs : List (List Fact)) → Met u a b → (i : IsJoin b j k cs) → value a (i .form) ≡ pos 0
-  join-met b j k cs m i = ≤ℤ-antisym (neg-nonneg→ (subst (λ z. pos 0 ≤ℤ z) negative (all-at (Meets u a) b k m (i .second)))) (all-at (Meets u a) b j m (i .first))
+  join-met b j k cs m i =
+      ≤ℤ-antisym (neg-nonneg→ (subst (λ z. pos 0 ≤ℤ z) negative (all-at (Meets u a) b k m (i .second)))) (all-at (Meets u a) b j m (i .first))
     where
       negative : value a (i .negative) ≡ negℤ (value a (i .form))
-      negative = dot-entries (i .negative) (scale (negsuc 0) (i .form)) (pos 1 ∷ v) (λ p. i .negated p ∙ sym (entry-scale (negsuc 0) (i .form) p ∙ minus-one-*ℤ (entry (i .form) p))) ∙ dot-neg (i .form) (pos 1 ∷ v)
+      negative =
+          dot-entries (i .negative) (scale (negsuc 0) (i .form)) (pos 1 ∷ v)
+          (λ p. i .negated p ∙ sym (entry-scale (negsuc 0) (i .form) p ∙ minus-one-*ℤ (entry (i .form) p)))
+          ∙ dot-neg (i .form) (pos 1 ∷ v)
 
   -- ---- classes
 
@@ -136,38 +155,65 @@ module _ (u : Question) (a : Assignment) (f : For u a) where
   chain-met {b} m (back {i = i} {j = j} e c) = sym (any-edge-met b j i m e) ∙ chain-met m c
 
   literal-met : (b : Branch) (g : Function) (x : ℕ) (cs : List (List Fact)) → Met u a b → x < u .p → IsClassLiteral u b g x cs → AnyMet u a cs
-  literal-met b g x cs m h i = subst (AnyMet u a) (sym (i .adds)) (inl (equals-number g x (valueOf g (literal u (i .held))) h (ap (valueOf g) (sym (node-variable x) ∙ chain-met m (i .counts .held) ∙ node-literal (i .held))), tt))
+  literal-met b g x cs m h i =
+      subst (AnyMet u a) (sym (i .adds)) (inl (
+        equals-number g x (valueOf g (literal u (i .held))) h
+            (ap (valueOf g) (sym (node-variable x) ∙ chain-met m (i .counts .held) ∙ node-literal (i .held))),
+        tt,
+      ))
 
   clash-dead : (b : Branch) → Distinct ([] ∷ u .literals) → Met u a b → LiteralsMeet u b ⊎ SidesMeet b → ⊥
-  clash-dead b d m (inl i) = distinct-at [] ([] ∷ u .literals) (i .first) (i .second) d (omega (arith, i .first-defined)) (omega (arith, i .second-defined)) (i .different)
+  clash-dead b d m (inl i) =
+      distinct-at [] ([] ∷ u .literals) (i .first) (i .second) d (omega (arith, i .first-defined)) (omega (arith, i .second-defined)) (i .different)
       (sym (node-literal (i .first)) ∙ chain-met m (i .joined) ∙ node-literal (i .second))
-  clash-dead b d m (inr i) = all-at (Meets u a) b (i .stands .0) m (i .stands .1) (sym (node-variable (i .left)) ∙ chain-met m (i .joined) ∙ node-variable (i .right))
+  clash-dead b d m (inr i) =
+      all-at (Meets u a) b (i .stands .0) m (i .stands .1) (sym (node-variable (i .left)) ∙ chain-met m (i .joined) ∙ node-variable (i .right))
 
   -- ---- 12 Card
 
-  stated-met : (b : Branch) (x y k : ℕ) → Met u a b → x < u .p → y < u .p → FactAt b k (arithmetic eq (minus (apply u len x) (apply u len y))) → length (str a x) ≡ length (str a y)
-  stated-met b x y k m hx hy h = pos-injective (-ℤ-zero→ (sym (dot-minus (apply u len x) (apply u len y) (pos 1 ∷ v) (apply-value len x hx) (apply-value len y hy)) ∙ all-at (Meets u a) b k m h))
+  stated-met : (b : Branch) (x y k : ℕ)
+      → Met u a b
+      → x < u .p
+      → y < u .p
+      → FactAt b k (arithmetic eq (minus (apply u len x) (apply u len y)))
+      → length (str a x) ≡ length (str a y)
+  stated-met b x y k m hx hy h =
+      pos-injective
+      (-ℤ-zero→ (sym (dot-minus (apply u len x) (apply u len y) (pos 1 ∷ v) (apply-value len x hx) (apply-value len y hy)) ∙ all-at (Meets u a) b k m h))
 
   lengths-met : (b : Branch) (x y : ℕ) → Met u a b → x < u .p → y < u .p → LengthsStated u b x y → length (str a x) ≡ length (str a y)
   lengths-met b x y m hx hy (inl (k, h)) = stated-met b x y k m hx hy h
   lengths-met b x y m hx hy (inr (k, h)) = sym (stated-met b y x k m hy hx h)
 
-  words-met : (b : Branch) (l x : ℕ) (ys : List ℕ) → Met u a b → x < u .p → All (λ y. y < u .p) ys → Neighbours u b x ys → length (str a x) ≡ l → All (Word (u .n) l) (map (str a) ys)
+  words-met : (b : Branch) (l x : ℕ) (ys : List ℕ)
+      → Met u a b
+      → x < u .p
+      → All (λ y. y < u .p) ys
+      → Neighbours u b x ys
+      → length (str a x) ≡ l
+      → All (Word (u .n) l) (map (str a) ys)
   words-met b l x [] m hx g h e = tt
   words-met b l x (y ∷ ys) m hx (hy, g) (s, h) e =
       let k : length (str a y) ≡ l = sym (lengths-met b x y m hx hy s) ∙ e in
       ((f .over y, k), words-met b l y ys m hy g h k)
 
   last-met : (x m : ℕ) (cs : List (List Fact)) → x < u .p → 2 ≤ m → m ≤ characterCount (u .n) ^ length (str a x) → LastChild u x m cs → AnyMet u a cs
-  last-met x m cs hx h g (inl (e, p)) = absurd (let k : m ≤ 1 = subst (λ z. m ≤ z) (ap (λ n. n ^ length (str a x)) e ∙ one-power (length (str a x))) g in omega arith)
+  last-met x m cs hx h g (inl (e, p)) =
+      absurd (let k : m ≤ 1 = subst (λ z. m ≤ z) (ap (λ n. n ^ length (str a x)) e ∙ one-power (length (str a x))) g in omega arith)
   last-met x m cs hx h g (inr (e, p)) = subst (AnyMet u a) (sym (p .adds)) (inl (
     (subst (λ z. pos 0 ≤ℤ z) (sym (dot-minus (apply u len x) (number (pos (p .power))) (pos 1 ∷ v) (apply-value len x hx) (dot-number v (pos (p .power)))))
         (→-ℤ-nonneg (pos-≤ℤ (p .least .least (length (str a x)) g)))),
     tt,
   ))
 
-  card-met : (b : Branch) (x : ℕ) (xs : List ℕ) (cs : List (List Fact)) → Met u a b → All (λ y. y < u .p) (x ∷ xs) → 2 ≤ length (x ∷ xs) → IsCard u (Neighbours u b x xs) x xs cs → AnyMet u a cs
-  card-met b x xs cs m (hx, g) l i = subst (AnyMet u a) (sym (i .adds)) (go (pairs-or-distinct (str a) (Met u a) (List-discrete ℕ-discrete) (λ x y e. (e, tt)) (x ∷ xs) (i .last)))
+  card-met : (b : Branch) (x : ℕ) (xs : List ℕ) (cs : List (List Fact))
+      → Met u a b
+      → All (λ y. y < u .p) (x ∷ xs)
+      → 2 ≤ length (x ∷ xs)
+      → IsCard u (Neighbours u b x xs) x xs cs
+      → AnyMet u a cs
+  card-met b x xs cs m (hx, g) l i =
+      subst (AnyMet u a) (sym (i .adds)) (go (pairs-or-distinct (str a) (Met u a) (List-discrete ℕ-discrete) (λ x y e. (e, tt)) (x ∷ xs) (i .last)))
     where
       few : Distinct (map (str a) (x ∷ xs)) → length (x ∷ xs) ≤ characterCount (u .n) ^ length (str a x)
       few d = subst (λ k. k ≤ characterCount (u .n) ^ length (str a x)) (length-map (x ∷ xs) (str a))
@@ -186,21 +232,32 @@ module _ (u : Question) (a : Assignment) (f : For u a) where
   at-least : (e : List ℤ) {z : ℤ} → value a e ≡ z → pos 0 ≤ℤ z → Meets u a (arithmetic ge e)
   at-least e p h = (subst (λ z. pos 0 ≤ℤ z) (sym p) h)
 
-  pub instance-sound : Distinct ([] ∷ u .literals) → (b : Branch) (st : Step) (cs : List (List Fact)) → StepInRange u st → Instance u b st cs → Met u a b → AnyMet u a cs
+  pub instance-sound : Distinct ([] ∷ u .literals)
+      → (b : Branch) (st : Step) (cs : List (List Fact))
+      → StepInRange u st
+      → Instance u b st cs
+      → Met u a b
+      → AnyMet u a cs
   unfolding Instance StepInRange
   instance-sound d b (Sum k ts) cs g i m = subst (AnyMet u a) (sym (i .adds)) (inl ((new-met b k ts cs m i), tt))
-  instance-sound d b (BranchOn e) cs g i m = subst (AnyMet u a) (sym i) (two (arithmetic ge e) (arithmetic ge (below e)) (at-least e refl) (at-least (below e) (dot-below v e refl)) (branch-cases (value a e)))
+  instance-sound d b (BranchOn e) cs g i m =
+      subst (AnyMet u a) (sym i)
+      (two (arithmetic ge e) (arithmetic ge (below e)) (at-least e refl) (at-least (below e) (dot-below v e refl)) (branch-cases (value a e)))
   instance-sound d b (Apart k) cs g i m = let e = i .form in
-      subst (AnyMet u a) (sym (i .adds)) (two (arithmetic ge (above e)) (arithmetic ge (below e)) (at-least (above e) (dot-above v e refl)) (at-least (below e) (dot-below v e refl))
+      subst (AnyMet u a) (sym (i .adds))
+      (two (arithmetic ge (above e)) (arithmetic ge (below e)) (at-least (above e) (dot-above v e refl)) (at-least (below e) (dot-below v e refl))
       (apart-cases (value a e) (all-at (Meets u a) b k m (i .named))))
   instance-sound d b (AConf k) cs g i m = absurd (conf-dead b k cs m i)
   instance-sound d b SConf cs g i m = absurd (clash-dead b d m (i .clash))
   instance-sound d b (SProp h x y) cs (hx, hy) i m = subst (AnyMet u a) (sym (i .adds)) (inl (
-    (dot-minus (apply u h x) (apply u h y) (pos 1 ∷ v) (apply-value h x hx) (apply-value h y hy) ∙ →-ℤ-zero (ap (valueOf h) (sym (node-variable x) ∙ chain-met m (i .joined) ∙ node-variable y))),
+    (dot-minus (apply u h x) (apply u h y) (pos 1 ∷ v) (apply-value h x hx) (apply-value h y hy)
+        ∙ →-ℤ-zero (ap (valueOf h) (sym (node-variable x) ∙ chain-met m (i .joined) ∙ node-variable y))),
     tt,
   ))
   instance-sound d b (LIntro x) cs g i m = literal-met b len x cs m g i
-  instance-sound d b (LValid x) cs g i m = subst (AnyMet u a) (sym i) (two (isLiteral x 0) (arithmetic ge (above (apply u len x))) (λ e. e) (at-least (above (apply u len x)) (above-length x g)) (empty-or-longer (str a x)))
+  instance-sound d b (LValid x) cs g i m =
+      subst (AnyMet u a) (sym i)
+      (two (isLiteral x 0) (arithmetic ge (above (apply u len x))) (λ e. e) (at-least (above (apply u len x)) (above-length x g)) (empty-or-longer (str a x)))
     where
       empty-or-longer : (s : List ℕ) → (s ≡ []) ⊎ (pos 0 ≤ℤ (pos (length s) -ℤ pos 1))
       empty-or-longer [] = inl refl
@@ -219,7 +276,8 @@ module _ (u : Question) (a : Assignment) (f : For u a) where
         (
           at-least (less (apply u code x) (r .0)) (dot-less v (apply u code x) (r .0) (apply-value code x g ∙ ap codeOf e)) (→-ℤ-nonneg (pos-≤ℤ low)),
           (
-            at-least (minus (number (pos (r .1))) (apply u code x)) (dot-minus (number (pos (r .1))) (apply u code x) (pos 1 ∷ v) (dot-number v (pos (r .1))) (apply-value code x g ∙ ap codeOf e))
+            at-least (minus (number (pos (r .1))) (apply u code x))
+                (dot-minus (number (pos (r .1))) (apply u code x) (pos 1 ∷ v) (dot-number v (pos (r .1))) (apply-value code x g ∙ ap codeOf e))
                 (→-ℤ-nonneg (pos-≤ℤ high)),
             tt,
           ),
@@ -236,7 +294,9 @@ module _ (u : Question) (a : Assignment) (f : For u a) where
       go : (codeOf (str a x) ≡ negsuc 0) ⊎ ((codeOf (str a x) ≢ codeOf (str a y)) ⊎ (str a x ≡ str a y))
           → AnyMet u a (cInjChildren u x y)
       go (inl e) = inl (equals-number code x (negsuc 0) hx e, tt)
-      go (inr (inl h)) = inr (inl ((λ z. h (-ℤ-zero→ (sym (dot-minus (apply u code x) (apply u code y) (pos 1 ∷ v) (apply-value code x hx) (apply-value code y hy)) ∙ z))), tt))
+      go (inr (inl h)) =
+          inr
+          (inl ((λ z. h (-ℤ-zero→ (sym (dot-minus (apply u code x) (apply u code y) (pos 1 ∷ v) (apply-value code x hx) (apply-value code y hy)) ∙ z))), tt))
       go (inr (inr e)) = inr (inr (inl (e, tt)))
   instance-sound d b (Card []) cs g i m = absurd i
   instance-sound d b (Card (x ∷ [])) cs g i m = absurd i

@@ -1,4 +1,5 @@
--- The strings of a saturated leaf: they have the model's lengths and codes, are equal inside a class and different between classes, and with the model's integers they meet every fact of the leaf.
+-- The strings of a saturated leaf: they have the model's lengths and codes, are equal inside a class and different between classes, and with the model's
+-- integers they meet every fact of the leaf.
 use Prim.Native.Nat.{ℕ, zero, suc, _+_, _-_, _^_, _<_, _≤_}
 use native.Mathlib.Omega.{arith}
 use native.Mathlib.Decide.{ℕ-discrete, decLt}
@@ -49,7 +50,9 @@ module _ (u : Question) (b : Branch) (m : List ℤ) where
 
   pub length-strings : (k : ℕ) → length (stringsTo u b m k) ≡ k
   length-strings zero = refl
-  length-strings (suc k) = let e : length (stringsTo u b m k ++ (S k ∷ [])) ≡ length (stringsTo u b m k) + 1 = length-append (stringsTo u b m k) (S k ∷ []) in omega (arith, length-strings k)
+  length-strings (suc k) =
+      let e : length (stringsTo u b m k ++ (S k ∷ [])) ≡ length (stringsTo u b m k) + 1 = length-append (stringsTo u b m k) (S k ∷ []) in
+      omega (arith, length-strings k)
 
   pub strings-at : (k x : ℕ) → x < k → getD (stringsTo u b m k) x [] ≡ S x
   strings-at zero x h = absurd (omega arith)
@@ -83,7 +86,11 @@ module _ (u : Question) (b : Branch) (m : List ℤ) where
   in-fixed→ zero s h = absurd h
   in-fixed→ (suc k) s h = go (fixedString u b m k) refl h (in-fixed→ k s)
     where
-      go : (o : Option (List ℕ)) → fixedString u b m k ≡ o → In s (fixedBehind k o) → (In s (fixedStrings u b m k) → (y : ℕ) × (y < k) × (fixedString u b m y ≡ some s)) → (y : ℕ) × (y < suc k) × (fixedString u b m y ≡ some s)
+      go : (o : Option (List ℕ))
+          → fixedString u b m k ≡ o
+          → In s (fixedBehind k o)
+          → (In s (fixedStrings u b m k) → (y : ℕ) × (y < k) × (fixedString u b m y ≡ some s))
+          → (y : ℕ) × (y < suc k) × (fixedString u b m y ≡ some s)
       go (some t) e (inl p) ih = (k, omega arith, e ∙ ap some (sym p))
       go (some t) e (inr i) ih = let (y, g, q) = ih i in (y, omega arith, q)
       go none e i ih = let (y, g, q) = ih i in (y, omega arith, q)
@@ -108,7 +115,12 @@ module _ (u : Question) (b : Branch) (m : List ℤ) where
   before x = fixedStrings u b m (u .p) ++ stringsTo u b m x
 
   abbrev chosen : ℕ → Option (List ℕ) → Bool → List ℕ
-  chosen x o t = elim o as (λ _. List ℕ) [ some s ↦ s | none ↦ elim t as (λ _. List ℕ) [ true ↦ getD (stringsTo u b m x) (lowestVariable (labels b) x) [] | false ↦ freshFrom (u .p) (u .n) (L x) (before x) 0 ] ]
+  chosen x o t =
+      elim o as (λ _. List ℕ) [
+        | some s ↦ s
+        | none ↦
+            elim t as (λ _. List ℕ) [ true ↦ getD (stringsTo u b m x) (lowestVariable (labels b) x) [] | false ↦ freshFrom (u .p) (u .n) (L x) (before x) 0 ]
+      ]
 
   pub S-fixed : (x : ℕ) (s : List ℕ) → fixedString u b m x ≡ some s → S x ≡ s
   S-fixed x s e = ap (λ o. chosen x o (ltb (lowestVariable (labels b) x) x)) e
@@ -143,7 +155,9 @@ module _ (u : Question) (w : HeadInRange u) (b : Branch) (r : FactsInRange u b) 
   -- ---- one class, one string
 
   fixed-class : (x y : ℕ) → x < u .p → y < u .p → OneClass b x y → fixed x ≡ fixed y
-  fixed-class x y h g c = ap (λ o. fixedBy u o (M len x) (M code x)) (literal-same u w b r x y c) ∙ ap₂ (fixedBy u (classLiteral u b y)) (class-value u b m held len x y h g c) (class-value u b m held code x y h g c)
+  fixed-class x y h g c =
+      ap (λ o. fixedBy u o (M len x) (M code x)) (literal-same u w b r x y c)
+      ∙ ap₂ (fixedBy u (classLiteral u b y)) (class-value u b m held len x y h g c) (class-value u b m held code x y h g c)
 
   string-low : (x : ℕ) → x < u .p → string x ≡ string (low x)
   string-low x h = go (fixed x) refl (decLt (low x) x)
@@ -162,7 +176,12 @@ module _ (u : Question) (w : HeadInRange u) (b : Branch) (r : FactsInRange u b) 
   abbrev Fixed : ℕ → List ℕ → Type 0
   Fixed x s = ((l : ℕ) × Counts u b x l × (literal u l ≡ s)) ⊎ ((c : ℕ) × (s ≡ c ∷ []) × (M len x ≡ pos 1) × (M code x ≡ pos c) × Character (u .n) c)
 
-  one-character : (x : ℕ) (s : List ℕ) → x < u .p → (t : Bool) → eqℤ (M len x) (pos 1) ≡ t → oneChar t (M code x) ≡ some s → (c : ℕ) × (s ≡ c ∷ []) × (M len x ≡ pos 1) × (M code x ≡ pos c) × Character (u .n) c
+  one-character : (x : ℕ) (s : List ℕ)
+      → x < u .p
+      → (t : Bool)
+      → eqℤ (M len x) (pos 1) ≡ t
+      → oneChar t (M code x) ≡ some s
+      → (c : ℕ) × (s ≡ c ∷ []) × (M len x ≡ pos 1) × (M code x ≡ pos c) × Character (u .n) c
   one-character x s h false q k = absurd (none-some k)
   one-character x s h true q k = go (code-valid u b m held (w .alphabet) x h)
     where
@@ -226,7 +245,9 @@ module _ (u : Question) (w : HeadInRange u) (b : Branch) (r : FactsInRange u b) 
       go none e = values-new x (string x) h e (ap length (S-new u b m x e l) ∙ length-fresh (u .p) (u .n) (L u b m x) (before u b m x) 0)
 
   values : (x : ℕ) → x < u .p → Values x (string x)
-  values x h f = let g = low-below x h in class-value u b m held f x (low x) h g (lowest-joined b x) ∙ values-low (low x) g (lowest-lowest u w b r x) f ∙ ap (valueOf f) (sym (string-low x h))
+  values x h f =
+      let g = low-below x h in
+      class-value u b m held f x (low x) h g (lowest-joined b x) ∙ values-low (low x) g (lowest-lowest u w b r x) f ∙ ap (valueOf f) (sym (string-low x h))
 
   -- ---- a new class finds a string
 
@@ -235,7 +256,9 @@ module _ (u : Question) (w : HeadInRange u) (b : Branch) (r : FactsInRange u b) 
   ofLength x = lowestOfLength u (labels b) m (M len x) (u .p)
 
   in-length : (x y : ℕ) → y < u .p → M len y ≡ M len x → In (low y) (ofLength x)
-  in-length x y h e = in-lowests u (labels b) m (M len x) (u .p) (low y) (low-below y h, sym (class-value u b m held len y (low y) h (low-below y h) (lowest-joined b y)) ∙ e, lowest-lowest u w b r y)
+  in-length x y h e =
+      in-lowests u (labels b) m (M len x) (u .p) (low y)
+      (low-below y h, sym (class-value u b m held len y (low y) h (low-below y h) (lowest-joined b y)) ∙ e, lowest-lowest u w b r y)
 
   module _ (x : ℕ) (h : x < u .p) (e : fixed x ≡ none) (l : low x ≡ x) where
     itself : In x (ofLength x)
@@ -248,7 +271,8 @@ module _ (u : Question) (w : HeadInRange u) (b : Branch) (r : FactsInRange u b) 
     in-others : (s : List ℕ) (y : ℕ) → length s ≡ L u b m x → y < u .p → s ≡ string y → low y ≢ x → In s others
     unfolding others
     in-others s y k g p d = subst (λ t. In t (map string (without x (ofLength x) itself))) (sym (string-low y g) ∙ sym p)
-        (in-map string (low y) (without x (ofLength x) itself) (in-without x (low y) (ofLength x) itself d (in-length x y g (values y g len ∙ ap (λ t. pos (length t)) (sym p) ∙ ap pos k ∙ sym (length-is x h)))))
+        (in-map string (low y) (without x (ofLength x) itself)
+        (in-without x (low y) (ofLength x) itself d (in-length x y g (values y g len ∙ ap (λ t. pos (length t)) (sym p) ∙ ap pos k ∙ sym (length-is x h)))))
 
     given-others : (s : List ℕ) → length s ≡ L u b m x → In s (before u b m x) → In s others
     given-others s k i = go (in-append s (fixedStrings u b m (u .p)) (stringsTo u b m x) i)
@@ -262,8 +286,10 @@ module _ (u : Question) (w : HeadInRange u) (b : Branch) (r : FactsInRange u b) 
     unfolding others
     some-left f =
         let k = length (ofLength x) in
-        let a : length (words (u .n) (L u b m x) k) ≤ length (map string (without x (ofLength x) itself)) = at-most (words (u .n) (L u b m x) k) others (words-distinct (u .n) (L u b m x) k (w .alphabet) (enough u w b r m sat x)) given in
-        let c : length (map string (without x (ofLength x) itself)) ≡ length (without x (ofLength x) itself) = length-map (without x (ofLength x) itself) string in
+        let a : length (words (u .n) (L u b m x) k) ≤ length (map string (without x (ofLength x) itself)) =
+        at-most (words (u .n) (L u b m x) k) others (words-distinct (u .n) (L u b m x) k (w .alphabet) (enough u w b r m sat x)) given in
+        let c : length (map string (without x (ofLength x) itself)) ≡ length (without x (ofLength x) itself) =
+        length-map (without x (ofLength x) itself) string in
         let d : length (words (u .n) (L u b m x) k) ≡ k = length-words (u .n) (L u b m x) k in
         let g : k ≡ suc (length (without x (ofLength x) itself)) = length-without x (ofLength x) itself in
         omega arith
@@ -294,7 +320,8 @@ module _ (u : Question) (w : HeadInRange u) (b : Branch) (r : FactsInRange u b) 
         go (no f) = absurd (distinct-at [] ([] ∷ u .literals) l k differ (omega arith) (omega arith) f e)
 
     same-literal : (x y l k : ℕ) → Counts u b x l → Counts u b y k → literal u l ≡ literal u k → OneClass b x y
-    same-literal x y l k c d e = chain-trans (c .held) (subst (λ z. Chain b (litNode z) (varNode y)) (sym (one-number l k (c .defined) (d .defined) e)) (chain-sym (d .held)))
+    same-literal x y l k c d e =
+        chain-trans (c .held) (subst (λ z. Chain b (litNode z) (varNode y)) (sym (one-number l k (c .defined) (d .defined) e)) (chain-sym (d .held)))
 
     lowest-differ : (x y : ℕ) → x < u .p → y < u .p → low x ≡ x → low y ≡ y → x ≢ y → string x ≢ string y
     lowest-differ x y h g lx ly d e = by-code (one-or-no-code (string x))
@@ -318,20 +345,30 @@ module _ (u : Question) (w : HeadInRange u) (b : Branch) (r : FactsInRange u b) 
         by-kind : length (string x) ≢ 1 → (o q : Option (List ℕ)) → fixed x ≡ o → fixed y ≡ q → ⊥
         by-kind f (some s) (some t) p q = let sx = S-fixed u b m x s p in let sy = S-fixed u b m y t q in
             literals s t (λ i. f (ap length sx ∙ i)) (sym sx ∙ e ∙ sy) (fixed→ x s h p) (fixed→ y t g q)
-        by-kind f (some s) none p q = new-string y g q ly .1 (in-left (string y) (fixedStrings u b m (u .p)) (stringsTo u b m y) (→in-fixed u b m (u .p) x (string y) h (p ∙ ap some (sym (S-fixed u b m x s p) ∙ e))))
-        by-kind f none (some t) p q = new-string x h p lx .1 (in-left (string x) (fixedStrings u b m (u .p)) (stringsTo u b m x) (→in-fixed u b m (u .p) y (string x) g (q ∙ ap some (sym (S-fixed u b m y t q) ∙ sym e))))
+        by-kind f (some s) none p q =
+            new-string y g q ly .1 (in-left (string y) (fixedStrings u b m (u .p)) (stringsTo u b m y)
+            (→in-fixed u b m (u .p) x (string y) h (p ∙ ap some (sym (S-fixed u b m x s p) ∙ e))))
+        by-kind f none (some t) p q =
+            new-string x h p lx .1 (in-left (string x) (fixedStrings u b m (u .p)) (stringsTo u b m x)
+            (→in-fixed u b m (u .p) y (string x) g (q ∙ ap some (sym (S-fixed u b m y t q) ∙ sym e))))
         by-kind f none none p q = order (decLt x y)
           where
             order : Dec (x < y) → ⊥
-            order (yes i) = new-string y g q ly .1 (in-right (string y) (fixedStrings u b m (u .p)) (stringsTo u b m y) (subst (λ s. In s (stringsTo u b m y)) e (→in-strings u b m y x i)))
-            order (no i) = new-string x h p lx .1 (in-right (string x) (fixedStrings u b m (u .p)) (stringsTo u b m x) (subst (λ s. In s (stringsTo u b m x)) (sym e) (→in-strings u b m x y (omega arith))))
+            order (yes i) =
+                new-string y g q ly .1
+                (in-right (string y) (fixedStrings u b m (u .p)) (stringsTo u b m y) (subst (λ s. In s (stringsTo u b m y)) e (→in-strings u b m y x i)))
+            order (no i) =
+                new-string x h p lx .1 (in-right (string x) (fixedStrings u b m (u .p)) (stringsTo u b m x)
+                (subst (λ s. In s (stringsTo u b m x)) (sym e) (→in-strings u b m x y (omega arith))))
 
         by-code : ((c : ℕ) × (string x ≡ c ∷ [])) ⊎ ((length (string x) ≢ 1) × (codeOf (string x) ≡ negsuc 0)) → ⊥
         by-code (inl (c, p)) = injected c (values x h code ∙ ap codeOf p) (code-injective u b m held x y h g d)
         by-code (inr (f, p)) = by-kind f (fixed x) (fixed y) refl refl
 
     classes-differ : (x y : ℕ) → x < u .p → y < u .p → (OneClass b x y → ⊥) → string x ≢ string y
-    classes-differ x y h g d e = lowest-differ (low x) (low y) (low-below x h) (low-below y g) (lowest-lowest u w b r x) (lowest-lowest u w b r y) (λ k. d (lowest→class b x y k)) (sym (string-low x h) ∙ e ∙ string-low y g)
+    classes-differ x y h g d e =
+        lowest-differ (low x) (low y) (low-below x h) (low-below y g) (lowest-lowest u w b r x) (lowest-lowest u w b r y) (λ k. d (lowest→class b x y k))
+        (sym (string-low x h) ∙ e ∙ string-low y g)
 
     -- ---- the assignment
 
@@ -358,14 +395,21 @@ module _ (u : Question) (w : HeadInRange u) (b : Branch) (r : FactsInRange u b) 
           go x (no f) = subst (Over (u .n)) (sym (List·getD-eq-default (stringsTo u b m (u .p)) [] (omega (arith, length-strings u b m (u .p))))) tt
 
       -- the values of the strings are a stretch of the model
-      stretch : (f : Function) (l : List ℤ) → length l ≡ u .p → ((x : ℕ) → x < u .p → modelValue u m f x ≡ getD l x (pos 0)) → map (valueOf f) (strings u b m) ≡ l
+      stretch : (f : Function) (l : List ℤ)
+          → length l ≡ u .p
+          → ((x : ℕ) → x < u .p → modelValue u m f x ≡ getD l x (pos 0))
+          → map (valueOf f) (strings u b m) ≡ l
       stretch f l e h = ext-getD (pos 0) (map (valueOf f) (strings u b m)) l (long ∙ sym e) (λ x k. go x (subst (λ n. x < n) long k))
         where
           long : length (map (valueOf f) (strings u b m)) ≡ u .p
           long = length-map (strings u b m) (valueOf f) ∙ length-strings u b m (u .p)
 
           go : (x : ℕ) → x < u .p → getD (map (valueOf f) (strings u b m)) x (pos 0) ≡ getD l x (pos 0)
-          go x k = getD-map (valueOf f) (strings u b m) x [] (pos 0) (subst (λ n. x < n) (sym (length-strings u b m (u .p))) k) ∙ ap (valueOf f) (str-is x k) ∙ sym (values x k f) ∙ h x k
+          go x k =
+              getD-map (valueOf f) (strings u b m) x [] (pos 0) (subst (λ n. x < n) (sym (length-strings u b m (u .p))) k)
+              ∙ ap (valueOf f) (str-is x k)
+              ∙ sym (values x k f)
+              ∙ h x k
 
       columns-are : columns (answer u b m) ≡ m
       columns-are = ap (λ l. take (u .q) m ++ l) (ap₂ _++_ lengths codes ∙ take-append-drop (u .p) (drop (u .q) m)) ∙ take-append-drop (u .q) m
@@ -374,10 +418,14 @@ module _ (u : Question) (w : HeadInRange u) (b : Branch) (r : FactsInRange u b) 
           behind = let e : length (drop (u .q) m) ≡ length m - u .q = length-drop (u .q) m in omega arith
 
           lengths : map (valueOf len) (strings u b m) ≡ take (u .p) (drop (u .q) m)
-          lengths = stretch len (take (u .p) (drop (u .q) m)) (length-take-le (u .p) (drop (u .q) m) (omega (arith, behind))) (λ x k. sym (getD-take (u .p) (drop (u .q) m) x (pos 0) k ∙ getD-drop (u .q) m x (pos 0)))
+          lengths =
+              stretch len (take (u .p) (drop (u .q) m)) (length-take-le (u .p) (drop (u .q) m) (omega (arith, behind)))
+              (λ x k. sym (getD-take (u .p) (drop (u .q) m) x (pos 0) k ∙ getD-drop (u .q) m x (pos 0)))
 
           codes : map (valueOf code) (strings u b m) ≡ drop (u .p) (drop (u .q) m)
-          codes = stretch code (drop (u .p) (drop (u .q) m)) (let e : length (drop (u .p) (drop (u .q) m)) ≡ length (drop (u .q) m) - u .p = length-drop (u .p) (drop (u .q) m) in omega (arith, behind))
+          codes =
+              stretch code (drop (u .p) (drop (u .q) m))
+              (let e : length (drop (u .p) (drop (u .q) m)) ≡ length (drop (u .q) m) - u .p = length-drop (u .p) (drop (u .q) m) in omega (arith, behind))
               (λ x k. sym (getD-drop (u .p) (drop (u .q) m) x (pos 0) ∙ getD-drop (u .q) m (u .p + x) (pos 0)))
 
       -- ---- every fact of the leaf is met
@@ -394,19 +442,28 @@ module _ (u : Question) (w : HeadInRange u) (b : Branch) (r : FactsInRange u b) 
           one-literal : (k : ℕ) → Counts u b x k → Dec (k ≡ l) → k ≡ l
           one-literal k d (yes p) = p
           one-literal k d (no f) = absurd (sat .no-conflict [] (record {
-            clash = inl (record { first = k; second = l; first-defined = d .defined; second-defined = h; different = f; joined = chain-trans (chain-sym (d .held)) c });
+            clash =
+                inl
+                (record { first = k; second = l; first-defined = d .defined; second-defined = h; different = f; joined = chain-trans (chain-sym (d .held)) c });
             closes = refl;
           }))
 
           go : (o : Option ℕ) → classLiteral u b x ≡ o → string x ≡ literal u l
           go none e = absurd (no-literal u w b r x e l h c)
-          go (some k) e = S-fixed u b m x (literal u k) (ap (λ o. fixedBy u o (M len x) (M code x)) e) ∙ ap (literal u) (one-literal k (literal→counts u w b r x e) (ℕ-discrete k l))
+          go (some k) e =
+              S-fixed u b m x (literal u k) (ap (λ o. fixedBy u o (M len x) (M code x)) e)
+              ∙ ap (literal u) (one-literal k (literal→counts u w b r x e) (ℕ-discrete k l))
 
       meets : (k : ℕ) (f : Fact) → FactAt b k f → FactInRange u f → MeetsArithmetic m f → Meets u (answer u b m) f
       unfolding Instance
-      meets k (same x y) h (hx, hy) a = str-is x hx ∙ string-class x y hx hy (along (joined b k (same x y) (varNode x) (varNode y) h (refl, refl)) here) ∙ sym (str-is y hy)
-      meets k (notSame x y) h (hx, hy) a = λ e. classes-differ x y hx hy (λ c. sat .no-conflict [] (record { clash = inr (record { left = x; right = y; stands = (k, h); joined = c }); closes = refl })) (sym (str-is x hx) ∙ e ∙ str-is y hy)
-      meets k (isLiteral x l) h (hx, hl) a = str-is x hx ∙ string-literal x l hl (along (joined b k (isLiteral x l) (varNode x) (litNode l) h (refl, refl)) here)
+      meets k (same x y) h (hx, hy) a =
+          str-is x hx ∙ string-class x y hx hy (along (joined b k (same x y) (varNode x) (varNode y) h (refl, refl)) here) ∙ sym (str-is y hy)
+      meets k (notSame x y) h (hx, hy) a =
+          λ e. classes-differ x y hx hy
+          (λ c. sat .no-conflict [] (record { clash = inr (record { left = x; right = y; stands = (k, h); joined = c }); closes = refl }))
+          (sym (str-is x hx) ∙ e ∙ str-is y hy)
+      meets k (isLiteral x l) h (hx, hl) a =
+          str-is x hx ∙ string-literal x l hl (along (joined b k (isLiteral x l) (varNode x) (litNode l) h (refl, refl)) here)
       meets k (arithmetic s e) h n a = subst (Holds s) (sym (ap (λ v. valueIn v e) columns-are)) a
 
       all-met : (c : Branch) → ((f : Fact) → In f c → In f b) → FactsInRange u c → All (MeetsArithmetic m) c → Met u (answer u b m) c

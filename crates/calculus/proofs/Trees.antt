@@ -18,5 +18,6 @@ module _ (u : Question) (d : Distinct ([] ∷ u .literals)) (a : Assignment) (f 
 
     all-sound : {b : Branch} {cs : List (List Fact)} {s : List Step} → ClosesAll u b cs s → All (StepInRange u) s → Met u a b → AnyMet u a cs → ⊥
     all-sound none-left g m h = h
-    all-sound (child {b = b} {c = c} {first = p} {others = q} e k ks) g m (inl h) = closes-sound k (all-left _ p q (subst (All (StepInRange u)) e g)) (all-append (Meets u a) b c m h)
+    all-sound (child {b = b} {c = c} {first = p} {others = q} e k ks) g m (inl h) =
+        closes-sound k (all-left _ p q (subst (All (StepInRange u)) e g)) (all-append (Meets u a) b c m h)
     all-sound (child {b = b} {c = c} {first = p} {others = q} e k ks) g m (inr h) = all-sound ks (all-right _ p q (subst (All (StepInRange u)) e g)) m h

@@ -1,4 +1,5 @@
--- Walking by what checking computes: the steps of claim 1 fit one after another and close every branch exactly when they are one closed tree; the children of claim 2 are taken exactly when the path is proper.
+-- Walking by what checking computes: the steps of claim 1 fit one after another and close every branch exactly when they are one closed tree; the children of
+-- claim 2 are taken exactly when the path is proper.
 use Prim.Native.Nat.{ℕ, zero, suc, _-_}
 use mathlib.Core.Path.{_≡_, refl, sym, _∙_, ap, subst}
 use mathlib.Core.Option.{Option, some}
@@ -56,7 +57,11 @@ module _ (u : Question) where
   StateInRange (working b ss) = FactsInRange u b × All WaitingInRange ss
   StateInRange closed = Unit {0}
 
-  wait-in-range : (b : Branch) (cs : List (List Fact)) (ss : Pending) → FactsInRange u b → All (FactsInRange u) cs → All WaitingInRange ss → All WaitingInRange (wait b cs ss)
+  wait-in-range : (b : Branch) (cs : List (List Fact)) (ss : Pending)
+      → FactsInRange u b
+      → All (FactsInRange u) cs
+      → All WaitingInRange ss
+      → All WaitingInRange (wait b cs ss)
   wait-in-range b [] ss h g r = r
   wait-in-range b (c ∷ cs) ss h (g, gs) r = ((h, g, gs), r)
 
@@ -64,7 +69,11 @@ module _ (u : Question) where
   cut-back-in-range [] r = tt
   cut-back-in-range (s ∷ ss) ((h, g, gs), r) = (all-append _ (s .mark) (s .child) h g, wait-in-range (s .mark) (s .rest) ss h gs r)
 
-  pub enter-in-range : (b : Branch) (cs : List (List Fact)) (ss : Pending) → FactsInRange u b → All (FactsInRange u) cs → All WaitingInRange ss → StateInRange (enter _++_ b cs ss)
+  pub enter-in-range : (b : Branch) (cs : List (List Fact)) (ss : Pending)
+      → FactsInRange u b
+      → All (FactsInRange u) cs
+      → All WaitingInRange ss
+      → StateInRange (enter _++_ b cs ss)
   enter-in-range b [] ss h g r = cut-back-in-range ss r
   enter-in-range b (c ∷ cs) ss h (g, gs) r = (all-append _ b c h g, wait-in-range b cs ss h gs r)
 
@@ -83,7 +92,9 @@ module _ (u : Question) where
   pop b [] ss s h = ([], s, refl, none-left, h)
   pop b (c ∷ cs) ss s h = h
 
-  joined : (b : Branch) (c : List Fact) (cs : List (List Fact)) (ss : Pending) (s : List Step) → ClosesState (working (b ++ c) (wait b cs ss)) s → Parts (ClosesAll u b (c ∷ cs)) (ClosesWaiting ss) s
+  joined : (b : Branch) (c : List Fact) (cs : List (List Fact)) (ss : Pending) (s : List Step)
+      → ClosesState (working (b ++ c) (wait b cs ss)) s
+      → Parts (ClosesAll u b (c ∷ cs)) (ClosesWaiting ss) s
   joined b c cs ss s (f, r, e, k, h) =
       let (f', r', e', k', h') = pop b cs ss r h in
       (f ++ f', r', e ∙ ap (λ l. f ++ l) e' ∙ sym (append-assoc f f' r'), child refl k k', h')
@@ -92,7 +103,10 @@ module _ (u : Question) where
   cut-back-closes [] s h = h
   cut-back-closes (p ∷ ps) s h = joined (p .mark) (p .child) (p .rest) ps s h
 
-  step-closes : (b : Branch) (st : Step) (cs : List (List Fact)) (ss : Pending) (s : List Step) → Instance u b st cs → ClosesState (enter _++_ b cs ss) s → ClosesState (working b ss) (st ∷ s)
+  step-closes : (b : Branch) (st : Step) (cs : List (List Fact)) (ss : Pending) (s : List Step)
+      → Instance u b st cs
+      → ClosesState (enter _++_ b cs ss) s
+      → ClosesState (working b ss) (st ∷ s)
   step-closes b st [] ss s i h = (st ∷ [], s, refl, by i none-left, cut-back-closes ss s h)
   step-closes b st (c ∷ cs) ss s i h =
       let (f, r, e, k, h') = joined b c cs ss s h in
@@ -115,16 +129,23 @@ module _ (u : Question) (w : HeadInRange u) where
 
     closes-walked : {b : Branch} {s : List Step} → Closes u b s → (ss : Pending) (r : List Step) → FactsInRange u b → All (StepInRange u) s
         → Walked u (cutBack _++_ ss) r → Walked u (working b ss) (s ++ r)
-    closes-walked (by {b = b} {st = st} {cs = cs} i k) ss r rb (g, gs) h = (cs, instance→fits u w b rb st g i, all-walked k ss r rb (children-in-range u w b st cs rb g i) gs h)
+    closes-walked (by {b = b} {st = st} {cs = cs} i k) ss r rb (g, gs) h =
+        (cs, instance→fits u w b rb st g i, all-walked k ss r rb (children-in-range u w b st cs rb g i) gs h)
 
-    all-walked : {b : Branch} {cs : List (List Fact)} {s : List Step} → ClosesAll u b cs s → (ss : Pending) (r : List Step) → FactsInRange u b → All (FactsInRange u) cs → All (StepInRange u) s
+    all-walked : {b : Branch} {cs : List (List Fact)} {s : List Step}
+        → ClosesAll u b cs s
+        → (ss : Pending) (r : List Step)
+        → FactsInRange u b
+        → All (FactsInRange u) cs
+        → All (StepInRange u) s
         → Walked u (cutBack _++_ ss) r → Walked u (enter _++_ b cs ss) (s ++ r)
     all-walked none-left ss r rb rc g h = h
     all-walked (child {b = b} {c = c} {cs = cs} {first = f} {others = m} {sts = s} d k ks) ss r rb (rc, rcs) g h =
         let g' : All (StepInRange u) (f ++ m) = subst (All (StepInRange u)) d g in
         let rest : Walked u (enter _++_ b cs ss) (m ++ r) = all-walked ks ss r rb rcs (all-right _ f m g') h in
         subst (Walked u (working (b ++ c) (wait b cs ss))) (sym (ap (λ q. q ++ r) d ∙ append-assoc f m r))
-        (closes-walked k (wait b cs ss) (m ++ r) (all-append _ b c rb rc) (all-left _ f m g') (subst (λ q. Walked u q (m ++ r)) (sym (cut-back-wait b cs ss)) rest))
+        (closes-walked k (wait b cs ss) (m ++ r) (all-append _ b c rb rc) (all-left _ f m g')
+        (subst (λ q. Walked u q (m ++ r)) (sym (cut-back-wait b cs ss)) rest))
 
   -- ---- the steps of claim 1
 
@@ -160,7 +181,9 @@ Followed = FollowedBy children
 
 module _ (u : Question) (w : HeadInRange u) where
   pub taken-in-range : (b : Branch) (t : Step × ℕ) (c : List Fact) → FactsInRange u b → StepInRange u (t .0) → Takes u b t c → FactsInRange u (b ++ c)
-  taken-in-range b t c r g k = all-append _ b c r (all-at (FactsInRange u) (k .children) (t .1 - 1) (children-in-range u w b (t .0) (k .children) r g (k .proper)) (child-at (k .children) (t .1) (k .taken)))
+  taken-in-range b t c r g k =
+      all-append _ b c r (all-at (FactsInRange u) (k .children) (t .1 - 1) (children-in-range u w b (t .0) (k .children) r g (k .proper))
+      (child-at (k .children) (t .1) (k .taken)))
 
   pub taken→takes : (b : Branch) (t : Step × ℕ) (c : List Fact) → FactsInRange u b → StepInRange u (t .0) → childTaken u b t ≡ some c → Takes u b t c
   taken→takes b t c r g e =

@@ -1,8 +1,10 @@
--- Strings over the alphabet: those of one length in order, each there once, so that different ones are at most as many; and the first that is not among given ones.
+-- Strings over the alphabet: those of one length in order, each there once, so that different ones are at most as many; and the first that is not among given
+-- ones.
 use Prim.Native.Nat.{ℕ, zero, suc, _+_, _*_, _/_, _%_, _^_, _<_, _≤_}
 use native.Mathlib.Omega.{arith}
 use native.Mathlib.Decide.{ℕ-discrete}
-use native.Mathlib.Nat.{mod-lt, mod-eq-of-lt, div-eq-of-lt, div-add-mod, div-lt-iff-lt-mul, add-mul-div-left, add-mul-mod-self-left, mul-le-mul-left, mul-comm, pow-succ', pow-zero, one-le-pow}
+use native.Mathlib.Nat.{mod-lt, mod-eq-of-lt, div-eq-of-lt, div-add-mod, div-lt-iff-lt-mul, add-mul-div-left}
+use native.Mathlib.Nat.{add-mul-mod-self-left, mul-le-mul-left, mul-comm, pow-succ', pow-zero, one-le-pow}
 use mathlib.Core.Path.{_≡_, refl, sym, _∙_, ap, ap₂, subst}
 use mathlib.Core.Logic.{_≢_, _⊎_, inl, inr}
 use mathlib.Core.Bool.{Bool, true, false}
@@ -48,8 +50,10 @@ word-injective : (n l i j : ℕ) → 0 < n → i < characterCount n ^ l → j < 
 word-injective n zero i j z h g e = let a : i < 1 = rw pow-zero at h in let b : j < 1 = rw pow-zero at g in omega arith
 word-injective n (suc l) i j z h g e =
     let some = one-le-pow l (characterCount n) (some-character n z) in
-    let q : i / characterCount n ^ l ≡ j / characterCount n ^ l = character-injective n (i / characterCount n ^ l) (j / characterCount n ^ l) (head-eq-of-cons-eq e) in
-    let r : i % characterCount n ^ l ≡ j % characterCount n ^ l = word-injective n l (i % characterCount n ^ l) (j % characterCount n ^ l) z (mod-lt i some) (mod-lt j some) (tail-eq-of-cons-eq e) in
+    let q : i / characterCount n ^ l ≡ j / characterCount n ^ l =
+    character-injective n (i / characterCount n ^ l) (j / characterCount n ^ l) (head-eq-of-cons-eq e) in
+    let r : i % characterCount n ^ l ≡ j % characterCount n ^ l =
+    word-injective n l (i % characterCount n ^ l) (j % characterCount n ^ l) z (mod-lt i some) (mod-lt j some) (tail-eq-of-cons-eq e) in
     sym (div-add-mod i (characterCount n ^ l)) ∙ ap₂ (λ x y. characterCount n ^ l * x + y) q r ∙ div-add-mod j (characterCount n ^ l)
 
 -- ---- the number of a string among those of its length
@@ -63,8 +67,10 @@ unfolding place
 place-below n [] h = rw pow-zero (omega arith)
 place-below n (c ∷ s) (h, hs) =
     let f : place n s < characterCount n ^ length s = place-below n s hs in
-    let g : characterCount n ^ length s * suc (placeOf n c) ≤ characterCount n ^ length s * characterCount n = mul-le-mul-left (characterCount n ^ length s) (character-place n c h) in
-    let e : characterCount n ^ suc (length s) ≡ characterCount n ^ length s * characterCount n = pow-succ' (characterCount n) (length s) ∙ mul-comm (characterCount n) (characterCount n ^ length s) in
+    let g : characterCount n ^ length s * suc (placeOf n c) ≤ characterCount n ^ length s * characterCount n =
+    mul-le-mul-left (characterCount n ^ length s) (character-place n c h) in
+    let e : characterCount n ^ suc (length s) ≡ characterCount n ^ length s * characterCount n =
+    pow-succ' (characterCount n) (length s) ∙ mul-comm (characterCount n) (characterCount n ^ length s) in
     omega arith
 
 word-place : (n : ℕ) (s : List ℕ) → Over n s → word n (length s) (place n s) ≡ s
@@ -74,8 +80,10 @@ word-place n (c ∷ s) (h, hs) =
     let f : place n s < characterCount n ^ length s = place-below n s hs in
     let z : 0 < characterCount n ^ length s = omega arith in
     let k : ℕ = placeOf n c in
-    let q : (place n s + characterCount n ^ length s * k) / characterCount n ^ length s ≡ k = add-mul-div-left (place n s) k z ∙ ap (λ x. x + k) (div-eq-of-lt f) ∙ (let y : 0 + k ≡ k = omega arith in y) in
-    let r : (place n s + characterCount n ^ length s * k) % characterCount n ^ length s ≡ place n s = add-mul-mod-self-left (place n s) (characterCount n ^ length s) k ∙ mod-eq-of-lt f in
+    let q : (place n s + characterCount n ^ length s * k) / characterCount n ^ length s ≡ k =
+    add-mul-div-left (place n s) k z ∙ ap (λ x. x + k) (div-eq-of-lt f) ∙ (let y : 0 + k ≡ k = omega arith in y) in
+    let r : (place n s + characterCount n ^ length s * k) % characterCount n ^ length s ≡ place n s =
+    add-mul-mod-self-left (place n s) (characterCount n ^ length s) k ∙ mod-eq-of-lt f in
     ap₂ (λ d j. character n d ∷ word n (length s) j) q r ∙ ap₂ (λ d t. d ∷ t) (at-place n c h) (word-place n s hs)
 
 -- ---- the first k strings of length l
@@ -121,10 +129,14 @@ abbrev pub Word : ℕ → ℕ → List ℕ → Type 0
 Word n l s = Over n s × (length s ≡ l)
 
 pub count : (n l : ℕ) (ss : List (List ℕ)) → All (Word n l) ss → Distinct ss → length ss ≤ characterCount n ^ l
-count n l ss ws d = subst (λ k. length ss ≤ k) (length-words n l (characterCount n ^ l)) (at-most ss (words n l (characterCount n ^ l)) d (λ s i. among s (all-in (Word n l) ss s ws i)))
+count n l ss ws d =
+    subst (λ k. length ss ≤ k) (length-words n l (characterCount n ^ l))
+    (at-most ss (words n l (characterCount n ^ l)) d (λ s i. among s (all-in (Word n l) ss s ws i)))
   where
     among : (s : List ℕ) → Word n l s → In s (words n l (characterCount n ^ l))
-    among s (o, e) = →in-words n l (characterCount n ^ l) (place n s) s (subst (λ l. place n s < characterCount n ^ l) e (place-below n s o)) (sym (word-place n s o) ∙ ap (λ l. word n l (place n s)) e)
+    among s (o, e) =
+        →in-words n l (characterCount n ^ l) (place n s) s (subst (λ l. place n s < characterCount n ^ l) e (place-below n s o))
+        (sym (word-place n s o) ∙ ap (λ l. word n l (place n s)) e)
 
 -- ---- the first word that is not given
 
@@ -157,16 +169,22 @@ fresh-from (suc d) n l ts k h = go (given (word n l k) ts) refl (fresh-from d n 
 
     go : (t : Bool) → given (word n l k) ts ≡ t → (((i : ℕ) → i < suc k → In (word n l i) ts) → Fresh n l ts (suc k + d) (freshFrom d n l ts (suc k)))
         → Fresh n l ts (k + suc d) (elim t as (λ _. List ℕ) [ true ↦ freshFrom d n l ts (suc k) | false ↦ word n l k ])
-    go true e ih = subst (λ top. Fresh n l ts top (freshFrom d n l ts (suc k))) (let z : suc k + d ≡ k + suc d = omega arith in z) (ih (more (given→ (word n l k) ts (true→ e))))
+    go true e ih =
+        subst (λ top. Fresh n l ts top (freshFrom d n l ts (suc k))) (let z : suc k + d ≡ k + suc d = omega arith in z)
+        (ih (more (given→ (word n l k) ts (true→ e))))
     go false e ih = inl (k, refl, (λ i. subst T e (→given (word n l k) ts i)), h)
 
 pub fresh : (d n l : ℕ) (ts : List (List ℕ)) → Fresh n l ts d (freshFrom d n l ts 0)
-fresh d n l ts = subst (λ top. Fresh n l ts top (freshFrom d n l ts 0)) (let z : 0 + d ≡ d = omega arith in z) (fresh-from d n l ts 0 (λ i h. absurd (let g : i < 0 = h in omega arith)))
+fresh d n l ts =
+    subst (λ top. Fresh n l ts top (freshFrom d n l ts 0)) (let z : 0 + d ≡ d = omega arith in z)
+    (fresh-from d n l ts 0 (λ i h. absurd (let g : i < 0 = h in omega arith)))
 
 pub length-fresh : (d n l : ℕ) (ts : List (List ℕ)) (k : ℕ) → length (freshFrom d n l ts k) ≡ l
 length-fresh zero n l ts k = length-word n l k
 length-fresh (suc d) n l ts k = go (given (word n l k) ts) (length-fresh d n l ts (suc k))
   where
-    go : (t : Bool) → length (freshFrom d n l ts (suc k)) ≡ l → length {A = ℕ} (elim t as (λ _. List ℕ) [ true ↦ freshFrom d n l ts (suc k) | false ↦ word n l k ]) ≡ l
+    go : (t : Bool)
+        → length (freshFrom d n l ts (suc k)) ≡ l
+        → length {A = ℕ} (elim t as (λ _. List ℕ) [ true ↦ freshFrom d n l ts (suc k) | false ↦ word n l k ]) ≡ l
     go true ih = ih
     go false ih = length-word n l k

@@ -47,7 +47,8 @@ codelessChild u x = arithmetic ne (above (apply u len x)) ∷ arithmetic eq (min
 
 -- "len(x) = 1, code(x) ≥ 0 and n−1−code(x) ≥ 0", of a range of codes
 abbrev pub codeChild : Question → ℕ → ℕ × ℕ → List Fact
-codeChild u x r = arithmetic eq (above (apply u len x)) ∷ arithmetic ge (less (apply u code x) (r .0)) ∷ arithmetic ge (minus (number (pos (r .1))) (apply u code x)) ∷ []
+codeChild u x r =
+    arithmetic eq (above (apply u len x)) ∷ arithmetic ge (less (apply u code x) (r .0)) ∷ arithmetic ge (minus (number (pos (r .1))) (apply u code x)) ∷ []
 
 abbrev pub cValidChildren : Question → ℕ → List (List Fact)
 cValidChildren u x = codelessChild u x ∷ map (codeChild u x) (codeRanges (u .n))

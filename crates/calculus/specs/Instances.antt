@@ -14,7 +14,8 @@ use Rattle.calculus.specs.LinearForms.{minus}
 use Rattle.calculus.specs.Facts.{Question, Fact, notSame, arithmetic, Branch, Relation, ge, eq, ne, Holds, Function, len, code, apply}
 use Rattle.calculus.specs.Chains.{litNode, Chain, OneClass, Counts}
 use Rattle.calculus.specs.Steps.{Step, Sum, BranchOn, Apart, AConf, SConf, SProp, LIntro, LValid, CCollapse, CValid, CInj, Card, Join}
-use Rattle.calculus.specs.Children.{sumChild, branchChildren, apartChildren, sPropChild, literalChild, lValidChildren, cValidChildren, cInjChildren, pairChildren, boundChild, joinChild}
+use Rattle.calculus.specs.Children.{sumChild, branchChildren, apartChildren, sPropChild, literalChild, lValidChildren}
+use Rattle.calculus.specs.Children.{cValidChildren, cInjChildren, pairChildren, boundChild, joinChild}
 
 -- a form's number in place j: the constant in place 0, the coefficient of column i in place i + 1
 abbrev pub entry : List ℤ → ℕ → ℤ

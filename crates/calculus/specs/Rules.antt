@@ -11,10 +11,12 @@ use Rattle.integers.specs.Division.{floorDiv}
 use Rattle.lists.specs.Lists.{any}
 use Rattle.calculus.specs.Alphabet.{characterCount}
 use Rattle.calculus.specs.LinearForms.{plus, scale, minus, isZero, eqIntegers, allZero, floorDivAll, column}
-use Rattle.calculus.specs.Facts.{holds, Fact, Branch, lowestFact, Question, ge, eq, ne, same, notSame, isLiteral, arithmetic, len, code, columnOf, Function}
+use Rattle.calculus.specs.Facts.{holds, Fact, Branch, lowestFact, Question, ge, eq, ne, same}
+use Rattle.calculus.specs.Facts.{notSame, isLiteral, arithmetic, len, code, columnOf, Function}
 use Rattle.calculus.specs.Chains.{varNode}
 use Rattle.calculus.specs.Classes.{labels, sameClass, classLiteral, conflict}
-use Rattle.calculus.specs.Children.{sumChild, branchChildren, apartChildren, sPropChild, literalChild, lValidChildren, cValidChildren, cInjChildren, pairChildren, boundChild, joinChild}
+use Rattle.calculus.specs.Children.{sumChild, branchChildren, apartChildren, sPropChild, literalChild, lValidChildren}
+use Rattle.calculus.specs.Children.{cValidChildren, cInjChildren, pairChildren, boundChild, joinChild}
 use Rattle.calculus.specs.Steps.{Step, Sum, BranchOn, Apart, AConf, SConf, SProp, LIntro, LValid, CCollapse, CValid, CInj, Card, Join}
 
 -- a where the test is passed

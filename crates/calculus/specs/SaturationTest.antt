@@ -45,7 +45,8 @@ lowestVariable ls x = lowestFrom x ls x 0
 -- the lowest variables of the classes, among the first k variables, whose length in the model is z
 abbrev pub lowestOfLength : Question → List ℕ → List ℤ → ℤ → ℕ → List ℕ
 lowestOfLength u ls m z zero = []
-lowestOfLength u ls m z (suc k) = elim (eqℤ (modelValue u m len k) z && eqb (lowestVariable ls k) k) [ true ↦ k ∷ lowestOfLength u ls m z k | false ↦ lowestOfLength u ls m z k ]
+lowestOfLength u ls m z (suc k) =
+    elim (eqℤ (modelValue u m len k) z && eqb (lowestVariable ls k) k) [ true ↦ k ∷ lowestOfLength u ls m z k | false ↦ lowestOfLength u ls m z k ]
 
 -- Card, by counting: the classes whose length is that of x are no more than the strings of that length
 abbrev pub saturatedCard : Question → List ℕ → List ℤ → ℕ → Bool

@@ -20,9 +20,11 @@ use Rattle.format.specs.Records.{need, kind, next, whole, records, size}
 use Rattle.format.specs.Question as question
 use Rattle.format.specs.Question.{Progress, Reading, Stopped, Ended, unread, headRange, textOf, stringRange, formRange}
 use Rattle.format.specs.StepForms.{rule, childField, lengthFits, operandsInRange, stepAt, childInRange}
-use Rattle.format.specs.Reading.{State, proving, taking, modelled, Ticket, Faulty, Done, fault, advanced, readSteps, claimFault, claimAt, begin, bodyFault, lastFault, stepFault, modelAt, modelFault, readBehind, stepsOn, complete}
+use Rattle.format.specs.Reading.{State, proving, taking, modelled, Ticket, Faulty, Done, fault, advanced, readSteps, claimFault}
+use Rattle.format.specs.Reading.{claimAt, begin, bodyFault, lastFault, stepFault, modelAt, modelFault, readBehind, stepsOn, complete}
 use Rattle.format.specs.Checking as format
-use Rattle.format.specs.Checking.{checkerBy, outcomeOf, fits, orNone, factsWithin, childrenWithin, room, roomForAll, roomToPend, allTried, takenTried, keeps, shortLengths, leafFault, childIn}
+use Rattle.format.specs.Checking.{checkerBy, outcomeOf, fits, orNone, factsWithin, childrenWithin, room, roomForAll}
+use Rattle.format.specs.Checking.{roomToPend, allTried, takenTried, keeps, shortLengths, leafFault, childIn}
 
 abbrev pub Other : ℕ → Type 0
 Other c = c ≡ 1 → ⊥
@@ -62,13 +64,16 @@ module _ (b : List ℕ) where
   unfolding question.constraintFault
   constraint-other p l c k at m =
       pick-other (eqb k question.stringKind) _ _ (formed (eqb m 6) (stringRange p l (u16 b at) (u16 b (at + 2)) (u16 b (at + 4))))
-      (pick-other (eqb k question.arithmeticKind) _ _ (formed (leb 6 m && (eqb (m % 6) 0 && leb (m / 6) (suc columnLimit))) (leb (u16 b at) 2 && formRange b c (at + 2) (m / 6 - 1)))
+      (pick-other (eqb k question.arithmeticKind) _ _
+      (formed (leb 6 m && (eqb (m % 6) 0 && leb (m / 6) (suc columnLimit))) (leb (u16 b at) 2 && formRange b c (at + 2) (m / 6 - 1)))
       (number 2))
 
   body-other : (u : Question) (k at m : ℕ) → Other (question.questionBodyFault b u k at m)
   body-other u k at m =
       pick-other (eqb (question.rankOf k) question.headRank) _ _ (formed (eqb m 8) (headRange b at))
-      (pick-other (eqb (question.rankOf k) question.literalRank) _ _ (then 3 (leb 4 m && (leb m (4 * lengthLimit) && eqb (m % 4) 0)) (then 4 (allCharacters (u .n) (textOf b at m)) (then 5 (not (given (textOf b at m) (u .literals))) zero-other)))
+      (pick-other (eqb (question.rankOf k) question.literalRank) _ _
+      (then 3 (leb 4 m && (leb m (4 * lengthLimit) && eqb (m % 4) 0))
+      (then 4 (allCharacters (u .n) (textOf b at m)) (then 5 (not (given (textOf b at m) (u .literals))) zero-other)))
       (constraint-other (u .p) (length (u .literals)) (columnCount u) k at m))
 
   crowded-other : (c : ℕ) (x : Bool) → Other c → Other (question.orCrowded c x)
@@ -93,7 +98,10 @@ module _ (b : List ℕ) where
   from-other (at ∷ ats) s r = go (question.ending (kind b at)) (test b s at) (question-other s at) (from-other ats (question.questionAdvanced b s at) (suc r))
     where
       go : (x : Bool) (f : ℕ) → Other f → ReadingOther (question.readFrom test b (question.questionAdvanced b s at) (suc r) ats)
-          → ReadingOther (elim x as (λ _. Reading) [ true ↦ Ended s at r | false ↦ elim f as (λ _. Reading) [ zero ↦ question.readFrom test b (question.questionAdvanced b s at) (suc r) ats | suc c ↦ Stopped (suc c) r ] ])
+          → ReadingOther (elim x as (λ _. Reading) [
+            | true ↦ Ended s at r
+            | false ↦ elim f as (λ _. Reading) [ zero ↦ question.readFrom test b (question.questionAdvanced b s at) (suc r) ats | suc c ↦ Stopped (suc c) r ]
+          ])
       go true f p q = tt
       go false zero p q = q
       go false (suc c) p q = p
@@ -120,7 +128,8 @@ module _ (rules : RuleSet) (b : List ℕ) (u : Question) where
   step-other childOk later at m p = then 3 (lengthFits b at m) (then 4 (operandsInRange b (u .p) (columnCount u) (rule b at) at m && childOk) p)
 
   tried-other : (br : Branch) (pending : ℕ) (o : Option (List (List Fact))) → Other (allTried br pending o)
-  tried-other br pending o = then 6 (fits o) (then 7 (childrenWithin (orNone o)) (then 8 (roomForAll (length br) (orNone o) && roomToPend pending (orNone o)) zero-other))
+  tried-other br pending o =
+      then 6 (fits o) (then 7 (childrenWithin (orNone o)) (then 8 (roomForAll (length br) (orNone o) && roomToPend pending (orNone o)) zero-other))
 
   taken-other : (br : Branch) (o : Option (List Fact)) → Other (takenTried br o)
   taken-other br o = then 6 (fits o) (then 7 (factsWithin (orNone o)) (then 8 (room (length br) (orNone o)) zero-other))
@@ -133,11 +142,13 @@ module _ (rules : RuleSet) (b : List ℕ) (u : Question) where
 
   behind-other : (s : State Branch (List Fact)) (k at m : ℕ) → Other (bodyFault (checkerBy rules u) b u s k at m)
   behind-other (proving (working br ss)) k at m =
-      then 2 (eqb k 6) (step-other (eqb (childField b at) 0) (allTried br (length ss) (rules u br (stepAt b at m))) at m (tried-other br (length ss) (rules u br (stepAt b at m))))
+      then 2 (eqb k 6) (step-other (eqb (childField b at) 0) (allTried br (length ss) (rules u br (stepAt b at m))) at m
+      (tried-other br (length ss) (rules u br (stepAt b at m))))
   behind-other (proving closed) k at m = number 2
   behind-other (taking br) k at m =
       pick-other (eqb k 6) _ _
-      (step-other (childInRange (u .n) (stepAt b at m) (childField b at)) (takenTried br (childIn (rules u br (stepAt b at m)) (childField b at))) at m (taken-other br (childIn (rules u br (stepAt b at m)) (childField b at))))
+      (step-other (childInRange (u .n) (stepAt b at m) (childField b at)) (takenTried br (childIn (rules u br (stepAt b at m)) (childField b at))) at m
+      (taken-other br (childIn (rules u br (stepAt b at m)) (childField b at))))
       (then 2 (eqb k 7) (model-other (leafFault u br (modelAt b u at)) at m (leaf-other br (modelAt b u at))))
   behind-other (modelled br v) k at m = number 2
 
@@ -148,10 +159,17 @@ module _ (rules : RuleSet) (b : List ℕ) (u : Question) where
   steps-other : (ats : List ℕ) (s : State Branch (List Fact)) (r : ℕ) → TicketOther (readSteps (checkerBy rules u) b u s r ats)
   unfolding readSteps
   steps-other [] s r = number 1
-  steps-other (at ∷ ats) s r = go (fault (checkerBy rules u) b u s at) (eqb (kind b at) 8) (fault-other s at) (steps-other ats (advanced (checkerBy rules u) b u s at) (suc r))
+  steps-other (at ∷ ats) s r =
+      go (fault (checkerBy rules u) b u s at) (eqb (kind b at) 8) (fault-other s at) (steps-other ats (advanced (checkerBy rules u) b u s at) (suc r))
     where
       go : (f : ℕ) (x : Bool) → Other f → TicketOther (readSteps (checkerBy rules u) b u (advanced (checkerBy rules u) b u s at) (suc r) ats)
-          → TicketOther (elim f as (λ _. Ticket Branch (List Fact)) [ suc c ↦ Faulty (suc c) r | zero ↦ elim x as (λ _. Ticket Branch (List Fact)) [ true ↦ Done u s | false ↦ readSteps (checkerBy rules u) b u (advanced (checkerBy rules u) b u s at) (suc r) ats ] ])
+          → TicketOther (elim f as (λ _. Ticket Branch (List Fact)) [
+            | suc c ↦ Faulty (suc c) r
+            | zero ↦ elim x as (λ _. Ticket Branch (List Fact)) [
+              | true ↦ Done u s
+              | false ↦ readSteps (checkerBy rules u) b u (advanced (checkerBy rules u) b u s at) (suc r) ats
+            ]
+          ])
       go (suc c) x p q = p
       go zero true p q = tt
       go zero false p q = q
@@ -160,7 +178,8 @@ module _ (rules : RuleSet) (b : List ℕ) (u : Question) where
 
 claim-other : (b : List ℕ) (s : Progress) (at : ℕ) → Other (claimFault b s at)
 claim-other b s at =
-    then 1 (whole b at) (then 2 (leb 1 (s .last) && eqb (kind b at) 5) (then 3 (eqb (size b at) 2) (then 4 (leb 1 (claimAt b at) && leb (claimAt b at) 2) zero-other)))
+    then 1 (whole b at)
+    (then 2 (leb 1 (s .last) && eqb (kind b at) 5) (then 3 (eqb (size b at) 2) (then 4 (leb 1 (claimAt b at) && leb (claimAt b at) 2) zero-other)))
 
 abbrev pub OtherThanOne : format.Outcome → Type 0
 OtherThanOne (format.Refused c r) = Other c
@@ -186,7 +205,8 @@ never-one rules b = go (question.question b) (reading-other b)
           | zero ↦ stepsOn (checkerBy rules (s .question)) b (s .question) (begin (checkerBy rules (s .question)) (claimAt b at)) (suc r) (next b at)
         ]))
     claim s at r (suc c) p = p
-    claim s at r zero p = outcome-other (stepsOn (checkerBy rules (s .question)) b (s .question) (begin (checkerBy rules (s .question)) (claimAt b at)) (suc r) (next b at))
+    claim s at r zero p =
+        outcome-other (stepsOn (checkerBy rules (s .question)) b (s .question) (begin (checkerBy rules (s .question)) (claimAt b at)) (suc r) (next b at))
         (steps-other rules b (s .question) (records b (next b at)) (begin (checkerBy rules (s .question)) (claimAt b at)) (suc r))
 
     go : (x : Reading) → ReadingOther x → OtherThanOne (outcomeOf (readBehind (checkerBy rules) b x))

@@ -69,7 +69,9 @@ module _ (b : List ℕ) (u : Question) (br : Branch) (at : ℕ) (h : next b at �
 
   path-fault : pathFault ≡ openFault (length b) (next b at) (kind b at) (size b at) (formTwo tried)
   unfolding fault offered
-  path-fault = rw (le-leb (next b at) (length b) h, ne-eqb (kind b at) 7 k7) (ap (λ f. cond (eqb (kind b at) 8) (endForm (length b) (next b at) (size b at) 11) f) (no-model (eqb (kind b at) 6) _ 0))
+  path-fault =
+      rw (le-leb (next b at) (length b) h, ne-eqb (kind b at) 7 k7)
+      (ap (λ f. cond (eqb (kind b at) 8) (endForm (length b) (next b at) (size b at) 11) f) (no-model (eqb (kind b at) 6) _ 0))
 
   -- no number: a step
   pub path-kind : pathFault ≡ 0 → kind b at ≡ 6

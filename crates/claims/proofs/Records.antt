@@ -54,7 +54,8 @@ module _ (b : List ℕ) (u : Question) (at k m : ℕ) (w : (k ≡ kind b at) × 
     record-form p f e n = walk-form b u br ss at (all-there b at k m w) (is-step p) f (e ∙ one-same) n
 
     pub record-step : 0 ≡ placeOf → 0 ≡ formOne → (pending : ℕ) → length ss ≡ pending → allTried br pending (offeredIn b u br at) ≡ walkFault
-    record-step p e pending q = ap (λ (i : ℕ). allTried br i (offeredIn b u br at)) (sym q) ∙ walk-step b u br ss at (all-there b at k m w) (is-step p) (e ∙ one-same)
+    record-step p e pending q =
+        ap (λ (i : ℕ). allTried br i (offeredIn b u br at)) (sym q) ∙ walk-step b u br ss at (all-there b at k m w) (is-step p) (e ∙ one-same)
 
   -- ---- claim 2, at no model
 

@@ -50,7 +50,8 @@ module _ (b : List ℕ) (u : Question) where
       unfolding advanced offered
       entered = refl
 
-      pub turn-moved : 0 ≡ fault (checker u) b u (proving (working br ss)) at → on (proving (working br ss)) r at ≡ on (proving (steppedOn b u br ss at)) (suc r) (next b at)
+      pub turn-moved : 0 ≡ fault (checker u) b u (proving (working br ss)) at
+          → on (proving (working br ss)) r at ≡ on (proving (steppedOn b u br ss at)) (suc r) (next b at)
       turn-moved f =
           steps-more (checker u) b u (proving (working br ss)) r at headed (sym f) (no-end (kind b at) (walk-kind b u br ss at h (sym f)))
           ∙ ap (λ (st : State Branch (List Fact)). on st (suc r) (next b at)) entered
@@ -60,7 +61,8 @@ module _ (b : List ℕ) (u : Question) where
     module _ (br : Branch) where
       taken-on : kind b at ≡ 6 → advanced (checker u) b u (taking br) at ≡ taking (br ++ offeredChild b u br (at + 6) (size b at) (childField b (at + 6)))
       unfolding advanced offered
-      taken-on k = ap (λ j. cond (eqb j 6) (taking (br ++ offeredChild b u br (at + 6) (size b at) (childField b (at + 6)))) (modelled br (modelAt b u (at + 6)))) k
+      taken-on k =
+          ap (λ j. cond (eqb j 6) (taking (br ++ offeredChild b u br (at + 6) (size b at) (childField b (at + 6)))) (modelled br (modelAt b u (at + 6)))) k
 
       pub turn-taken : (kind b at ≡ 7 → ⊥) → fault (checker u) b u (taking br) at ≡ 0
           → on (taking br) r at ≡ on (taking (br ++ offeredChild b u br (at + 6) (size b at) (childField b (at + 6)))) (suc r) (next b at)

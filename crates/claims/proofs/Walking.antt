@@ -42,7 +42,11 @@ module _ (b : List ℕ) (s : Progress) where
     pub rest : left (stateOf b (asked b s) w c) k i ≡ outcome
 
   -- a state by other names
-  pub going-same : {n : ℕ} {outcome : Ticket Branch (List Fact)} {i k : ℕ} {x y : List ℤ} {c d : code.Branch} → x ≡ y → c ≡ d → Going n outcome y d i k → Going n outcome x c i k
+  pub going-same : {n : ℕ} {outcome : Ticket Branch (List Fact)} {i k : ℕ} {x y : List ℤ} {c d : code.Branch}
+      → x ≡ y
+      → c ≡ d
+      → Going n outcome y d i k
+      → Going n outcome x c i k
   going-same e q g = rw (e, q) g
 
   -- ---- the start
@@ -84,7 +88,9 @@ module _ (b : List ℕ) (s : Progress) where
 
     -- a whole record, with the work area v behind it
     module _ (j m : ℕ) (r : (j ≡ kind b i) × (m ≡ size b i) × (i + 6 + m ≤ length b)) (v : List ℤ) (a : Action)
-        (e : (ss : List (Waiting Branch (List Fact))) → length ss ≡ c .depth → numberOf a ≡ fault (checker (asked b s)) b (asked b s) (proving (working br ss)) i)
+        (e : (ss : List (Waiting Branch (List Fact)))
+        → length ss ≡ c .depth
+        → numberOf a ≡ fault (checker (asked b s)) b (asked b s) (proving (working br ss)) i)
         (acts : Acts b (asked b s) i (c .depth) w (c .count) v a) where
       its-number : numberOf a ≡ fault (checker (asked b s)) b (asked b s) (proving (working br pending)) i
       its-number = e pending (waiting (g .holds))
@@ -92,7 +98,8 @@ module _ (b : List ℕ) (s : Progress) where
       pub going-refused : (f : ℕ) → a ≡ Refused f → walkedOf b (asked b s) (walked.the-variants.Refused f k) ≡ outcome
       unfolding walkedOf stateOf Acts
       going-refused f q =
-          sym (turn-faulty b (asked b s) k i (all-there b i j m r) (proving (working br pending)) f (ap numberOf (sym q) ∙ its-number) (subst (Acts b (asked b s) i (c .depth) w (c .count) v) q acts))
+          sym (turn-faulty b (asked b s) k i (all-there b i j m r) (proving (working br pending)) f (ap numberOf (sym q) ∙ its-number)
+          (subst (Acts b (asked b s) i (c .depth) w (c .count) v) q acts))
           ∙ g .rest
 
       -- the step is taken, and the walk enters it
@@ -104,7 +111,11 @@ module _ (b : List ℕ) (s : Progress) where
           ∙ sym (turn-moved b (asked b s) k i (all-there b i j m r) br pending (sym z ∙ its-number))
           ∙ g .rest
 
-      going-on : (x : List ℤ) (d : code.Branch) → (stateOf b (asked b s) x d ≡ entered (g .holds) i v a acts) × InOrder b s x d → numberOf a ≡ 0 → length x ≡ length w → Going n outcome x d (i + 6 + m) (k + 1)
+      going-on : (x : List ℤ) (d : code.Branch)
+          → (stateOf b (asked b s) x d ≡ entered (g .holds) i v a acts) × InOrder b s x d
+          → numberOf a ≡ 0
+          → length x ≡ length w
+          → Going n outcome x d (i + 6 + m) (k + 1)
       going-on x d q z same = record {
         kept = same ∙ g .kept;
         low = omega (arith, g .low);
@@ -116,12 +127,28 @@ module _ (b : List ℕ) (s : Progress) where
       unfolding walkedOf
       going-closed q d = on-from closed (entered-closed (g .holds) i v a acts q d) (ap numberOf q)
 
-      pub going-next : a ≡ Closes → (x : List ℤ) (d : code.Branch) → stateOf b (asked b s) x d ≡ cutBack _++_ (waitings b (asked b s) (branchOf v (c .count)) (stack c)) → InOrder b s x d → length x ≡ length w
+      pub going-next : a ≡ Closes
+          → (x : List ℤ) (d : code.Branch)
+          → stateOf b (asked b s) x d ≡ cutBack _++_ (waitings b (asked b s) (branchOf v (c .count)) (stack c))
+          → InOrder b s x d
+          → length x ≡ length w
           → Going n outcome x d (i + 6 + m) (k + 1)
       going-next q x d p o same = going-on x d (entered-next (g .holds) i v a acts q (stateOf b (asked b s) x d) p, o) (ap numberOf q) same
 
-      pub going-one : (f : ℕ) → a ≡ Extends f → (d : code.Branch) → d .count ≡ f → stack d ≡ stack c → length v ≡ length w → Going n outcome v d (i + 6 + m) (k + 1)
+      pub going-one : (f : ℕ)
+          → a ≡ Extends f
+          → (d : code.Branch)
+          → d .count ≡ f
+          → stack d ≡ stack c
+          → length v ≡ length w
+          → Going n outcome v d (i + 6 + m) (k + 1)
       going-one f q d ed es same = going-on v d (entered-one (g .holds) i v a acts f q d ed es) (ap numberOf q) same
 
-      pub going-more : (f l : ℕ) → a ≡ Splits f l → (d : code.Branch) → d .count ≡ f → stack d ≡ split (c .count) i 2 l ∷ stack c → length v ≡ length w → Going n outcome v d (i + 6 + m) (k + 1)
+      pub going-more : (f l : ℕ)
+          → a ≡ Splits f l
+          → (d : code.Branch)
+          → d .count ≡ f
+          → stack d ≡ split (c .count) i 2 l ∷ stack c
+          → length v ≡ length w
+          → Going n outcome v d (i + 6 + m) (k + 1)
       going-more f l q d ed es same = going-on v d (entered-more (g .holds) i v a acts f l q d ed es) (ap numberOf q) same

@@ -31,7 +31,9 @@ WholeRecord b at k m = (k ≡ kind b at) × (m ≡ size b at) × (at + 6 + m ≤
 -- what the code says of a record at a position has the number that refuses it, on the branch of the first count rows with so many splits pending
 abbrev pub HasNumber : List ℕ → Progress → ℕ → ℕ → List ℤ → ℕ → Action → Type 0
 HasNumber b s at pending w count a =
-    (ss : List (Waiting Branch (List Fact))) → length ss ≡ pending → numberOf a ≡ fault (checker (asked b s)) b (asked b s) (proving (working (branchOf w count) ss)) at
+    (ss : List (Waiting Branch (List Fact)))
+    → length ss ≡ pending
+    → numberOf a ≡ fault (checker (asked b s)) b (asked b s) (proving (working (branchOf w count) ss)) at
 
 -- what is left to read of the steps, from record r at a position on, with nothing but the question's constraints on the branch
 abbrev pub walkFrom : List ℕ → Progress → ℕ → ℕ → Ticket Branch (List Fact)

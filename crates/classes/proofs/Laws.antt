@@ -112,7 +112,8 @@ module _ (n m k : ℕ) where
 
   pub least-power-no : (d : ℕ) → 0 < d → n ^ k < m → leastPower d n m k ≡ leastPower (d - 1) n m (k + 1)
   least-power-no zero h l = absurd (omega arith)
-  least-power-no (suc d) h l = rw (lt-leb m (n ^ k) l, leastPower) (ap (λ (i : ℕ). leastPower d n m i) one ∙ ap (λ (i : ℕ). leastPower i n m (k + 1)) (sym (down d)))
+  least-power-no (suc d) h l =
+      rw (lt-leb m (n ^ k) l, leastPower) (ap (λ (i : ℕ). leastPower d n m i) one ∙ ap (λ (i : ℕ). leastPower i n m (k + 1)) (sym (down d)))
     where
       one : suc k ≡ k + 1
       one = omega arith

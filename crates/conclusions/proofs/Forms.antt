@@ -37,7 +37,10 @@ sum-body b body m p c f h =
     }
 
 -- S-Prop: "function (0 len, 1 code), different variables x, y"
-pub s-prop-variables : {b : List ℕ} {s : Progress} {body m : ℕ} {w : List ℤ} {count : ℕ} → Ready b s body m w count → sProp ≡ rule b body → (u16 b (body + 6) < s .p) × (u16 b (body + 8) < s .p)
+pub s-prop-variables : {b : List ℕ} {s : Progress} {body m : ℕ} {w : List ℤ} {count : ℕ}
+    → Ready b s body m w count
+    → sProp ≡ rule b body
+    → (u16 b (body + 6) < s .p) × (u16 b (body + 8) < s .p)
 unfolding operandsInRange
 s-prop-variables {b} {s} {body} h e =
     let (x, (y, _)) = below→ (s .p) (u16 b (body + 6) ∷ u16 b (body + 8) ∷ []) (and-both (leb (u16 b (body + 4)) 1) _ (ranged h sProp e) .1) in

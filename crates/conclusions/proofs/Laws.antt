@@ -33,7 +33,9 @@ use Rattle.conclusions.specs.Made.{madeOf}
 -- ---- Sum
 
 -- a summed row, as what is made of it
-pub sum-made : (u : Question) (b : Branch) (d : ℕ) (ts : List (ℕ × ℤ)) (t : Bool) (row : List ℤ) → factIn t row ≡ sumFact b d ts → madeOf t row ≡ children u b (Sum d ts)
+pub sum-made : (u : Question) (b : Branch) (d : ℕ) (ts : List (ℕ × ℤ)) (t : Bool) (row : List ℤ)
+    → factIn t row ≡ sumFact b d ts
+    → madeOf t row ≡ children u b (Sum d ts)
 unfolding madeOf factIn
 sum-made u b d ts t row e = made t (factOf row) ∙ ap (λ (o : Option Fact). then o (λ f. some (one f))) e ∙ sym (sum-children u b d ts)
   where
@@ -85,11 +87,17 @@ module _ (b : List ℕ) (s : Progress) (br : Branch) (ls : List ℕ) (x : ℕ) (
   pub literal-none : (f : Function) → lowestLiteral ls x 0 (s .literals + 1) ≡ none → none ≡ literalChildren (asked b s) br f x
   literal-none f e = sym (ap (λ (o : Option ℕ). then o (λ l. some (literalChild (asked b s) f x l))) (sym class-is ∙ e))
 
-  literal-some : (f : Function) (l : ℕ) → lowestLiteral ls x 0 (s .literals + 1) ≡ some l → some (literalChild (asked b s) f x l) ≡ literalChildren (asked b s) br f x
+  literal-some : (f : Function) (l : ℕ)
+      → lowestLiteral ls x 0 (s .literals + 1) ≡ some l
+      → some (literalChild (asked b s) f x l) ≡ literalChildren (asked b s) br f x
   literal-some f l e = sym (ap (λ (o : Option ℕ). then o (λ l. some (literalChild (asked b s) f x l))) (sym class-is ∙ e))
 
   -- the fact by its column and the literal's text
-  pub literal-adds : (f l i : ℕ) (t : List ℕ) → lowestLiteral ls x 0 (s .literals + 1) ≡ some l → i ≡ columnAt (s .p) (s .q) f x → i < 48 → t ≡ literal (asked b s) l
+  pub literal-adds : (f l i : ℕ) (t : List ℕ)
+      → lowestLiteral ls x 0 (s .literals + 1) ≡ some l
+      → i ≡ columnAt (s .p) (s .q) f x
+      → i < 48
+      → t ≡ literal (asked b s) l
       → some (one (arithmetic eq (single (negℤ (valueOf (functionOf f) t)) i (pos 1)))) ≡ literalChildren (asked b s) br (functionOf f) x
   unfolding asked
   literal-adds f l i t e ei hi et =

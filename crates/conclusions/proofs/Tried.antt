@@ -28,7 +28,10 @@ use Rattle.conclusions.specs.Made.{madeOf}
 
 -- ---- 8 to 10 of what was made
 
-tried : (br : Branch) (f : Fact) (w r : Bool) → factWithin f ≡ w → leb (length br + 1) factLimit ≡ r → need 9 (w && true) (need 10 r 0) ≡ takenTried br (some (f ∷ []))
+tried : (br : Branch) (f : Fact) (w r : Bool)
+    → factWithin f ≡ w
+    → leb (length br + 1) factLimit ≡ r
+    → need 9 (w && true) (need 10 r 0) ≡ takenTried br (some (f ∷ []))
 unfolding factsWithin
 tried br f w r ew er = sym (ap₂ (λ (s t : Bool). need 9 (s && true) (need 10 t 0)) ew er)
 
@@ -41,13 +44,18 @@ module _ (br : Branch) (o : Option (List (List Fact))) (t : Bool) (row : List �
   eight f = ap (λ (p : Option (List (List Fact))). takenTried br (childIn p 1)) (by-fit false f)
 
   pub nine : t ≡ true → factWithin (factOf row) ≡ false → 9 ≡ takenTried br (childIn o 1)
-  nine f w = tried br (factOf row) false (leb (length br + 1) factLimit) w refl ∙ ap (λ (p : Option (List (List Fact))). takenTried br (childIn p 1)) (by-fit true f)
+  nine f w =
+      tried br (factOf row) false (leb (length br + 1) factLimit) w refl ∙ ap (λ (p : Option (List (List Fact))). takenTried br (childIn p 1)) (by-fit true f)
 
   pub ten : t ≡ true → factWithin (factOf row) ≡ true → factLimit ≤ length br → 10 ≡ takenTried br (childIn o 1)
-  ten f w h = tried br (factOf row) true false w (lt-leb (length br + 1) factLimit (omega arith)) ∙ ap (λ (p : Option (List (List Fact))). takenTried br (childIn p 1)) (by-fit true f)
+  ten f w h =
+      tried br (factOf row) true false w (lt-leb (length br + 1) factLimit (omega arith))
+      ∙ ap (λ (p : Option (List (List Fact))). takenTried br (childIn p 1)) (by-fit true f)
 
   pub none-of-these : t ≡ true → factWithin (factOf row) ≡ true → length br < factLimit → 0 ≡ takenTried br (childIn o 1)
-  none-of-these f w h = tried br (factOf row) true true w (le-leb (length br + 1) factLimit (omega arith)) ∙ ap (λ (p : Option (List (List Fact))). takenTried br (childIn p 1)) (by-fit true f)
+  none-of-these f w h =
+      tried br (factOf row) true true w (le-leb (length br + 1) factLimit (omega arith))
+      ∙ ap (λ (p : Option (List (List Fact))). takenTried br (childIn p 1)) (by-fit true f)
 
   pub its-fact : t ≡ true → factOf row ∷ [] ≡ orNone (childIn o 1)
   its-fact f = ap (λ (p : Option (List (List Fact))). orNone (childIn p 1)) (by-fit true f)
@@ -65,7 +73,10 @@ single (some ((f ∷ []) ∷ [])) h = inr (f, refl)
 single (some ((f ∷ g ∷ fs) ∷ cs)) h = let e = h ((f ∷ g ∷ fs) ∷ cs) refl in clash cc
 single (some ((f ∷ []) ∷ c ∷ cs)) h = let e = h ((f ∷ []) ∷ c ∷ cs) refl in clash cc
 
-pub one-conclusion : (u : Question) (br : Branch) (b : List ℕ) (body m : ℕ) → lengthFits b body m ≡ true → conclusionsOf (rule b body) ≡ One → Single (offered b u br body m)
+pub one-conclusion : (u : Question) (br : Branch) (b : List ℕ) (body m : ℕ)
+    → lengthFits b body m ≡ true
+    → conclusionsOf (rule b body) ≡ One
+    → Single (offered b u br body m)
 unfolding offered
 one-conclusion u br b body m f e = single (offered b u br body m) (λ cs q. children-shape u br (stepAt b body m) cs q ∙ one-child b (u .n) body m f e)
 

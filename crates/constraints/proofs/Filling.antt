@@ -52,7 +52,9 @@ module _ (b : List ℕ) (at n : ℕ) (tag constant : ℤ) where
     coefficient = i32 b (at + 6 * i + 2)
 
     next : Ranged columnLimit 0 (column, coefficient) (pairsAt b (at + 6 * (i + 1)) (n - (i + 1)))
-    next = ranged columnLimit 0 (column, coefficient) (pairsAt b (at + 6 * (i + 1)) (n - (i + 1))) (ap (rising columnLimit 0) (sym (next-pair b at n i h)) ∙ s .rises)
+    next =
+        ranged columnLimit 0 (column, coefficient) (pairsAt b (at + 6 * (i + 1)) (n - (i + 1)))
+        (ap (rising columnLimit 0) (sym (next-pair b at n i h)) ∙ s .rises)
 
     pub column-small : column < 48
     column-small = next .column

@@ -14,7 +14,8 @@ use Rattle.calculus.specs.Limits.{variableLimit, literalLimit, columnLimit, num
 use Rattle.calculus.specs.LinearForms.{zeros}
 use Rattle.format.specs.Fields.{u16, i32, pairsAt, within, allWithin}
 use Rattle.format.specs.Records.{need}
-use Rattle.format.specs.Question.{stringRange, stringFact, stringFault, coefficientInRange, pairInRange, rising, formRange, fillCoefficients, formOf, arithmeticFault, constraintFault, constraintOf}
+use Rattle.format.specs.Question.{stringRange, stringFact, stringFault, coefficientInRange, pairInRange, rising}
+use Rattle.format.specs.Question.{formRange, fillCoefficients, formOf, arithmeticFault, constraintFault, constraintOf}
 use Rattle.format.specs.Checking.{factWithin}
 use Rattle.format.proofs.Faults.{passed}
 use Rattle.format.proofs.RecordFaults.{StringConstraint, ArithmeticConstraint, Constraint, on-strings, on-columns, constraint-formed}
@@ -34,9 +35,14 @@ pub within-set : (row : List ℤ) (j : ℕ) (z : ℤ) → allWithin numberLimit 
 unfolding allWithin
 within-set [] j z e h = e
 within-set (x ∷ row) zero z e h = ap₂ _&&_ h (and-both (within numberLimit x) (allWithin numberLimit row) e .1)
-within-set (x ∷ row) (suc j) z e h = ap₂ _&&_ (and-both (within numberLimit x) (allWithin numberLimit row) e .0) (within-set row j z (and-both (within numberLimit x) (allWithin numberLimit row) e .1) h)
+within-set (x ∷ row) (suc j) z e h =
+    ap₂ _&&_ (and-both (within numberLimit x) (allWithin numberLimit row) e .0)
+    (within-set row j z (and-both (within numberLimit x) (allWithin numberLimit row) e .1) h)
 
-within-fill : (c low : ℕ) (row : List ℤ) (ts : List (ℕ × ℤ)) → allWithin numberLimit row ≡ true → rising c low ts ≡ true → allWithin numberLimit (fillCoefficients row ts) ≡ true
+within-fill : (c low : ℕ) (row : List ℤ) (ts : List (ℕ × ℤ))
+    → allWithin numberLimit row ≡ true
+    → rising c low ts ≡ true
+    → allWithin numberLimit (fillCoefficients row ts) ≡ true
 unfolding rising fillCoefficients
 within-fill c low row [] e h = e
 within-fill c low row (t ∷ ts) e h =
@@ -81,10 +87,16 @@ rising-more c d low (t ∷ ts) h e =
 
 -- a form over c columns, as many as there may be at most
 pub form-rises : (b : List ℕ) (c at count : ℕ) → c ≤ columnLimit → formRange b c at count ≡ true → rising columnLimit 0 (pairsAt b (at + 4) count) ≡ true
-form-rises b c at count h e = rising-more c columnLimit 0 (pairsAt b (at + 4) count) h (and-both (within numberLimit (i32 b at)) (rising c 0 (pairsAt b (at + 4) count)) e .1)
+form-rises b c at count h e =
+    rising-more c columnLimit 0 (pairsAt b (at + 4) count) h (and-both (within numberLimit (i32 b at)) (rising c 0 (pairsAt b (at + 4) count)) e .1)
 
-string-range-more : {p l m r x y : ℕ} → l ≤ literalLimit → p ≤ variableLimit → StringConstraint p l m r x y → stringRange variableLimit literalLimit r x y ≡ true
-string-range-more {p} {l} {m} {r} {x} {y} h g c = ap₂ _&&_ (le-leb r 2 (c .relation)) (ap₂ _&&_ (lt-ltb x variableLimit (omega (arith, c .first))) (second (ℕ-discrete r 2)))
+string-range-more : {p l m r x y : ℕ}
+    → l ≤ literalLimit
+    → p ≤ variableLimit
+    → StringConstraint p l m r x y
+    → stringRange variableLimit literalLimit r x y ≡ true
+string-range-more {p} {l} {m} {r} {x} {y} h g c =
+    ap₂ _&&_ (le-leb r 2 (c .relation)) (ap₂ _&&_ (lt-ltb x variableLimit (omega (arith, c .first))) (second (ℕ-discrete r 2)))
   where
     second : Dec (r ≡ 2) → cond (eqb r 2) (leb y literalLimit) (ltb y variableLimit) ≡ true
     second (yes e) = rw (eq-eqb r 2 e) (le-leb y literalLimit (omega (arith, c .literal e)))

@@ -24,10 +24,13 @@ module _ (b : List ℕ) (u : Question) (br : Branch) (r at m : ℕ) (em : m ≡ 
 
   module _ (e : numberOf m ≡ 0) where
     onward : fromHere ≡ stepsOn (checker u) b u (modelled br (modelAt b u (at + 6))) (suc r) (at + 6 + m)
-    onward = model-taken (checker u) b u br r at k h (sym (ap numberOf em) ∙ e) ∙ ap (λ x. stepsOn (checker u) b u (modelled br (modelAt b u (at + 6))) (suc r) (at + 6 + x)) (sym em)
+    onward =
+        model-taken (checker u) b u br r at k h (sym (ap numberOf em) ∙ e)
+        ∙ ap (λ x. stepsOn (checker u) b u (modelled br (modelAt b u (at + 6))) (suc r) (at + 6 + x)) (sym em)
 
     pub unended : (c : ℕ) → c ≡ endFault b (at + 6 + m) → (c ≡ 0 → ⊥) → fromHere ≡ Faulty c (r + 1)
-    unended c f n = onward ∙ nonzero (modelled-refused (checker u) b u (suc r) (at + 6 + m) br (modelAt b u (at + 6)) refl) c f n ∙ ap (Faulty c) (sym (add-one r))
+    unended c f n =
+        onward ∙ nonzero (modelled-refused (checker u) b u (suc r) (at + 6 + m) br (modelAt b u (at + 6)) refl) c f n ∙ ap (Faulty c) (sym (add-one r))
 
     pub ended : endFault b (at + 6 + m) ≡ 0 → fromHere ≡ Done u (modelled br (modelAt b u (at + 6)))
     ended f = onward ∙ modelled-done (checker u) b u (suc r) (at + 6 + m) br (modelAt b u (at + 6)) refl f

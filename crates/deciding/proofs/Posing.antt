@@ -88,7 +88,12 @@ claim-good b s at e =
       two = eqb-true _ _ sized;
     }
 
-pub posed : (b : List ℕ) (s : Progress) (at : ℕ) → StandsTo (checkingManner .greatest) b s at → length b ≤ ticketBytes → s .constraints ≤ factLimit → claimFault b (progressOf b s) at ≡ 0 → Posed b s
+pub posed : (b : List ℕ) (s : Progress) (at : ℕ)
+    → StandsTo (checkingManner .greatest) b s at
+    → length b ≤ ticketBytes
+    → s .constraints ≤ factLimit
+    → claimFault b (progressOf b s) at ≡ 0
+    → Posed b s
 posed b s at h short few e = record { to = at; stands = h; head = claim-good b (progressOf b s) at e .head; short = short; few-constraints = few }
 
 -- ---- behind the claim
@@ -97,7 +102,9 @@ module _ (b : List ℕ) (s : Progress) (at r : ℕ) (e : claimFault b (progressO
   abbrev started : State Branch (List Fact) → ℕ → ℕ → Ticket Branch (List Fact)
   started = stepsOn (checker (asked b s)) b (asked b s)
 
-  behind : (st : State Branch (List Fact)) → begin (checker (asked b s)) (claimAt b at) ≡ st → readClaim checker b (progressOf b s) at r ≡ started st (r + 1) (at + 8)
+  behind : (st : State Branch (List Fact))
+      → begin (checker (asked b s)) (claimAt b at) ≡ st
+      → readClaim checker b (progressOf b s) at r ≡ started st (r + 1) (at + 8)
   unfolding asked
   behind st f =
       let claim = claim-good b (progressOf b s) at e in

@@ -11,7 +11,8 @@ use borrow.Author.Tests.{leb-true, leb-false, le-leb, lt-leb}
 use Rattle.calculus.specs.Facts.{Question}
 use Rattle.calculus.specs.Walk.{closed}
 use Rattle.format.specs.Records.{size, kind, next, whole, need}
-use Rattle.format.specs.Reading.{State, proving, taking, modelled, Method, modelAt, modelFault, lastFault, bodyFault, fault, advanced, Faulty, Done, stepsOn, endForm}
+use Rattle.format.specs.Reading.{State, proving, taking, modelled, Method, modelAt, modelFault}
+use Rattle.format.specs.Reading.{lastFault, bodyFault, fault, advanced, Faulty, Done, stepsOn, endForm}
 use Rattle.format.proofs.Faults.{none-applies}
 use Rattle.format.proofs.StepTurns.{steps-none, steps-faulty, steps-done, steps-more}
 use Rattle.delimiters.specs.Numbers.{endFault}
@@ -71,7 +72,8 @@ module _ {B C : Type 0} (w : Method B C) (b : List ℕ) (u : Question) (r at : �
   unfolding fault endFault
   at-end st four none =
       ap (λ f. need 3 (whole b at) (cond (eqb (kind b at) 8) (lastFault w b st at) f)) four
-      ∙ ap (need 3 (whole b at)) (must-end (eqb (kind b at) 8) (lastFault w b st at) ∙ ap (λ f. need 4 (eqb (kind b at) 8) (endForm (length b) (next b at) (size b at) f)) none)
+      ∙ ap (need 3 (whole b at))
+      (must-end (eqb (kind b at) 8) (lastFault w b st at) ∙ ap (λ f. need 4 (eqb (kind b at) 8) (endForm (length b) (next b at) (size b at) f)) none)
 
   -- claim 1: every branch is closed
   module _ (none : w .endFault (proving closed) ≡ 0) where

@@ -23,7 +23,8 @@ use Rattle.derivation.specs.declared.Action.the-variants.{Closes, Extend
 use Rattle.derivation.proofs.Closing.{none-left}
 use Rattle.derivation.proofs.Beginning.{begins-one, begins-more}
 
-module _ {b : List ℕ} {s : Progress} {w : List ℤ} {c : code.Branch} (h : InOrder b s w c) (at : ℕ) (v : List ℤ) (a : Action) (acts : Acts b (asked b s) at (c .depth) w (c .count) v a) where
+module _ {b : List ℕ} {s : Progress} {w : List ℤ} {c : code.Branch} (h : InOrder b s w c) (at : ℕ) (v : List ℤ) (a : Action)
+    (acts : Acts b (asked b s) at (c .depth) w (c .count) v a) where
   abbrev br : Branch
   br = branchOf w (c .count)
 
@@ -39,7 +40,9 @@ module _ {b : List ℕ} {s : Progress} {w : List ℤ} {c : code.Branch} (h : InO
 
     cuts-back : cutBack _++_ (waitings b (asked b s) br (stack c)) ≡ entered
     unfolding Acts
-    cuts-back = ap (λ (o : Option (List (List Fact))). enter _++_ br (orNone o) (waitings b (asked b s) br (stack c))) (sym (subst (Acts b (asked b s) at (c .depth) w (c .count) v) e acts .0))
+    cuts-back =
+        ap (λ (o : Option (List (List Fact))). enter _++_ br (orNone o) (waitings b (asked b s) br (stack c)))
+        (sym (subst (Acts b (asked b s) at (c .depth) w (c .count) v) e acts .0))
 
     pub holds-closed : length v ≡ length w → InOrder b s v c
     holds-closed n = record {

@@ -20,7 +20,8 @@ use Rattle.derivation.specs.Actions.{Begins, Branches}
 use Rattle.derivation.proofs.Pending.{ok-one, ok-split}
 use Rattle.derivation.proofs.Walks.{entered-one, entered-more}
 
-module _ {b : List ℕ} {s : Progress} {w : List ℤ} {c : code.Branch} (h : InOrder b s w c) (at n : ℕ) (v : List ℤ) (k : ℕ) (g : Begins b (asked b s) (branchOf w (c .count)) at n v k)
+module _ {b : List ℕ} {s : Progress} {w : List ℤ} {c : code.Branch} (h : InOrder b s w c) (at n : ℕ) (v : List ℤ) (k : ℕ)
+    (g : Begins b (asked b s) (branchOf w (c .count)) at n v k)
     (r : code.Branch) (er : r .count ≡ k) where
   abbrev br : Branch
   br = branchOf w (c .count)
@@ -32,7 +33,9 @@ module _ {b : List ℕ} {s : Progress} {w : List ℤ} {c : code.Branch} (h : InO
   rows = ap (branchOf v) er ∙ g .rows
 
   -- the state behind it, by its pending splits
-  with-splits : (ss : List Split) → stack r ≡ ss → walkOf b (asked b s) (br ++ childOn b (asked b s) br at 1) ss ≡ steppedOn b (asked b s) br (waitings b (asked b s) br (stack c)) at
+  with-splits : (ss : List Split)
+      → stack r ≡ ss
+      → walkOf b (asked b s) (br ++ childOn b (asked b s) br at 1) ss ≡ steppedOn b (asked b s) br (waitings b (asked b s) br (stack c)) at
       → Ok b (asked b s) (br ++ childOn b (asked b s) br at 1) ss → Entered
   unfolding stateOf
   with-splits ss es q ok = (
@@ -40,14 +43,17 @@ module _ {b : List ℕ} {s : Progress} {w : List ℤ} {c : code.Branch} (h : InO
     record {
       posed = h .posed;
       room = g .fine .room;
-      ok = subst (λ (l : Branch). Ok b (asked b s) l (stack r)) (sym rows) (subst (λ (l : List Split). Ok b (asked b s) (br ++ childOn b (asked b s) br at 1) l) (sym es) ok);
+      ok =
+          subst (λ (l : Branch). Ok b (asked b s) l (stack r)) (sym rows)
+          (subst (λ (l : List Split). Ok b (asked b s) (br ++ childOn b (asked b s) br at 1) l) (sym es) ok);
     },
   )
 
   -- its only child
   pub begins-one : n ≡ 1 → stack r ≡ stack c → Entered
   begins-one e es =
-      with-splits (stack c) es (entered-one b (asked b s) br (stack c) at n (h .ok) (g .splits) e) (ok-one b (asked b s) br (stack c) at n (h .ok) (g .splits) (omega arith))
+      with-splits (stack c) es (entered-one b (asked b s) br (stack c) at n (h .ok) (g .splits) e)
+      (ok-one b (asked b s) br (stack c) at n (h .ok) (g .splits) (omega arith))
 
   -- with more, the split is pending
   pub begins-more : Branches b at n (c .depth) → stack r ≡ split (c .count) at 2 n ∷ stack c → Entered

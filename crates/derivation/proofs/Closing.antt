@@ -30,7 +30,9 @@ use Rattle.derivation.proofs.Walks.{cut-back}
 use Rattle.derivation.proofs.Holding.{few-facts, Puts, puts}
 
 -- with none pending, the last branch is closed
-pub none-left : (b : List ℕ) (s : Progress) (w : List ℤ) (c : code.Branch) → c .depth ≡ 0 → closed ≡ cutBack _++_ (waitings b (asked b s) (branchOf w (c .count)) (stack c))
+pub none-left : (b : List ℕ) (s : Progress) (w : List ℤ) (c : code.Branch)
+    → c .depth ≡ 0
+    → closed ≡ cutBack _++_ (waitings b (asked b s) (branchOf w (c .count)) (stack c))
 unfolding stack lastFirst waitings
 none-left b s w c e = ap (λ (d : ℕ). cutBack _++_ (waitings b (asked b s) (branchOf w (c .count)) (lastFirst d (c .splits)))) (sym e)
 
@@ -92,7 +94,9 @@ module _ {b : List ℕ} {s : Progress} {w : List ℤ} {c : code.Branch} (h : InO
 
   -- and then the walk is the one cut back
   pub next-begins : (v : List ℤ) (r : code.Branch) (m k : ℕ) → m ≡ size b (t .at) → r .count ≡ k
-      → branchOf v k ≡ branchOf w (t .mark) ++ offeredChild b (asked b s) (branchOf w (t .mark)) (t .at + 6) m (t .child) → Fine v k → stack r ≡ begunOf (stack c)
+      → branchOf v k ≡ branchOf w (t .mark) ++ offeredChild b (asked b s) (branchOf w (t .mark)) (t .at + 6) m (t .child)
+      → Fine v k
+      → stack r ≡ begunOf (stack c)
       → (stateOf b (asked b s) v r ≡ cutBack _++_ (waitings b (asked b s) br (stack c))) × InOrder b s v r
   unfolding stateOf
   next-begins v r m k em er e f es =
@@ -106,6 +110,7 @@ module _ {b : List ℕ} {s : Progress} {w : List ℤ} {c : code.Branch} (h : InO
           room = f .room;
           ok =
               subst (λ (l : Branch). Ok b u l (stack r)) (sym rows)
-              (subst (λ (l : List Split). Ok b u (take (t .mark) br ++ childOn b u (take (t .mark) br) (t .at) (t .child)) l) (sym begun) (ok-begun b u br t others ok-top));
+              (subst (λ (l : List Split). Ok b u (take (t .mark) br ++ childOn b u (take (t .mark) br) (t .at) (t .child)) l) (sym begun)
+              (ok-begun b u br t others ok-top));
         },
       )

@@ -53,4 +53,5 @@ pub puts : (r : Rule) (b : List ℕ) (s : Progress) (w : List ℤ) (at n k m cou
     → ruleNamed r ≡ rule b (at + 6) → conclusionsOf (rule b (at + 6)) ≡ Several → Fine w count → 1 ≤ k → k ≤ n → m ≡ size b at → Puts r b s (at + 6) m w count k
 puts r b s w at n k m count p sp e c f l h em =
     let ready : Ready b s (at + 6) (size b at) w count = record { posed = p; formed = sp .formed; fine = f } in
-    subst (λ (i : ℕ). Puts r b s (at + 6) i w count k) (sym em) (record { ready = ready; named = e; concludes = ap conclusionsOf e ∙ c }, none-of-these sp k l h)
+    subst (λ (i : ℕ). Puts r b s (at + 6) i w count k) (sym em)
+    (record { ready = ready; named = e; concludes = ap conclusionsOf e ∙ c }, none-of-these sp k l h)

@@ -78,7 +78,10 @@ module _ (b : List ℕ) (u : Question) (br : Branch) (ss : List Split) (at n : �
   }
 
   -- the split is pending
-  pub ok-split : conclusionsOf (rule b (at + 6)) ≡ Several → 2 ≤ n → length ss < pendingLimit → Ok b u (br ++ childOn b u br at 1) (split (length br) at 2 n ∷ ss)
+  pub ok-split : conclusionsOf (rule b (at + 6)) ≡ Several
+      → 2 ≤ n
+      → length ss < pendingLimit
+      → Ok b u (br ++ childOn b u br at 1) (split (length br) at 2 n ∷ ss)
   unfolding AllPend
   ok-split r h g =
       let c : List Fact = childOn b u br at 1 in
@@ -119,7 +122,8 @@ module _ (b : List ℕ) (u : Question) (br : Branch) (s : Split) (ss : List Spli
   length-cut = length-take-le (s .mark) br (its-pends .behind)
 
   few-begun : length (cutTo br s ++ begunOn b u br s) ≤ factLimit
-  few-begun = omega (arith, length-append (cutTo br s) (begunOn b u br s), child-room (its-pends .splits) (s .child) (its-pends .some-begun) (its-pends .some-left))
+  few-begun =
+      omega (arith, length-append (cutTo br s) (begunOn b u br s), child-room (its-pends .splits) (s .child) (its-pends .some-begun) (its-pends .some-left))
 
   small-begun : factsWithin (cutTo br s ++ begunOn b u br s) ≡ true
   small-begun = within-append (cutTo br s) (begunOn b u br s) (within-take br (s .mark) (ok .small)) (child-within (its-pends .splits) (s .child))
@@ -127,7 +131,9 @@ module _ (b : List ℕ) (u : Question) (br : Branch) (s : Split) (ss : List Spli
   cut-again : take (s .mark) (cutTo br s ++ begunOn b u br s) ≡ cutTo br s
   cut-again = take-at (cutTo br s) (begunOn b u br s) (s .mark) length-cut
 
-  pend-begun : (t : Bool) → ltb (s .child) (s .last) ≡ t → AllPend b u (cutTo br s ++ begunOn b u br s) (cond t (split (s .mark) (s .at) (s .child + 1) (s .last) ∷ ss) ss)
+  pend-begun : (t : Bool)
+      → ltb (s .child) (s .last) ≡ t
+      → AllPend b u (cutTo br s ++ begunOn b u br s) (cond t (split (s .mark) (s .at) (s .child + 1) (s .last) ∷ ss) ss)
   unfolding AllPend
   pend-begun true e =
       let more : s .child < s .last = ltb-true (s .child) (s .last) e in

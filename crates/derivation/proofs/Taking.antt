@@ -56,11 +56,21 @@ module _ (b : List ℕ) (u : Question) (br : Branch) (at m : ℕ) (em : m ≡ si
   no-children e = sym (e ∙ ap (λ (i : ℕ). offered b u br (at + 6) i) em)
 
   -- a rule with one conclusion: "all children" are the one
-  pub one-tried : lengthFits b (at + 6) m ≡ true → conclusionsOf (rule b (at + 6)) ≡ One → (f : ℕ) → f ≡ takenTried br (childIn given 1) → (pending : ℕ) → f ≡ allTried br pending given
+  pub one-tried : lengthFits b (at + 6) m ≡ true
+      → conclusionsOf (rule b (at + 6)) ≡ One
+      → (f : ℕ)
+      → f ≡ takenTried br (childIn given 1)
+      → (pending : ℕ)
+      → f ≡ allTried br pending given
   one-tried l c f e pending = e ∙ sym (tried-once br pending given (one-conclusion u br b (at + 6) m l c))
 
   -- its first child stands behind the branch
-  pub first-begins : (n : ℕ) → Splits b u br at n → (w : List ℤ) (k : ℕ) → branchOf w k ≡ br ++ offeredChild b u br (at + 6) m 1 → Fine w k → Begins b u br at n w k
+  pub first-begins : (n : ℕ)
+      → Splits b u br at n
+      → (w : List ℤ) (k : ℕ)
+      → branchOf w k ≡ br ++ offeredChild b u br (at + 6) m 1
+      → Fine w k
+      → Begins b u br at n w k
   first-begins n sp w k e f = record {
     splits = sp;
     rows = e ∙ ap (λ (i : ℕ). br ++ offeredChild b u br (at + 6) i 1) em;
@@ -73,7 +83,8 @@ more-pending : (t : Bool) (pending : ℕ) → (t || ltb pending pendingLimit) �
 more-pending true pending p n = absurd (not-both true refl n)
 more-pending false pending p n = ltb-true pending pendingLimit p
 
-module _ (b : List ℕ) (u : Question) (br : Branch) (at m pending : ℕ) (em : m ≡ size b at) (f : Formed b u (at + 6) m) (e : allTried br pending (offered b u br (at + 6) m) ≡ 0) where
+module _ (b : List ℕ) (u : Question) (br : Branch) (at m pending : ℕ) (em : m ≡ size b at) (f : Formed b u (at + 6) m)
+    (e : allTried br pending (offered b u br (at + 6) m) ≡ 0) where
   abbrev its : Option (List (List Fact))
   its = offered b u br (at + 6) m
 

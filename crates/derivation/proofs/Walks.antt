@@ -54,8 +54,11 @@ module _ (b : List ℕ) (u : Question) (br : Branch) (ss : List Split) (at n : �
   entered-more h =
       let s : Split = split (length br) at 2 n in
       ap (λ (l : Branch). working (br ++ first) (waitingOn b u l s ∷ waitings b u l ss)) (take-append-seam br first)
-      ∙ ap₂ (λ (c d : List Fact). working (br ++ c) (record { mark = br; child = d; rest = drop 2 (childrenOn b u br at) } ∷ waitings b u br ss)) (child-of sp 1) (child-of sp 2)
-      ∙ ap (λ (cs : List (List Fact)). working (br ++ orNone (childAt (sp .its-children) 1)) (record { mark = br; child = orNone (childAt (sp .its-children) 2); rest = drop 2 cs } ∷ waitings b u br ss)) (its-all sp)
+      ∙ ap₂ (λ (c d : List Fact). working (br ++ c) (record { mark = br; child = d; rest = drop 2 (childrenOn b u br at) } ∷ waitings b u br ss))
+      (child-of sp 1) (child-of sp 2)
+      ∙ ap (λ (cs : List (List Fact)). working (br ++ orNone (childAt (sp .its-children) 1))
+      (record { mark = br; child = orNone (childAt (sp .its-children) 2); rest = drop 2 cs } ∷ waitings b u br ss))
+      (its-all sp)
       ∙ two-more (sp .its-children) (omega (arith, sp .number))
       ∙ sym (ap entered (its-all sp))
 
@@ -68,7 +71,8 @@ module _ (b : List ℕ) (u : Question) (br : Branch) (s : Split) (ss : List Spli
   abbrev left : List (List Fact)
   left = drop (s .child) (childrenOn b u (cutTo br s) (s .at))
 
-  left-more : s .child < length (its-splits .its-children) → left ≡ childOn b u (cutTo br s) (s .at) (s .child + 1) ∷ drop (s .child + 1) (childrenOn b u (cutTo br s) (s .at))
+  left-more : s .child < length (its-splits .its-children)
+      → left ≡ childOn b u (cutTo br s) (s .at) (s .child + 1) ∷ drop (s .child + 1) (childrenOn b u (cutTo br s) (s .at))
   left-more h =
       ap (drop (s .child)) (its-all its-splits)
       ∙ next-child (its-splits .its-children) (s .child) h
@@ -79,16 +83,19 @@ module _ (b : List ℕ) (u : Question) (br : Branch) (s : Split) (ss : List Spli
   left-none h = ap (drop (s .child)) (its-all its-splits) ∙ drop-of-length-le (its-splits .its-children) h
 
   begun-left : (t : Bool) → ltb (s .child) (s .last) ≡ t
-      → waitings b u (cutTo br s ++ begunOn b u br s) (cond t (split (s .mark) (s .at) (s .child + 1) (s .last) ∷ ss) ss) ≡ wait (cutTo br s) left (waitings b u (cutTo br s) ss)
+      → waitings b u (cutTo br s ++ begunOn b u br s) (cond t (split (s .mark) (s .at) (s .child + 1) (s .last) ∷ ss) ss)
+      ≡ wait (cutTo br s) left (waitings b u (cutTo br s) ss)
   unfolding waitings AllPend
   begun-left true e =
       let more : s .child < length (its-splits .its-children) = omega (arith, ltb-true (s .child) (s .last) e, its-splits .number) in
       let next : left ≡ childOn b u (cutTo br s) (s .at) (s .child + 1) ∷ drop (s .child + 1) (childrenOn b u (cutTo br s) (s .at)) = left-more more in
-      ap (λ (l : Branch). waitingOn b u l (split (s .mark) (s .at) (s .child + 1) (s .last)) ∷ waitings b u l ss) (take-at (cutTo br s) (begunOn b u br s) (s .mark) (length-cut b u br s ss ok))
+      ap (λ (l : Branch). waitingOn b u l (split (s .mark) (s .at) (s .child + 1) (s .last)) ∷ waitings b u l ss)
+      (take-at (cutTo br s) (begunOn b u br s) (s .mark) (length-cut b u br s ss ok))
       ∙ sym (ap (λ (cs : List (List Fact)). wait (cutTo br s) cs (waitings b u (cutTo br s) ss)) next)
   begun-left false e =
       let none : left ≡ [] = left-none (omega (arith, ltb-false (s .child) (s .last) e, its-splits .number)) in
-      waitings-grown b u (cutTo br s) (begunOn b u br s) ss (ok .pend .1) ∙ sym (ap (λ (cs : List (List Fact)). wait (cutTo br s) cs (waitings b u (cutTo br s) ss)) none)
+      waitings-grown b u (cutTo br s) (begunOn b u br s) ss (ok .pend .1)
+      ∙ sym (ap (λ (cs : List (List Fact)). wait (cutTo br s) cs (waitings b u (cutTo br s) ss)) none)
 
   pub cut-back : walkOf b u (cutTo br s ++ begunOn b u br s) (begunOf (s ∷ ss)) ≡ cutBack _++_ (waitings b u br (s ∷ ss))
   unfolding waitings begunOf

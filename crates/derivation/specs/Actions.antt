@@ -25,7 +25,8 @@ numberOf action.the-variants.Closes = 0
 numberOf (action.the-variants.Extends k) = 0
 numberOf (action.the-variants.Splits k n) = 0
 
--- the step in the record at a position fits with n children, and the facts of the first stand behind those of the branch, as the first k rows of the work area w
+-- the step in the record at a position fits with n children, and the facts of the first stand behind those of the branch, as the first k rows of the work area
+-- w
 pub record Begins (b : List ℕ) (u : Question) (br : Branch) (at n : ℕ) (w : List ℤ) (k : ℕ) : Type 0 where
   pub splits : Splits b u br at n
   pub rows : branchOf w k ≡ br ++ childOn b u br at 1

@@ -12,7 +12,9 @@ use borrow.Author.Tests.{ltb-true, lt-ltb, le-ltb}
 use Rattle.calculus.specs.Limits.{ticketBytes, factLimit}
 use Rattle.calculus.specs.Facts.{Question}
 use Rattle.format.specs.Records.{kind, records}
-use Rattle.format.specs.Question.{headRank, literalRank, rankOf, isConstraint, Progress, unread, Manner, checkingManner, formManner, roomFor, questionFault, questionAdvanced, Reading, Stopped, Ended, ending, readFrom, readBy, readIn, question, questionForm, questionIn}
+use Rattle.format.specs.Question.{headRank, literalRank, rankOf, isConstraint, Progress, unread, Manner}
+use Rattle.format.specs.Question.{checkingManner, formManner, roomFor, questionFault, questionAdvanced, Reading}
+use Rattle.format.specs.Question.{Stopped, Ended, ending, readFrom, readBy, readIn, question, questionForm, questionIn}
 use Rattle.format.proofs.RecordFaults.{uncrowded, →uncrowded}
 use Rattle.format.proofs.Entries.{QuestionInRange, Entry, head, literal, constraint, entry}
 
@@ -57,11 +59,18 @@ module _ (b : List ℕ) (s : Progress) (h : Ready s) (at : ℕ) (v : Question) w
       room false = refl
 
   -- a record that finds room leaves no more than 128
-  entry-few : Entry b s at v → roomFor true r (length (s .question .constraints)) ≡ true → length (s .question .constraints) ≤ factLimit → length (v .constraints) ≤ factLimit
+  entry-few : Entry b s at v
+      → roomFor true r (length (s .question .constraints)) ≡ true
+      → length (s .question .constraints) ≤ factLimit
+      → length (v .constraints) ≤ factLimit
   entry-few (head k l n q) e m = omega arith
   entry-few (literal k l n q) e m = omega arith
   entry-few (constraint k l n q) e m =
-      omega (arith, ltb-true (length (s .question .constraints)) factLimit (ap (λ x. not x || ltb (length (s .question .constraints)) factLimit) (sym (lt-ltb literalRank r k)) ∙ e))
+      omega (
+        arith,
+        ltb-true (length (s .question .constraints)) factLimit
+            (ap (λ x. not x || ltb (length (s .question .constraints)) factLimit) (sym (lt-ltb literalRank r k)) ∙ e),
+      )
 
 advanced-ready : (m : Manner) (b : List ℕ) (s : Progress) (at : ℕ) → questionFault m b s at ≡ 0 → Ready s → Ready (questionAdvanced b s at)
 unfolding questionAdvanced
@@ -72,12 +81,20 @@ advanced-ready m b s at e h = entry-ready b s h at (questionAdvanced b s at .que
 -- reading in a manner comes from s at record r to t at position to and record q
 data Reads (m : Manner) (b : List ℕ) : Progress → ℕ → List ℕ → Progress → ℕ → ℕ → Type 0 where
   ended : {s : Progress} {r at : ℕ} {ats : List ℕ} → ending (kind b at) ≡ true → Reads m b s r (at ∷ ats) s at r
-  further : {s t : Progress} {r at to q : ℕ} {ats : List ℕ} → ending (kind b at) ≡ false → questionFault m b s at ≡ 0 → Reads m b (questionAdvanced b s at) (suc r) ats t to q → Reads m b s r (at ∷ ats) t to q
+  further : {s t : Progress} {r at to q : ℕ} {ats : List ℕ}
+      → ending (kind b at) ≡ false
+      → questionFault m b s at ≡ 0
+      → Reads m b (questionAdvanced b s at) (suc r) ats t to q
+      → Reads m b s r (at ∷ ats) t to q
 
 module _ (m : Manner) (b : List ℕ) where
   -- one turn, by the record's kind and its fault
   abbrev turn : Progress → ℕ → ℕ → List ℕ → Bool → ℕ → Reading
-  turn s r at ats x f = elim x as (λ _. Reading) [ true ↦ Ended s at r | false ↦ elim f as (λ _. Reading) [ zero ↦ readFrom (questionFault m) b (questionAdvanced b s at) (suc r) ats | suc c ↦ Stopped (suc c) r ] ]
+  turn s r at ats x f =
+      elim x as (λ _. Reading) [
+        | true ↦ Ended s at r
+        | false ↦ elim f as (λ _. Reading) [ zero ↦ readFrom (questionFault m) b (questionAdvanced b s at) (suc r) ats | suc c ↦ Stopped (suc c) r ]
+      ]
 
   reads→ : (s : Progress) (r : ℕ) (ats : List ℕ) {t : Progress} {to q : ℕ} → readFrom (questionFault m) b s r ats ≡ Ended t to q → Reads m b s r ats t to q
   unfolding readFrom
@@ -85,7 +102,8 @@ module _ (m : Manner) (b : List ℕ) where
   reads→ s r (at ∷ ats) {t} {to} {q} e = go (ending (kind b at)) (questionFault m b s at) refl refl e (λ p. reads→ (questionAdvanced b s at) (suc r) ats p)
     where
       go : (x : Bool) (f : ℕ) → ending (kind b at) ≡ x → questionFault m b s at ≡ f → turn s r at ats x f ≡ Ended t to q
-          → (readFrom (questionFault m) b (questionAdvanced b s at) (suc r) ats ≡ Ended t to q → Reads m b (questionAdvanced b s at) (suc r) ats t to q) → Reads m b s r (at ∷ ats) t to q
+          → (readFrom (questionFault m) b (questionAdvanced b s at) (suc r) ats ≡ Ended t to q → Reads m b (questionAdvanced b s at) (suc r) ats t to q)
+          → Reads m b s r (at ∷ ats) t to q
       go true f k c p ih =
           let z : s ≡ t = cc in
           let w : at ≡ to = cc in
@@ -105,7 +123,11 @@ module _ {m : Manner} {b : List ℕ} where
   reads-ready (further {s = s} {at = at} k c g) h = reads-ready g (advanced-ready m b s at c h)
 
   -- what is read with 10 has no more than 128 constraints
-  reads-few : m .limited ≡ true → {s t : Progress} {r to q : ℕ} {ats : List ℕ} → Reads m b s r ats t to q → Ready s → length (s .question .constraints) ≤ factLimit
+  reads-few : m .limited ≡ true
+      → {s t : Progress} {r to q : ℕ} {ats : List ℕ}
+      → Reads m b s r ats t to q
+      → Ready s
+      → length (s .question .constraints) ≤ factLimit
       → length (t .question .constraints) ≤ factLimit
   reads-few e (ended k) h l = l
   reads-few e (further {s = s} {at = at} k c g) h l =
@@ -126,7 +148,10 @@ module _ (greatest : ℕ) where
   reads-without {b} (further {s = s} {at = at} k c g) = further k (→uncrowded unlimited b s at (uncrowded limited b s at c .0) refl) (reads-without g)
 
   -- what is read without 10 and has no more constraints is read with it
-  reads-room : {b : List ℕ} {s t : Progress} {r to q : ℕ} {ats : List ℕ} → Reads unlimited b s r ats t to q → Ready s → length (t .question .constraints) ≤ factLimit
+  reads-room : {b : List ℕ} {s t : Progress} {r to q : ℕ} {ats : List ℕ}
+      → Reads unlimited b s r ats t to q
+      → Ready s
+      → length (t .question .constraints) ≤ factLimit
       → (length (s .question .constraints) ≤ length (t .question .constraints)) × Reads limited b s r ats t to q
   reads-room (ended k) h l = (omega arith, ended k)
   reads-room {b} {t = t} (further {s = s} {at = at} k c g) h l =
@@ -140,7 +165,9 @@ module _ (greatest : ℕ) where
 abbrev bySize : Manner → List ℕ → Bool → Reading
 bySize m b x = elim x as (λ _. Reading) [ false ↦ Stopped 2 0 | true ↦ readFrom (questionFault m) b unread 0 (records b 0) ]
 
-whole→ : (m : Manner) (b : List ℕ) {s : Progress} {at r : ℕ} → readIn m b ≡ Ended s at r → (leb (length b) ticketBytes ≡ true) × Reads m b unread 0 (records b 0) s at r
+whole→ : (m : Manner) (b : List ℕ) {s : Progress} {at r : ℕ}
+    → readIn m b ≡ Ended s at r
+    → (leb (length b) ticketBytes ≡ true) × Reads m b unread 0 (records b 0) s at r
 unfolding readBy
 whole→ m b {s} {at} {r} e = go (leb (length b) ticketBytes) e
   where
@@ -148,7 +175,10 @@ whole→ m b {s} {at} {r} e = go (leb (length b) ticketBytes) e
     go false e = absurd (let z : _≡_ {A = ℕ} 0 1 = cc in omega arith)
     go true e = (refl, reads→ m b unread 0 (records b 0) e)
 
-→whole : (m : Manner) (b : List ℕ) {s : Progress} {at r : ℕ} → leb (length b) ticketBytes ≡ true → Reads m b unread 0 (records b 0) s at r → readIn m b ≡ Ended s at r
+→whole : (m : Manner) (b : List ℕ) {s : Progress} {at r : ℕ}
+    → leb (length b) ticketBytes ≡ true
+    → Reads m b unread 0 (records b 0) s at r
+    → readIn m b ≡ Ended s at r
 unfolding readBy
 →whole m b l h = ap (bySize m b) l ∙ →reads m b h
 
@@ -157,7 +187,11 @@ pub read-in-range : (m : Manner) (b : List ℕ) {s : Progress} {at r : ℕ} → 
 read-in-range m b {s} e h = behind-head s (reads-ready (whole→ m b e .1) (inl refl)) h
 
 -- with 10 it has no more than 128 constraints
-pub read-few : (m : Manner) → m .limited ≡ true → (b : List ℕ) {s : Progress} {at r : ℕ} → readIn m b ≡ Ended s at r → length (s .question .constraints) ≤ factLimit
+pub read-few : (m : Manner)
+    → m .limited ≡ true
+    → (b : List ℕ) {s : Progress} {at r : ℕ}
+    → readIn m b ≡ Ended s at r
+    → length (s .question .constraints) ≤ factLimit
 read-few m l b e = reads-few l (whole→ m b e .1) (inl refl) (omega arith)
 
 pub asked-in-range : (b : List ℕ) {s : Progress} {at r : ℕ} → questionForm b ≡ Ended s at r → 1 ≤ s .last → QuestionInRange (s .question)
@@ -166,7 +200,10 @@ asked-in-range b e h = read-in-range formManner b e h
 pub question→form : (b : List ℕ) {s : Progress} {at r : ℕ} → question b ≡ Ended s at r → questionForm b ≡ Ended s at r
 question→form b e = let (l, h) = whole→ checkingManner b e in →whole formManner b l (reads-without _ h)
 
-pub form→question : (b : List ℕ) {s : Progress} {at r : ℕ} → questionForm b ≡ Ended s at r → length (s .question .constraints) ≤ factLimit → question b ≡ Ended s at r
+pub form→question : (b : List ℕ) {s : Progress} {at r : ℕ}
+    → questionForm b ≡ Ended s at r
+    → length (s .question .constraints) ≤ factLimit
+    → question b ≡ Ended s at r
 form→question b e few = let (l, h) = whole→ formManner b e in →whole checkingManner b l (reads-room _ h (inl refl) few .1)
 
 pub question-few : (b : List ℕ) {s : Progress} {at r : ℕ} → question b ≡ Ended s at r → length (s .question .constraints) ≤ factLimit

@@ -18,7 +18,8 @@ use Rattle.calculus.specs.Walk.{Walk, working, closed}
 use Rattle.calculus.specs.Limits.{valueLimit}
 use Rattle.format.specs.Records.{size, kind, next, whole, need}
 use Rattle.format.specs.StepForms.{rule, childField, lengthFits, operandsInRange, stepAt, childInRange}
-use Rattle.format.specs.Reading.{State, proving, taking, modelled, Method, stepped, stepFault, modelAt, modelFault, bodyFault, lastFault, fault, advanced, Ticket, Faulty, Done, readSteps}
+use Rattle.format.specs.Reading.{State, proving, taking, modelled, Method, stepped, stepFault, modelAt, modelFault}
+use Rattle.format.specs.Reading.{bodyFault, lastFault, fault, advanced, Ticket, Faulty, Done, readSteps}
 use Rattle.format.specs.ProperForm.{stepsAt}
 use Rattle.format.specs.Fields.{allWithin}
 use Rattle.format.proofs.Faults.{none-applies, passed}
@@ -58,35 +59,47 @@ Formed b u ok (at ∷ ats) (t ∷ ts) o = StepAt b u ok at t × Formed b u ok at
 not-six : (b : List ℕ) (at : ℕ) (ats : List ℕ) (k : ℕ) → kind b at ≡ k → eqb k 6 ≡ false → stepsAt b (at ∷ ats) ≡ []
 unfolding stepsAt
 not-six b at ats k e f =
-    ap (λ x. elim x as (λ _. List (Step × ℕ)) [ false ↦ [] | true ↦ (stepAt b (at + 6) (size b at), childField b (at + 6)) ∷ stepsAt b ats ]) (ap (λ z. eqb z 6) e ∙ f)
+    ap (λ x. elim x as (λ _. List (Step × ℕ)) [ false ↦ [] | true ↦ (stepAt b (at + 6) (size b at), childField b (at + 6)) ∷ stepsAt b ats ])
+    (ap (λ z. eqb z 6) e ∙ f)
 
 -- they are the steps that the bytes hold
-pub formed-steps : (b : List ℕ) (u : Question) (ok : Step → ℕ → Bool) (ats : List ℕ) (ts : List (Step × ℕ)) (o : Option (List ℤ)) → Formed b u ok ats ts o → stepsAt b ats ≡ ts
+pub formed-steps : (b : List ℕ) (u : Question) (ok : Step → ℕ → Bool) (ats : List ℕ) (ts : List (Step × ℕ)) (o : Option (List ℤ))
+    → Formed b u ok ats ts o
+    → stepsAt b ats ≡ ts
 unfolding Formed stepsAt
 formed-steps b u ok [] ts o h = absurd h
 formed-steps b u ok (at ∷ ats) [] none h = not-six b at ats 8 (h .is-end) refl
 formed-steps b u ok (at ∷ ats) [] (some m) h = not-six b at ats 7 (h .0 .is-model) refl
 formed-steps b u ok (at ∷ ats) (t ∷ ts) o (h, hs) =
-    ap (λ x. elim x as (λ _. List (Step × ℕ)) [ false ↦ [] | true ↦ (stepAt b (at + 6) (size b at), childField b (at + 6)) ∷ stepsAt b ats ]) (ap (λ z. eqb z 6) (h .is-step))
+    ap (λ x. elim x as (λ _. List (Step × ℕ)) [ false ↦ [] | true ↦ (stepAt b (at + 6) (size b at), childField b (at + 6)) ∷ stepsAt b ats ])
+    (ap (λ z. eqb z 6) (h .is-step))
     ∙ ap₂ (λ x xs. x ∷ xs) (sym (h .holds)) (formed-steps b u ok ats ts o hs)
 
 -- each is in range
-pub formed-in-range : (b : List ℕ) (u : Question) (ok : Step → ℕ → Bool) (ats : List ℕ) (ts : List (Step × ℕ)) (o : Option (List ℤ)) → Formed b u ok ats ts o → All (λ t. StepInRange u (t .0)) ts
+pub formed-in-range : (b : List ℕ) (u : Question) (ok : Step → ℕ → Bool) (ats : List ℕ) (ts : List (Step × ℕ)) (o : Option (List ℤ))
+    → Formed b u ok ats ts o
+    → All (λ t. StepInRange u (t .0)) ts
 unfolding Formed
 formed-in-range b u ok [] ts o h = absurd h
 formed-in-range b u ok (at ∷ ats) [] o h = tt
-formed-in-range b u ok (at ∷ ats) (t ∷ ts) o (h, hs) =
-    (subst (λ (s : Step × ℕ). StepInRange u (s .0)) (sym (h .holds)) (step-in-range b u (at + 6) (size b at) (h .fits) (h .operands)), formed-in-range b u ok ats ts o hs)
+formed-in-range b u ok (at ∷ ats) (t ∷ ts) o (h, hs) = (
+  subst (λ (s : Step × ℕ). StepInRange u (s .0)) (sym (h .holds)) (step-in-range b u (at + 6) (size b at) (h .fits) (h .operands)),
+  formed-in-range b u ok ats ts o hs,
+)
 
 -- the model is the one behind the steps
-pub formed-model : (b : List ℕ) (u : Question) (ok : Step → ℕ → Bool) (ats : List ℕ) (ts : List (Step × ℕ)) {m : List ℤ} → Formed b u ok ats ts (some m) → m ≡ modelAt b u (getD ats (length ts) 0 + 6)
+pub formed-model : (b : List ℕ) (u : Question) (ok : Step → ℕ → Bool) (ats : List ℕ) (ts : List (Step × ℕ)) {m : List ℤ}
+    → Formed b u ok ats ts (some m)
+    → m ≡ modelAt b u (getD ats (length ts) 0 + 6)
 unfolding Formed
 formed-model b u ok [] ts h = absurd h
 formed-model b u ok (at ∷ ats) [] h = h .0 .holds
 formed-model b u ok (at ∷ ats) (t ∷ ts) h = formed-model b u ok ats ts (h .1)
 
 -- and within its range
-pub formed-within : (b : List ℕ) (u : Question) (ok : Step → ℕ → Bool) (ats : List ℕ) (ts : List (Step × ℕ)) (m : List ℤ) → Formed b u ok ats ts (some m) → allWithin valueLimit m ≡ true
+pub formed-within : (b : List ℕ) (u : Question) (ok : Step → ℕ → Bool) (ats : List ℕ) (ts : List (Step × ℕ)) (m : List ℤ)
+    → Formed b u ok ats ts (some m)
+    → allWithin valueLimit m ≡ true
 unfolding Formed
 formed-within b u ok [] ts m h = absurd h
 formed-within b u ok (at ∷ ats) [] m h = ap (allWithin valueLimit) (h .0 .holds) ∙ h .0 .values
@@ -112,24 +125,32 @@ Taken w (taking br) (t ∷ ts) o s' = (w .takenFault br (t .0) (t .1) ≡ 0) × 
 Taken w (modelled br v) (t ∷ ts) o s' = ⊥
 
 -- claim 1 ends with the walk, behind no model
-pub proving-stays : {B C : Type 0} (w : Method B C) (k : Walk B C) (ts : List (Step × ℕ)) (o : Option (List ℤ)) {s' : State B C} → Taken w (proving k) ts o s' → ((k' : Walk B C) × (s' ≡ proving k')) × (o ≡ none)
+pub proving-stays : {B C : Type 0} (w : Method B C) (k : Walk B C) (ts : List (Step × ℕ)) (o : Option (List ℤ)) {s' : State B C}
+    → Taken w (proving k) ts o s'
+    → ((k' : Walk B C) × (s' ≡ proving k')) × (o ≡ none)
 unfolding Taken
 proving-stays w k [] none h = ((k, sym (h .1)), refl)
 proving-stays w k [] (some m) h = absurd h
 proving-stays w (working br ss) (t ∷ ts) o h = proving-stays w (stepped w br ss (t .0)) ts o (h .1)
 proving-stays w closed (t ∷ ts) o h = absurd h
 
-pub proving-no-model : {B C : Type 0} (w : Method B C) (k : Walk B C) (ts : List (Step × ℕ)) (o : Option (List ℤ)) (l : B) (m : List ℤ) → Taken w (proving k) ts o (modelled l m) → ⊥
+pub proving-no-model : {B C : Type 0} (w : Method B C) (k : Walk B C) (ts : List (Step × ℕ)) (o : Option (List ℤ)) (l : B) (m : List ℤ)
+    → Taken w (proving k) ts o (modelled l m)
+    → ⊥
 proving-no-model w k ts o l m h = let ((k', z), _) = proving-stays w k ts o h in let z : _≡_ {A = ℕ} 0 1 = cc in omega arith
 
 -- claim 2 ends with the branch, or behind the model
-pub taking-no-walk : {B C : Type 0} (w : Method B C) (br : B) (ts : List (Step × ℕ)) (o : Option (List ℤ)) (k : Walk B C) → Taken w (taking br) ts o (proving k) → ⊥
+pub taking-no-walk : {B C : Type 0} (w : Method B C) (br : B) (ts : List (Step × ℕ)) (o : Option (List ℤ)) (k : Walk B C)
+    → Taken w (taking br) ts o (proving k)
+    → ⊥
 unfolding Taken
 taking-no-walk w br [] none k h = let z : _≡_ {A = ℕ} 0 1 = cc (h .1) in omega arith
 taking-no-walk w br [] (some m) k h = let z : _≡_ {A = ℕ} 0 1 = cc (h .2) in omega arith
 taking-no-walk w br (t ∷ ts) o k h = taking-no-walk w (w .taken br (t .0) (t .1)) ts o k (h .1)
 
-pub taking-models : {B C : Type 0} (w : Method B C) (br : B) (ts : List (Step × ℕ)) (o : Option (List ℤ)) (l : B) (m : List ℤ) → Taken w (taking br) ts o (modelled l m) → o ≡ some m
+pub taking-models : {B C : Type 0} (w : Method B C) (br : B) (ts : List (Step × ℕ)) (o : Option (List ℤ)) (l : B) (m : List ℤ)
+    → Taken w (taking br) ts o (modelled l m)
+    → o ≡ some m
 unfolding Taken
 taking-models w br [] none l m h = absurd (let z : _≡_ {A = ℕ} 0 1 = cc (h .1) in omega arith)
 taking-models w br [] (some v) l m h = cc (h .2)
@@ -162,7 +183,10 @@ module _ {B C : Type 0} (w : Method B C) (b : List ℕ) (u : Question) where
       let a5 = none-applies 4 (eqb (size b at) 0) (w .endFault s) (a4 .1) in
       (record { is-whole = a3 .0; is-end = eqb-true _ _ k; last = a4 .0; empty = a5 .0 }, a5 .1)
 
-  body→ : (s : State B C) (at : ℕ) → eqb (kind b at) 8 ≡ false → fault w b u s at ≡ 0 → (whole b at ≡ true) × (bodyFault w b u s (kind b at) (at + 6) (size b at) ≡ 0)
+  body→ : (s : State B C) (at : ℕ)
+      → eqb (kind b at) 8 ≡ false
+      → fault w b u s at ≡ 0
+      → (whole b at ≡ true) × (bodyFault w b u s (kind b at) (at + 6) (size b at) ≡ 0)
   unfolding fault
   body→ s at k e =
       let body : ℕ = bodyFault w b u s (kind b at) (at + 6) (size b at) in
@@ -180,7 +204,10 @@ module _ {B C : Type 0} (w : Method B C) (b : List ℕ) (u : Question) where
       let a = and-both inRange childFits (a6 .0) in
       (record { is-whole = h; is-step = eqb-true _ _ k; fits = a5 .0; operands = a .0; child-ok = a .1; holds = refl }, a6 .1)
 
-  model→ : (at later : ℕ) → whole b at ≡ true → need 4 (eqb (kind b at) 7) (modelFault b u later (at + 6) (size b at)) ≡ 0 → ModelAt b u at (modelAt b u (at + 6)) × (later ≡ 0)
+  model→ : (at later : ℕ)
+      → whole b at ≡ true
+      → need 4 (eqb (kind b at) 7) (modelFault b u later (at + 6) (size b at)) ≡ 0
+      → ModelAt b u at (modelAt b u (at + 6)) × (later ≡ 0)
   model→ at later h e =
       let a4 = none-applies 3 (eqb (kind b at) 7) (modelFault b u later (at + 6) (size b at)) e in
       let a5 = none-applies 4 (eqb (size b at) (4 * columnCount u)) (need 6 (allWithin valueLimit (modelAt b u (at + 6))) later) (a4 .1) in
@@ -188,7 +215,9 @@ module _ {B C : Type 0} (w : Method B C) (b : List ℕ) (u : Question) where
       (record { is-whole = h; is-model = eqb-true _ _ (a4 .0); fits = a5 .0; values = a6 .0; holds = refl }, a6 .1)
 
   -- behind the model only the end stands
-  only-end : (br : B) (m : List ℤ) (s' : State B C) (ok : Step → ℕ → Bool) (ats : List ℕ) (ts : List (Step × ℕ)) (o : Option (List ℤ)) → Formed b u ok ats ts o → Taken w (modelled br m) ts o s'
+  only-end : (br : B) (m : List ℤ) (s' : State B C) (ok : Step → ℕ → Bool) (ats : List ℕ) (ts : List (Step × ℕ)) (o : Option (List ℤ))
+      → Formed b u ok ats ts o
+      → Taken w (modelled br m) ts o s'
       → Formed b u ok ats [] none × Taken w (modelled br m) [] none s'
   unfolding Taken
   only-end br m s' ok ats [] none f k = (f, k)
@@ -204,31 +233,53 @@ module _ {B C : Type 0} (w : Method B C) (b : List ℕ) (u : Question) where
       On = (t : State B C) → readSteps w b u t (suc r) ats ≡ Done v s' → Read w b u t ats v s'
 
       taken-or-model : (br : B) (y : Bool) → eqb (kind b at) 6 ≡ y → whole b at ≡ true
-          → cond y (stepFault b u (childInRange (u .n) (stepAt b (at + 6) (size b at)) (childField b (at + 6))) (w .takenFault br (stepAt b (at + 6) (size b at)) (childField b (at + 6))) (at + 6) (size b at))
+          → cond y (stepFault b u (childInRange (u .n) (stepAt b (at + 6) (size b at)) (childField b (at + 6)))
+          (w .takenFault br (stepAt b (at + 6) (size b at)) (childField b (at + 6))) (at + 6) (size b at))
           (need 4 (eqb (kind b at) 7) (modelFault b u (w .leafFault br (modelAt b u (at + 6))) (at + 6) (size b at))) ≡ 0
-          → readSteps w b u (cond y (taking (w .taken br (stepAt b (at + 6) (size b at)) (childField b (at + 6)))) (modelled br (modelAt b u (at + 6)))) (suc r) ats ≡ Done v s'
+          → readSteps w b u (cond y (taking (w .taken br (stepAt b (at + 6) (size b at)) (childField b (at + 6)))) (modelled br (modelAt b u (at + 6))))
+          (suc r) ats
+          ≡ Done v s'
           → On → Read w b u (taking br) (at ∷ ats) v s'
       taken-or-model br true y h f e ih =
           let (a, l) = step→ (childInRange (u .n)) at (w .takenFault br (stepAt b (at + 6) (size b at)) (childField b (at + 6))) h y f in
           let g = ih (taking (w .taken br (stepAt b (at + 6) (size b at)) (childField b (at + 6)))) e in
-          record { steps = (stepAt b (at + 6) (size b at), childField b (at + 6)) ∷ g .steps; model = g .model; formed = (a, g .formed); same-question = g .same-question; taken = (l, g .taken) }
+          record {
+            steps = (stepAt b (at + 6) (size b at), childField b (at + 6)) ∷ g .steps;
+            model = g .model;
+            formed = (a, g .formed);
+            same-question = g .same-question;
+            taken = (l, g .taken);
+          }
       taken-or-model br false y h f e ih =
           let (a, l) = model→ at (w .leafFault br (modelAt b u (at + 6))) h f in
           let g = ih (modelled br (modelAt b u (at + 6))) e in
           let (c, n) = only-end br (modelAt b u (at + 6)) s' (childInRange (u .n)) ats (g .steps) (g .model) (g .formed) (g .taken) in
           record { steps = []; model = some (modelAt b u (at + 6)); formed = (a, c); same-question = g .same-question; taken = (l, n .0, n .1) }
 
-      turned : (s : State B C) (f : ℕ) (x : Bool) → fault w b u s at ≡ f → eqb (kind b at) 8 ≡ x → turn s r at ats f x ≡ Done v s' → On → Read w b u s (at ∷ ats) v s'
+      turned : (s : State B C) (f : ℕ) (x : Bool)
+          → fault w b u s at ≡ f
+          → eqb (kind b at) 8 ≡ x
+          → turn s r at ats f x ≡ Done v s'
+          → On
+          → Read w b u s (at ∷ ats) v s'
       turned s (suc c) x p q e ih = absurd (let z : _≡_ {A = ℕ} 0 1 = cc in omega arith)
       turned s zero true p q e ih =
           let g = end→ s at q p in
           record { steps = []; model = none; formed = g .0; same-question = cc; taken = (g .1, cc) }
       turned (proving (working br ss)) zero false p q e ih =
           let (h, f) = body→ (proving (working br ss)) at q p in
-          let a4 = none-applies 3 (eqb (kind b at) 6) (stepFault b u (eqb (childField b (at + 6)) 0) (w .splitFault br ss (stepAt b (at + 6) (size b at))) (at + 6) (size b at)) f in
+          let a4 =
+          none-applies 3 (eqb (kind b at) 6)
+          (stepFault b u (eqb (childField b (at + 6)) 0) (w .splitFault br ss (stepAt b (at + 6) (size b at))) (at + 6) (size b at)) f in
           let (a, l) = step→ (λ st c. eqb c 0) at (w .splitFault br ss (stepAt b (at + 6) (size b at))) h (a4 .0) (a4 .1) in
           let g = ih (proving (stepped w br ss (stepAt b (at + 6) (size b at)))) e in
-          record { steps = (stepAt b (at + 6) (size b at), childField b (at + 6)) ∷ g .steps; model = g .model; formed = (a, g .formed); same-question = g .same-question; taken = (l, g .taken) }
+          record {
+            steps = (stepAt b (at + 6) (size b at), childField b (at + 6)) ∷ g .steps;
+            model = g .model;
+            formed = (a, g .formed);
+            same-question = g .same-question;
+            taken = (l, g .taken);
+          }
       turned (proving closed) zero false p q e ih = absurd (let z : _≡_ {A = ℕ} 4 0 = body→ (proving closed) at q p .1 in omega arith)
       turned (taking br) zero false p q e ih = let (h, f) = body→ (taking br) at q p in taken-or-model br (eqb (kind b at) 6) refl h f e ih
       turned (modelled br m) zero false p q e ih = absurd (let z : _≡_ {A = ℕ} 4 0 = body→ (modelled br m) at q p .1 in omega arith)
@@ -250,32 +301,45 @@ module _ {B C : Type 0} (w : Method B C) (b : List ℕ) (u : Question) where
       ∙ ap (λ k. cond (eqb k 8) (lastFault w b s at) (bodyFault w b u s k (at + 6) (size b at))) e
       ∙ ap (λ x. cond x (lastFault w b s at) (bodyFault w b u s k (at + 6) (size b at))) f
 
-  step-fault : (ok : Step → ℕ → Bool) (at later : ℕ) {t : Step × ℕ} → StepAt b u ok at t → stepFault b u (ok (stepAt b (at + 6) (size b at)) (childField b (at + 6))) later (at + 6) (size b at) ≡ later
+  step-fault : (ok : Step → ℕ → Bool) (at later : ℕ) {t : Step × ℕ}
+      → StepAt b u ok at t
+      → stepFault b u (ok (stepAt b (at + 6) (size b at)) (childField b (at + 6))) later (at + 6) (size b at) ≡ later
   step-fault ok at later h =
       let inRange : Bool = operandsInRange b (u .p) (columnCount u) (rule b (at + 6)) (at + 6) (size b at) in
       let childFits : Bool = ok (stepAt b (at + 6) (size b at)) (childField b (at + 6)) in
-      passed 5 (lengthFits b (at + 6) (size b at)) (need 6 (inRange && childFits) later) (h .fits) ∙ passed 6 (inRange && childFits) later (ap₂ _&&_ (h .operands) (h .child-ok))
+      passed 5 (lengthFits b (at + 6) (size b at)) (need 6 (inRange && childFits) later) (h .fits)
+      ∙ passed 6 (inRange && childFits) later (ap₂ _&&_ (h .operands) (h .child-ok))
 
   model-fault : (at later : ℕ) {m : List ℤ} → ModelAt b u at m → modelFault b u later (at + 6) (size b at) ≡ later
   model-fault at later h =
-      passed 5 (eqb (size b at) (4 * columnCount u)) (need 6 (allWithin valueLimit (modelAt b u (at + 6))) later) (h .fits) ∙ passed 6 (allWithin valueLimit (modelAt b u (at + 6))) later (h .values)
+      passed 5 (eqb (size b at) (4 * columnCount u)) (need 6 (allWithin valueLimit (modelAt b u (at + 6))) later) (h .fits)
+      ∙ passed 6 (allWithin valueLimit (modelAt b u (at + 6))) later (h .values)
 
-  pub →done : (s : State B C) (r : ℕ) (ats : List ℕ) (ts : List (Step × ℕ)) (o : Option (List ℤ)) {s' : State B C} → Formed b u (childOk u s) ats ts o → Taken w s ts o s' → readSteps w b u s r ats ≡ Done u s'
+  pub →done : (s : State B C) (r : ℕ) (ats : List ℕ) (ts : List (Step × ℕ)) (o : Option (List ℤ)) {s' : State B C}
+      → Formed b u (childOk u s) ats ts o
+      → Taken w s ts o s'
+      → readSteps w b u s r ats ≡ Done u s'
   unfolding readSteps advanced Formed Taken
   →done s r [] ts o h k = absurd h
   →done s r (at ∷ ats) [] none h (f, e) = ap₂ (turn s r at ats) (end-fault s at h ∙ f) (ap (λ k. eqb k 8) (h .is-end)) ∙ ap (Done u) e
   →done (proving k) r (at ∷ ats) [] (some m) h k' = absurd k'
   →done (taking br) r (at ∷ ats) [] (some m) (h, hs) (f, g, k) =
       ap₂ (turn (taking br) r at ats)
-      (body-fault (taking br) at 7 (h .is-whole) (h .is-model) refl ∙ model-fault at (w .leafFault br (modelAt b u (at + 6))) h ∙ ap (w .leafFault br) (sym (h .holds)) ∙ f)
+      (body-fault (taking br) at 7 (h .is-whole) (h .is-model) refl
+      ∙ model-fault at (w .leafFault br (modelAt b u (at + 6))) h
+      ∙ ap (w .leafFault br) (sym (h .holds))
+      ∙ f)
       (ap (λ k. eqb k 8) (h .is-model))
-      ∙ ap (λ k. readSteps w b u (cond (eqb k 6) (taking (w .taken br (stepAt b (at + 6) (size b at)) (childField b (at + 6)))) (modelled br (modelAt b u (at + 6)))) (suc r) ats) (h .is-model)
+      ∙ ap (λ k. readSteps w b u
+      (cond (eqb k 6) (taking (w .taken br (stepAt b (at + 6) (size b at)) (childField b (at + 6)))) (modelled br (modelAt b u (at + 6)))) (suc r) ats)
+      (h .is-model)
       ∙ ap (λ m. readSteps w b u (modelled br m) (suc r) ats) (sym (h .holds))
       ∙ →done (modelled br m) (suc r) ats [] none hs (g, k)
   →done (modelled br v) r (at ∷ ats) [] (some m) h k = absurd k
   →done (proving (working br ss)) r (at ∷ ats) (t ∷ ts) o (h, hs) (f, k) =
       ap₂ (turn (proving (working br ss)) r at ats)
-      (body-fault (proving (working br ss)) at 6 (h .is-whole) (h .is-step) refl ∙ step-fault (λ st c. eqb c 0) at (w .splitFault br ss (stepAt b (at + 6) (size b at))) h
+      (body-fault (proving (working br ss)) at 6 (h .is-whole) (h .is-step) refl
+      ∙ step-fault (λ st c. eqb c 0) at (w .splitFault br ss (stepAt b (at + 6) (size b at))) h
       ∙ ap (λ (t : Step × ℕ). w .splitFault br ss (t .0)) (sym (h .holds)) ∙ f)
       (ap (λ k. eqb k 8) (h .is-step))
       ∙ ap (λ (t : Step × ℕ). readSteps w b u (proving (stepped w br ss (t .0))) (suc r) ats) (sym (h .holds))
@@ -283,10 +347,13 @@ module _ {B C : Type 0} (w : Method B C) (b : List ℕ) (u : Question) where
   →done (proving closed) r (at ∷ ats) (t ∷ ts) o h k = absurd k
   →done (taking br) r (at ∷ ats) (t ∷ ts) o (h, hs) (f, k) =
       ap₂ (turn (taking br) r at ats)
-      (body-fault (taking br) at 6 (h .is-whole) (h .is-step) refl ∙ step-fault (childInRange (u .n)) at (w .takenFault br (stepAt b (at + 6) (size b at)) (childField b (at + 6))) h
+      (body-fault (taking br) at 6 (h .is-whole) (h .is-step) refl
+      ∙ step-fault (childInRange (u .n)) at (w .takenFault br (stepAt b (at + 6) (size b at)) (childField b (at + 6))) h
       ∙ ap (λ (t : Step × ℕ). w .takenFault br (t .0) (t .1)) (sym (h .holds)) ∙ f)
       (ap (λ k. eqb k 8) (h .is-step))
-      ∙ ap (λ k. readSteps w b u (cond (eqb k 6) (taking (w .taken br (stepAt b (at + 6) (size b at)) (childField b (at + 6)))) (modelled br (modelAt b u (at + 6)))) (suc r) ats) (h .is-step)
+      ∙ ap (λ k. readSteps w b u
+      (cond (eqb k 6) (taking (w .taken br (stepAt b (at + 6) (size b at)) (childField b (at + 6)))) (modelled br (modelAt b u (at + 6)))) (suc r) ats)
+      (h .is-step)
       ∙ ap (λ (t : Step × ℕ). readSteps w b u (taking (w .taken br (t .0) (t .1))) (suc r) ats) (sym (h .holds))
       ∙ →done (taking (w .taken br (t .0) (t .1))) (suc r) ats ts o hs k
   →done (modelled br v) r (at ∷ ats) (t ∷ ts) o h k = absurd k

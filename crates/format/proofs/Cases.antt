@@ -14,5 +14,7 @@ use Rattle.format.specs.Checking.{factsWithin, childrenWithin, roomForAl
 use Rattle.format.specs.Cases.{shortBytes, pairBytes, ticket, CaseHolds, starred}
 
 pub starred-hold : All CaseHolds starred
-unfolding isCharacter allCharacters shape u32 signed u16s u32s i32s pairsAt bytesOf recordsBy records rankOf rising fillCoefficients constraintFault formFault questionFault questionAdvanced readFrom readBy multipliersWithin operandsInRange stepOf characterBytes integerBytes stringRecords encode allWithin fault advanced readSteps factsWithin childrenWithin roomForAll keeps verdictBy shortBytes pairBytes ticket flatMap
+unfolding isCharacter allCharacters shape u32 signed u16s u32s i32s pairsAt bytesOf recordsBy records rankOf rising fillCoefficients constraintFault
+    formFault questionFault questionAdvanced readFrom readBy multipliersWithin operandsInRange stepOf characterBytes integerBytes stringRecords encode allWithin
+    fault advanced readSteps factsWithin childrenWithin roomForAll keeps verdictBy shortBytes pairBytes ticket flatMap
 starred-hold = (refl, (refl, (refl, (refl, (refl, (refl, (refl, (refl, (refl, (refl, (refl, (refl, (refl, tt)))))))))))))

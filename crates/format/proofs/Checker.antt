@@ -1,4 +1,5 @@
--- Checking takes steps as the calculus walks over them: under claim 1 without fault exactly where they fit within the limits and close every branch, under claim 2 exactly where the children taken lead to a leaf without fault.
+-- Checking takes steps as the calculus walks over them: under claim 1 without fault exactly where they fit within the limits and close every branch, under
+-- claim 2 exactly where the children taken lead to a leaf without fault.
 use Prim.Native.Nat.{ℕ}
 use native.Mathlib.Omega.{arith}
 use mathlib.Core.Path.{_≡_, refl, sym, _∙_, ap, subst}
@@ -48,7 +49,11 @@ proved→walked rules u (working b ss) (t ∷ ts) o s (f, h) =
 proved→walked rules u closed (t ∷ ts) o s h = absurd h
 
 module _ (u : Question) (w : HeadInRange u) where
-  pub walked→proved : (k : Walk Branch (List Fact)) (ts : List (Step × ℕ)) → StateInRange u k → All (λ t. StepInRange u (t .0)) ts → LimitsFrom u k (bare ts) → Walked u k (bare ts)
+  pub walked→proved : (k : Walk Branch (List Fact)) (ts : List (Step × ℕ))
+      → StateInRange u k
+      → All (λ t. StepInRange u (t .0)) ts
+      → LimitsFrom u k (bare ts)
+      → Walked u k (bare ts)
       → Taken (checker u) (proving k) ts none (proving closed)
   unfolding Taken WalkedBy LimitsFrom
   walked→proved (working b ss) [] r g l h = absurd h
@@ -91,7 +96,12 @@ taken→reached rules u b (t ∷ ts) o s (f, h) =
     }
 
 module _ (u : Question) (w : HeadInRange u) where
-  pub followed→taken : (b leaf : Branch) (m : List ℤ) (ts : List (Step × ℕ)) → FactsInRange u b → All (λ t. StepInRange u (t .0)) ts → PathLimitsFrom u b ts → Followed u b ts leaf → leafFault u leaf m ≡ 0
+  pub followed→taken : (b leaf : Branch) (m : List ℤ) (ts : List (Step × ℕ))
+      → FactsInRange u b
+      → All (λ t. StepInRange u (t .0)) ts
+      → PathLimitsFrom u b ts
+      → Followed u b ts leaf
+      → leafFault u leaf m ≡ 0
       → Taken (checker u) (taking b) ts (some m) (modelled leaf m)
   unfolding Taken FollowedBy PathLimitsFrom
   followed→taken b leaf m [] r g l h f = (ap (λ d. leafFault u d m) h ∙ f, refl, ap (λ d. modelled d m) h)
@@ -100,5 +110,6 @@ module _ (u : Question) (w : HeadInRange u) where
       let (here, later) = l c k in
       let d : childTaken u b t ≡ some c = e in (
         ap (takenTried b) d ∙ limits→taken b c here,
-        subst (λ x. Taken (checker u) (taking (b ++ x)) ts (some m) (modelled leaf m)) (sym (ap orNone d)) (followed→taken (b ++ c) leaf m ts (taken-in-range u w b t c r g k) gs later h f),
+        subst (λ x. Taken (checker u) (taking (b ++ x)) ts (some m) (modelled leaf m)) (sym (ap orNone d))
+            (followed→taken (b ++ c) leaf m ts (taken-in-range u w b t c r g k) gs later h f),
       )

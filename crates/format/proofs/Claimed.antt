@@ -48,7 +48,8 @@ abbrev pub claimed→form : {b : List ℕ} {u : Question} → Claimed b (questio
 claimed→form {b} c = record { last = c .last; position = c .position; number = c .number; ended = question→form b (c .ended); claim-formed = c .claim-formed }
 
 abbrev pub form→claimed : {b : List ℕ} {u : Question} → length (u .constraints) ≤ factLimit → Claimed b (questionForm b) u → Claimed b (question b) u
-form→claimed {b} l c = record { last = c .last; position = c .position; number = c .number; ended = form→question b (c .ended) l; claim-formed = c .claim-formed }
+form→claimed {b} l c =
+    record { last = c .last; position = c .position; number = c .number; ended = form→question b (c .ended) l; claim-formed = c .claim-formed }
 
 pub claimed-steps : {b : List ℕ} {u : Question} (c : Claimed b (questionForm b) u) → stepsWithChild b ≡ stepsAt b (behindClaim c)
 claimed-steps {b} c = ap (stepsBehind b) (c .ended)
@@ -60,13 +61,16 @@ claim-headed b last at later e =
 
 -- the claim stands behind a head
 pub claimed-headed : {b : List ℕ} {g : Reading} {u : Question} (c : Claimed b g u) → 1 ≤ c .last
-claimed-headed {b} c = claim-headed b (c .last) (c .position) (need 5 (eqb (size b (c .position)) 2) (need 6 (leb 1 (claimAt b (c .position)) && leb (claimAt b (c .position)) 2) 0)) (c .claim-formed)
+claimed-headed {b} c =
+    claim-headed b (c .last) (c .position)
+    (need 5 (eqb (size b (c .position)) 2) (need 6 (leb 1 (claimAt b (c .position)) && leb (claimAt b (c .position)) 2) 0)) (c .claim-formed)
 
 pub claimed-in-range : {b : List ℕ} {u : Question} → Claimed b (questionForm b) u → QuestionInRange u
 claimed-in-range {b} c = asked-in-range b (c .ended) (claimed-headed c)
 
 pub claimed-asked : {b : List ℕ} {g : Reading} {u : Question} → Claimed b g u → questionIn g ≡ some u
-claimed-asked {b} {g} {u} c = ap questionIn (c .ended) ∙ headed-asked (record { last = c .last; question = u }) (c .position) (c .number) (le-leb 1 (c .last) (claimed-headed c))
+claimed-asked {b} {g} {u} c =
+    ap questionIn (c .ended) ∙ headed-asked (record { last = c .last; question = u }) (c .position) (c .number) (le-leb 1 (c .last) (claimed-headed c))
 
 module _ {B C : Type 0} (method : Question → Method B C) (b : List ℕ) where
   abbrev pub ReadBehind : Reading → Question → State B C → Type 0

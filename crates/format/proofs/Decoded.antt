@@ -12,7 +12,9 @@ use Rattle.lists.proofs.Tests.{and-both}
 use Rattle.calculus.specs.Facts.{Question, columnCount}
 use Rattle.calculus.specs.Instances.{StepInRange}
 use Rattle.format.specs.Fields.{u16, u32}
-use Rattle.format.specs.StepForms.{Rule, sum, branch, apart, aConf, sConf, sProp, lIntro, lValid, cCollapse, cValid, cInj, card, join, unknown, Form, formFor, fitsForm, rule, lengthFits, sumPairs, multipliersWithin, pairsIn, cardVariables, areVariables, operandsInRange, stepOf, stepAt}
+use Rattle.format.specs.StepForms.{Rule, sum, branch, apart, aConf, sConf, sProp, lIntro, lValid, cCollapse, cValid, cInj}
+use Rattle.format.specs.StepForms.{card, join, unknown, Form, formFor, fitsForm, rule, lengthFits, sumPairs}
+use Rattle.format.specs.StepForms.{multipliersWithin, pairsIn, cardVariables, areVariables, operandsInRange, stepOf, stepAt}
 use Rattle.format.proofs.Fields.{length-u16s, length-pairs, length-form}
 
 pub below→ : (p : ℕ) (xs : List ℕ) → areVariables p xs ≡ true → All (λ x. x < p) xs
@@ -21,11 +23,16 @@ below→ p xs e = all-true→ (λ x. ltb x p) xs (λ x. ltb-true x p) e
 pub at-least : (f : Form) (m : ℕ) → fitsForm f m ≡ true → f .least ≤ m
 at-least f m e = leb-true (f .least) m (and-both (leb (f .least) m) _ e .0)
 
-rule-in-range : (b : List ℕ) (u : Question) (r : Rule) (at m : ℕ) → fitsForm (formFor r) m ≡ true → operandsInRange b (u .p) (columnCount u) r at m ≡ true → StepInRange u (stepOf b r at m)
+rule-in-range : (b : List ℕ) (u : Question) (r : Rule) (at m : ℕ)
+    → fitsForm (formFor r) m ≡ true
+    → operandsInRange b (u .p) (columnCount u) r at m ≡ true
+    → StepInRange u (stepOf b r at m)
 unfolding operandsInRange stepOf StepInRange
 rule-in-range b u sum at m l e =
-    let long : 14 ≤ m = at-least (formFor sum) m l in
-    (leb-true 1 (u32 b (at + 4)) (and-both _ (leb (u32 b (at + 4)) 2147483647 && multipliersWithin (sumPairs b at m)) e .0), subst (λ k. 1 ≤ k) (sym (length-pairs b (at + 8) ((m - 8) / 6))) (omega arith))
+    let long : 14 ≤ m = at-least (formFor sum) m l in (
+      leb-true 1 (u32 b (at + 4)) (and-both _ (leb (u32 b (at + 4)) 2147483647 && multipliersWithin (sumPairs b at m)) e .0),
+      subst (λ k. 1 ≤ k) (sym (length-pairs b (at + 8) ((m - 8) / 6))) (omega arith),
+    )
 rule-in-range b u branch at m l e = length-form b (at + 4) (pairsIn m)
 rule-in-range b u apart at m l e = tt
 rule-in-range b u aConf at m l e = tt
@@ -43,5 +50,8 @@ rule-in-range b u card at m l e =
 rule-in-range b u join at m l e = tt
 rule-in-range b u unknown at m l e = tt
 
-pub step-in-range : (b : List ℕ) (u : Question) (at m : ℕ) → lengthFits b at m ≡ true → operandsInRange b (u .p) (columnCount u) (rule b at) at m ≡ true → StepInRange u (stepAt b at m)
+pub step-in-range : (b : List ℕ) (u : Question) (at m : ℕ)
+    → lengthFits b at m ≡ true
+    → operandsInRange b (u .p) (columnCount u) (rule b at) at m ≡ true
+    → StepInRange u (stepAt b at m)
 step-in-range b u at m = rule-in-range b u (rule b at) at m

@@ -31,7 +31,8 @@ length-integers zs = length-flatMap (λ z. bytesOf 4 (unsigned z)) 4 (λ z. leng
 
 pub length-record : (k : ℕ) (body : List ℕ) → length (recordBytes k body) ≡ 6 + length body
 length-record k body =
-    rw (length-append (bytesOf 4 (length body)) (bytesOf 2 k ++ body), length-append (bytesOf 2 k) body, length-bytes 4 (length body), length-bytes 2 k) (omega arith)
+    rw (length-append (bytesOf 4 (length body)) (bytesOf 2 k ++ body), length-append (bytesOf 2 k) body, length-bytes 4 (length body), length-bytes 2 k)
+    (omega arith)
 
 pub records-snoc : (ss : List (List ℕ)) (s : List ℕ) → stringRecords (ss ++ (s ∷ [])) ≡ stringRecords ss ++ recordBytes 9 (characterBytes s)
 unfolding stringRecords flatMap
@@ -57,5 +58,9 @@ length-encode a =
       length-integers (a .ints),
     ) (omega arith)
 
-pub encode-short : (a : Assignment) → length (a .strs) ≤ variableLimit → All (λ s. length s ≤ lengthLimit) (a .strs) → length (a .ints) ≤ variableLimit → length (encode a) ≤ answerBytes
+pub encode-short : (a : Assignment)
+    → length (a .strs) ≤ variableLimit
+    → All (λ s. length s ≤ lengthLimit) (a .strs)
+    → length (a .ints) ≤ variableLimit
+    → length (encode a) ≤ answerBytes
 encode-short a p h q = omega (arith, length-encode a, length-strings (a .strs) h)

@@ -19,10 +19,12 @@ use Rattle.calculus.proofs.InRange.{HeadInRange, FactInRange, FactsInRange}
 use Rattle.calculus.proofs.Words.{over→, →given}
 use Rattle.format.specs.Fields.{u16, u32s}
 use Rattle.format.specs.Records.{size, kind, need}
-use Rattle.format.specs.Question.{headRank, literalRank, rankOf, Progress, withLiteral, withFact, headFault, headOf, textOf, literalFault, stringFact, constraintFault, constraintOf, rankInPlace, formFault, questionAdvanced}
+use Rattle.format.specs.Question.{headRank, literalRank, rankOf, Progress, withLiteral, withFact, headFault, headOf, textOf}
+use Rattle.format.specs.Question.{literalFault, stringFact, constraintFault, constraintOf, rankInPlace, formFault, questionAdvanced}
 use Rattle.format.proofs.Faults.{none-applies}
 use Rattle.format.proofs.Fields.{length-u32s, length-form}
-use Rattle.format.proofs.RecordFaults.{passed, head-first, behind-head, head-formed, StringConstraint, Constraint, on-strings, on-columns, constraint-formed}
+use Rattle.format.proofs.RecordFaults.{passed, head-first, behind-head, head-formed, StringConstraint}
+use Rattle.format.proofs.RecordFaults.{Constraint, on-strings, on-columns, constraint-formed}
 
 not-empty : (b : List ℕ) (at k : ℕ) → 1 ≤ k → [] ≢ u32s b at k
 not-empty b at k h e = omega (arith, ap length e, length-u32s b at k)
@@ -60,10 +62,15 @@ still-in-range u s (notSame x y) h = h
 still-in-range u s (isLiteral x l) h = (h .0, omega (arith, length-append (u .literals) (s ∷ []), h .1))
 still-in-range u s (arithmetic r e) h = h
 
-literal-in-range : (b : List ℕ) (u : Question) (at m : ℕ) → QuestionInRange u → length (u .literals) < literalLimit → literalFault b (u .n) (u .literals) at m ≡ 0 → QuestionInRange (withLiteral u (textOf b at m))
+literal-in-range : (b : List ℕ) (u : Question) (at m : ℕ)
+    → QuestionInRange u
+    → length (u .literals) < literalLimit
+    → literalFault b (u .n) (u .literals) at m ≡ 0
+    → QuestionInRange (withLiteral u (textOf b at m))
 literal-in-range b u at m d few e =
     let s : List ℕ = textOf b at m in
-    let a5 = none-applies 4 (leb 4 m && (leb m (4 * lengthLimit) && eqb (m % 4) 0)) (need 6 (allCharacters (u .n) s) (need 7 (not (given s (u .literals))) 0)) e in
+    let a5 =
+    none-applies 4 (leb 4 m && (leb m (4 * lengthLimit) && eqb (m % 4) 0)) (need 6 (allCharacters (u .n) s) (need 7 (not (given s (u .literals))) 0)) e in
     let a6 = none-applies 5 (allCharacters (u .n) s) (need 7 (not (given s (u .literals))) 0) (a5 .1) in
     let a7 = none-applies 6 (not (given s (u .literals))) 0 (a6 .1) in
     let four : 4 ≤ m = leb-true _ _ (and-both _ _ (a5 .0) .0) in
@@ -101,7 +108,8 @@ fact-in-range u f d h = record {
     literals = d .head .literals;
   };
   characters = d .characters;
-  constraints = all-append (FactInRange (withFact u f)) (u .constraints) (f ∷ []) (all-map (u .constraints) (same-range u f) (d .constraints)) (same-range u f f h, tt);
+  constraints =
+      all-append (FactInRange (withFact u f)) (u .constraints) (f ∷ []) (all-map (u .constraints) (same-range u f) (d .constraints)) (same-range u f f h, tt);
   literals-differ = d .literals-differ;
   literals-over = d .literals-over;
 }
@@ -113,7 +121,9 @@ string-in-range u m (suc (suc zero)) x y c = (c .first, c .literal refl)
 string-in-range u m (suc (suc (suc r))) x y c = absurd (omega (arith, c .relation))
 
 -- a constraint's body without fault
-constraint-in-range : (b : List ℕ) (u : Question) (k at m : ℕ) → Constraint b (u .p) (length (u .literals)) (columnCount u) k at m → FactInRange u (constraintOf b k at m)
+constraint-in-range : (b : List ℕ) (u : Question) (k at m : ℕ)
+    → Constraint b (u .p) (length (u .literals)) (columnCount u) k at m
+    → FactInRange u (constraintOf b k at m)
 constraint-in-range b u k at m (on-strings e c i) = subst (FactInRange u) (sym i) (string-in-range u m (u16 b at) (u16 b (at + 2)) (u16 b (at + 4)) c)
 constraint-in-range b u k at m (on-columns e c i) = subst (FactInRange u) (sym i) (length-form b (at + 2) (m / 6 - 1))
 
@@ -122,8 +132,16 @@ constraint-in-range b u k at m (on-columns e c i) = subst (FactInRange u) (sym i
 -- a record that the question v stands behind, where s was read before it
 pub data Entry (b : List ℕ) (s : Progress) (at : ℕ) (v : Question) : Type 0 where
   head : rankOf (kind b at) ≡ headRank → s .last ≡ 0 → length (v .constraints) ≡ 0 → QuestionInRange v → Entry b s at v
-  literal : rankOf (kind b at) ≡ literalRank → headRank ≤ s .last → length (v .constraints) ≡ length (s .question .constraints) → (QuestionInRange (s .question) → QuestionInRange v) → Entry b s at v
-  constraint : literalRank < rankOf (kind b at) → headRank ≤ s .last → length (v .constraints) ≡ suc (length (s .question .constraints)) → (QuestionInRange (s .question) → QuestionInRange v) → Entry b s at v
+  literal : rankOf (kind b at) ≡ literalRank
+      → headRank ≤ s .last
+      → length (v .constraints) ≡ length (s .question .constraints)
+      → (QuestionInRange (s .question) → QuestionInRange v)
+      → Entry b s at v
+  constraint : literalRank < rankOf (kind b at)
+      → headRank ≤ s .last
+      → length (v .constraints) ≡ suc (length (s .question .constraints))
+      → (QuestionInRange (s .question) → QuestionInRange v)
+      → Entry b s at v
 
 module _ (greatest : ℕ) (b : List ℕ) (s : Progress) (at : ℕ) where
   abbrev u : Question
@@ -140,7 +158,9 @@ module _ (greatest : ℕ) (b : List ℕ) (s : Progress) (at : ℕ) where
 
   -- by the tests of the record's rank
   by-rank : (x y : Bool) → eqb r headRank ≡ x → eqb r literalRank ≡ y → rankInPlace greatest (s .last) (length (u .literals)) r ≡ true
-      → cond x (headFault b (at + 6) m) (cond y (literalFault b (u .n) (u .literals) (at + 6) m) (constraintFault b (u .p) (length (u .literals)) (columnCount u) (kind b at) (at + 6) m)) ≡ 0
+      → cond x (headFault b (at + 6) m)
+      (cond y (literalFault b (u .n) (u .literals) (at + 6) m) (constraintFault b (u .p) (length (u .literals)) (columnCount u) (kind b at) (at + 6) m))
+      ≡ 0
       → Entry b s at (cond x (headOf b (at + 6)) (cond y (withLiteral u (textOf b (at + 6) m)) (withFact u fact)))
   by-rank true y p q t e = head (eqb-true _ _ p) (head-first greatest (s .last) (length (u .literals)) r t (eqb-true _ _ p)) refl (head-in-range b (at + 6) m e)
   by-rank false true p q t e =

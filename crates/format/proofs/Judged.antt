@@ -51,7 +51,10 @@ unfolding texts outside
 inside-over v u zero r at e x = tt
 inside-over v u (suc p) r at e x = go (allCharacters (u .n) (textAt v at)) refl e x (λ p' y. inside-over v u p (suc r) (next v at) p' y)
   where
-    go : (b : Bool) → allCharacters (u .n) (textAt v at) ≡ b → _≡_ {A = Option ℕ} (elim b as (λ _. Option ℕ) [ true ↦ outside v u p (suc r) (next v at) | false ↦ some r ]) none → (x : ℕ)
+    go : (b : Bool)
+        → allCharacters (u .n) (textAt v at) ≡ b
+        → _≡_ {A = Option ℕ} (elim b as (λ _. Option ℕ) [ true ↦ outside v u p (suc r) (next v at) | false ↦ some r ]) none
+        → (x : ℕ)
         → (outside v u p (suc r) (next v at) ≡ none → (y : ℕ) → Over (u .n) (getD (texts v p (next v at)) y []))
         → Over (u .n) (getD (textAt v at ∷ texts v p (next v at)) x [])
     go true t e zero ih = over→ (u .n) (textAt v at) (true→ t)
@@ -68,7 +71,10 @@ unfolding judging
 judged-taken b v u a e = behind (question b) refl e
   where
     answered : (w : Question) (x : Bool) (o : Option ℕ) → outside v w (w .p) 0 0 ≡ o → questionOf b ≡ some w
-        → (elim x as (λ _. Judging) [ false ↦ Refused 15 0 | true ↦ elim o as (λ _. Judging) [ some r ↦ Refused 16 r | none ↦ Judged w (assignmentOf v w) ] ]) ≡ Judged u a → Taken b v u a
+        →
+        (elim x as (λ _. Judging) [ false ↦ Refused 15 0 | true ↦ elim o as (λ _. Judging) [ some r ↦ Refused 16 r | none ↦ Judged w (assignmentOf v w) ] ])
+        ≡ Judged u a
+        → Taken b v u a
     answered w false o p q e = absurd (let z : _≡_ {A = ℕ} 0 1 = cc in omega arith)
     answered w true (some r) p q e = absurd (let z : _≡_ {A = ℕ} 0 1 = cc in omega arith)
     answered w true none p q e =
@@ -80,9 +86,14 @@ judged-taken b v u a e = behind (question b) refl e
     behind (Stopped c r) p e = absurd (let z : _≡_ {A = ℕ} 0 1 = cc in omega arith)
     behind (Ended s at r) p e = go (leb 1 (s .last)) refl e
       where
-        go : (x : Bool) → leb 1 (s .last) ≡ x → (elim x as (λ _. Judging) [ false ↦ Refused 4 r | true ↦ judgeAnswer (s .question) v ]) ≡ Judged u a → Taken b v u a
+        go : (x : Bool)
+            → leb 1 (s .last) ≡ x
+            → (elim x as (λ _. Judging) [ false ↦ Refused 4 r | true ↦ judgeAnswer (s .question) v ]) ≡ Judged u a
+            → Taken b v u a
         go false h e = absurd (let z : _≡_ {A = ℕ} 0 1 = cc in omega arith)
-        go true h e = answered (s .question) (answerForm v (s .question .p) (s .question .q) 0) (outside v (s .question) (s .question .p) 0 0) refl (ap questionIn (question→form b p) ∙ headed-asked s at r h) e
+        go true h e =
+            answered (s .question) (answerForm v (s .question .p) (s .question .q) 0) (outside v (s .question) (s .question .p) 0 0) refl
+            (ap questionIn (question→form b p) ∙ headed-asked s at r h) e
 
 -- ---- the theorem
 

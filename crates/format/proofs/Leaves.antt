@@ -77,7 +77,8 @@ module _ (u : Question) (q : QuestionInRange u) (b : Branch) (r : FactsInRange u
   accepted→unfaulted a =
       passed 12 (keeps m b) (need 13 (saturated u b m) (need 14 (shortLengths u m) 0)) (→keeps m b (a .met))
       ∙ passed 13 (saturated u b m) (need 14 (shortLengths u m) 0) (words→saturated u (q .head) b r m (a .saturated))
-      ∙ passed 14 (shortLengths u m) 0 (→true (shortLengths u m) (→all-below (u .p) short (λ x h. →short (modelValue u m len x) (length-nonneg u b m (by-classes u (q .head) b r m (a .saturated)) x h) (a .short x h))))
+      ∙ passed 14 (shortLengths u m) 0 (→true (shortLengths u m) (→all-below (u .p) short
+      (λ x h. →short (modelValue u m len x) (length-nonneg u b m (by-classes u (q .head) b r m (a .saturated)) x h) (a .short x h))))
 
   -- the strings and integers
   pub accepted-answers : length m ≡ u .q + (u .p + u .p) → AcceptedLeaf u b m → Answers u b m (answerOf u b m)

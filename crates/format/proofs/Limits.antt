@@ -57,7 +57,9 @@ limits→tried b k cs l =
     ∙ passed 10 (roomForAll (length b) cs && roomToPend k cs) 0 (ap₂ _&&_ (room-for-all b cs (l .children)) (room-to-pend k cs (l .splits)))
 
 pub limits→taken : (b : Branch) (c : List Fact) → ChildLimits b c → takenTried b (some c) ≡ 0
-limits→taken b c l = passed 9 (factsWithin c) (need 10 (room (length b) c) 0) (facts-within c (l .numbers)) ∙ passed 10 (room (length b) c) 0 (le-leb (length b + length c) factLimit (l .facts))
+limits→taken b c l =
+    passed 9 (factsWithin c) (need 10 (room (length b) c) 0) (facts-within c (l .numbers))
+    ∙ passed 10 (room (length b) c) 0 (le-leb (length b + length c) factLimit (l .facts))
 
 -- ---- and only there
 

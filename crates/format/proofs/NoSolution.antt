@@ -1,4 +1,5 @@
--- TH-4 and TH-2: what checking accepts under claim 1 is a closed tree, so that no assignment meets all constraints; and in proper form and within the limits a closed tree is accepted.
+-- TH-4 and TH-2: what checking accepts under claim 1 is a closed tree, so that no assignment meets all constraints; and in proper form and within the limits a
+-- closed tree is accepted.
 use Prim.Native.Nat.{ℕ, _≤_}
 use native.Mathlib.Omega.{arith}
 use mathlib.Core.Path.{_≡_, subst}
@@ -41,7 +42,11 @@ accepted→closed rules work answer b e =
     let (u, s, r, few, a) = verdict→ rules work answer b NoSolution (λ c r z. let z : _≡_ {A = ℕ} 0 1 = cc in omega arith) e in
     (u, by-claim u s r few a)
   where
-    by-claim : (u : Question) (s : State Branch (List Fact)) → ReadAs (checkerBy rules) b u s → length (u .constraints) ≤ factLimit → accepted u s ≡ NoSolution → Closed rules b u
+    by-claim : (u : Question) (s : State Branch (List Fact))
+        → ReadAs (checkerBy rules) b u s
+        → length (u .constraints) ≤ factLimit
+        → accepted u s ≡ NoSolution
+        → Closed rules b u
     by-claim u s (true, o, h, k) few a =
         let (_, none-left) = proving-stays (checkerBy rules u) (working (u .constraints) []) (stepsWithChild b) o k in
         let (_, ends) = proved→walked rules u (working (u .constraints) []) (stepsWithChild b) o s k in
@@ -79,11 +84,17 @@ proper-steps b u (w, e) = by-claim (proper→ b u e)
     by-claim (true, o, h, k) = subst (Holding b u true) (proving-stays (byShape u) (working (length (u .constraints)) []) (stepsWithChild b) o k .1) h
     by-claim (false, o, h, k) = absurd (taking-no-walk (byShape u) (length (u .constraints)) (stepsWithChild b) o w k)
 
-closes→accepted : (work answer : ℕ) (b : List ℕ) (u : Question) → largeEnough work answer ≡ true → Holding b u true none → WithinLimits u (steps b) → Closes u (u .constraints) (steps b) → verdict work answer b ≡ NoSolution
+closes→accepted : (work answer : ℕ) (b : List ℕ) (u : Question)
+    → largeEnough work answer ≡ true
+    → Holding b u true none
+    → WithinLimits u (steps b)
+    → Closes u (u .constraints) (steps b)
+    → verdict work answer b ≡ NoSolution
 closes→accepted work answer b u big h l k =
     let q = claimed-in-range (h .claimed) in
     let walked = closes→walked u (q .head) (u .constraints) (steps b) (q .constraints) (all-bare u (stepsWithChild b) (steps-in-range h)) k in
-    →verdict children work answer b u true none (proving closed) big (l .question) h (walked→proved u (q .head) (working (u .constraints) []) (stepsWithChild b) (q .constraints, tt) (steps-in-range h) (l .steps) walked)
+    →verdict children work answer b u true none (proving closed) big (l .question) h
+    (walked→proved u (q .head) (working (u .constraints) []) (stepsWithChild b) (q .constraints, tt) (steps-in-range h) (l .steps) walked)
 
 pub derivations-exact : TH-2
 derivations-exact work answer t u big proper limits =

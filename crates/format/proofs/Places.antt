@@ -91,14 +91,18 @@ pub read-literal : (b : List ℕ) (last n p q k at : ℕ) → rankOf (kind b at)
 unfolding questionAdvanced constraintsAt
 read-literal b last n p q k at e g =
     let u : Question = readTo b last n p q k 0 .question in
-    ap (λ ts. record { last = literalRank; question = record { n = n; p = p; q = q; literals = ts; constraints = [] } }) (ap (λ m. texts b m literalsFrom) (add-one k) ∙ texts-snoc b k literalsFrom)
+    ap (λ ts. record { last = literalRank; question = record { n = n; p = p; q = q; literals = ts; constraints = [] } })
+    (ap (λ m. texts b m literalsFrom) (add-one k) ∙ texts-snoc b k literalsFrom)
     ∙ sym (ap (λ r. record {
       last = r;
       question = byRank r (headOf b (at + 6)) (withLiteral u (textOf b (at + 6) (size b at))) (withFact u (constraintAt b at));
     }) e
     ∙ ap (λ z. record { last = literalRank; question = withLiteral u (textOf b (z + 6) (size b z)) }) g)
 
-pub read-constraint : (b : List ℕ) (last n p q k m at : ℕ) → eqb (rankOf (kind b at)) headRank ≡ false → eqb (rankOf (kind b at)) literalRank ≡ false → at ≡ skip b m (skip b k literalsFrom)
+pub read-constraint : (b : List ℕ) (last n p q k m at : ℕ)
+    → eqb (rankOf (kind b at)) headRank ≡ false
+    → eqb (rankOf (kind b at)) literalRank ≡ false
+    → at ≡ skip b m (skip b k literalsFrom)
     → readTo b (rankOf (kind b at)) n p q k (m + 1) ≡ questionAdvanced b (readTo b last n p q k m) at
 unfolding questionAdvanced
 read-constraint b last n p q k m at x y g =

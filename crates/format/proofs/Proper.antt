@@ -34,18 +34,24 @@ use Rattle.format.proofs.Strings.{accepted→given}
 module _ (u : Question) (w : HeadInRange u) where
   -- ---- claim 1: the walk over shapes is that over facts, counted
 
-  proved→formed : (k l : Walk Branch (List Fact)) (ts : List (Step × ℕ)) → StateInRange u k → All (λ t. StepInRange u (t .0)) ts → Taken (checker u) (proving k) ts none (proving l)
+  proved→formed : (k l : Walk Branch (List Fact)) (ts : List (Step × ℕ))
+      → StateInRange u k
+      → All (λ t. StepInRange u (t .0)) ts
+      → Taken (checker u) (proving k) ts none (proving l)
       → Taken (byShape u) (proving (count k)) ts none (proving (count l)) × LimitsFrom u k (bare ts)
   unfolding Taken LimitsFrom
   proved→formed k l [] r g (_, e) = ((refl, ap proving (ap count (let z : k ≡ l = cc in z))), tt)
   proved→formed (working b ss) l (t ∷ ts) (rb, rs) (g, gs) (f, h) =
       let (cs, e, d) = fitting (children u b (t .0)) _ f in
       let i : Instance u b (t .0) cs = fits→instance u w b rb (t .0) g e in
-      let (n, m) = proved→formed (enter _++_ b cs ss) l ts (enter-in-range u b cs ss rb (children-in-range u w b (t .0) cs rb g i) rs) gs (subst (λ ds. Taken (checker u) (proving (enter _++_ b ds ss)) ts none (proving l)) d h) in (
+      let (n, m) =
+      proved→formed (enter _++_ b cs ss) l ts (enter-in-range u b cs ss rb (children-in-range u w b (t .0) cs rb g i) rs) gs
+      (subst (λ ds. Taken (checker u) (proving (enter _++_ b ds ss)) ts none (proving l)) d h) in (
         (refl, subst (λ k. Taken (byShape u) (proving k) ts none (proving (count l))) (shape-walks u (w .alphabet) b (t .0) cs ss i) n),
         λ ds j.
             let same : cs ≡ ds = cc (e, instance→fits u w b rb (t .0) g j) in
-            subst (λ ds. SplitLimits b (length ss) ds × LimitsFrom u (enter _++_ b ds ss) (bare ts)) same (tried→limits b (length ss) cs (ap (allTried b (length ss)) (sym e) ∙ f), m),
+            subst (λ ds. SplitLimits b (length ss) ds × LimitsFrom u (enter _++_ b ds ss) (bare ts)) same
+            (tried→limits b (length ss) cs (ap (allTried b (length ss)) (sym e) ∙ f), m),
       )
   proved→formed closed l (t ∷ ts) r g h = absurd h
 
@@ -66,14 +72,19 @@ module _ (u : Question) (w : HeadInRange u) where
       ∙ ap (λ o. length b + Option·getD o 0) (child-length (k .children) (t .1) (k .taken))
       ∙ sym (length-append b c)
 
-  taken→formed : (b leaf : Branch) (m : List ℤ) (ts : List (Step × ℕ)) → FactsInRange u b → All (λ t. StepInRange u (t .0)) ts → Taken (checker u) (taking b) ts (some m) (modelled leaf m)
+  taken→formed : (b leaf : Branch) (m : List ℤ) (ts : List (Step × ℕ))
+      → FactsInRange u b
+      → All (λ t. StepInRange u (t .0)) ts
+      → Taken (checker u) (taking b) ts (some m) (modelled leaf m)
       → Taken (byShape u) (taking (length b)) ts (some m) (modelled (length leaf) m) × PathLimitsFrom u b ts
   unfolding Taken PathLimitsFrom
   taken→formed b leaf m [] r g (_, _, e) = ((refl, refl, ap (λ (d : Branch). modelled (length d) m) (let z : b ≡ leaf = cc in z)), tt)
   taken→formed b leaf m (t ∷ ts) r (g, gs) (f, h) =
       let (c, e, d) = fitting (childTaken u b t) _ f in
       let k : Takes u b t c = taken→takes u w b t c r g e in
-      let (n, l) = taken→formed (b ++ c) leaf m ts (taken-in-range u w b t c r g k) gs (subst (λ x. Taken (checker u) (taking (b ++ x)) ts (some m) (modelled leaf m)) d h) in (
+      let (n, l) =
+      taken→formed (b ++ c) leaf m ts (taken-in-range u w b t c r g k) gs
+      (subst (λ x. Taken (checker u) (taking (b ++ x)) ts (some m) (modelled leaf m)) d h) in (
         (refl, subst (λ k. Taken (byShape u) (taking k) ts (some m) (modelled (length leaf) m)) (sym (shape-takes b t c k)) n),
         λ c' k'.
             let same : c ≡ c' = cc (e, takes→taken u w b t c' r g k') in
@@ -89,7 +100,9 @@ no-solution-proper work answer t e =
     let (f, l) = proved→formed u (q .head) (working (u .constraints) []) closed (stepsWithChild t) (q .constraints, tt) (steps-in-range (c .held)) (c .taken) in
     (u, (closed, →proper t u true none (c .held) f), record { question = c .few; steps = l })
 
-pub strings-proper : (work answer : ℕ) (t out : List ℕ) → verdict work answer t ≡ Strings out → (u : Question) × (m : List ℤ) × ProperStrings t u m × PathWithinLimits u (stepsWithChild t)
+pub strings-proper : (work answer : ℕ) (t out : List ℕ)
+    → verdict work answer t ≡ Strings out
+    → (u : Question) × (m : List ℤ) × ProperStrings t u m × PathWithinLimits u (stepsWithChild t)
 strings-proper work answer t out e =
     let (u, k) = accepted→given children work answer t out e in
     let q = claimed-in-range (k .held .claimed) in

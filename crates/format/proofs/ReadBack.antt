@@ -67,13 +67,17 @@ unfolding u32s characterBytes flatMap
 characters-back b at n [] rest m h e = refl
 characters-back b at n (c ∷ s) rest m (h, hs) e =
     let f : drop at b ≡ bytesOf 4 c ++ (characterBytes s ++ rest) = e ∙ append-assoc (bytesOf 4 c) (characterBytes s) rest in
-    ap₂ _∷_ (u32-back b at c (characterBytes s ++ rest) (omega (arith, character-below n c h)) f) (characters-back b (at + 4) n s rest m hs (behind b at 4 (bytesOf 4 c) (characterBytes s ++ rest) (length-bytes 4 c) f))
+    ap₂ _∷_ (u32-back b at c (characterBytes s ++ rest) (omega (arith, character-below n c h)) f)
+    (characters-back b (at + 4) n s rest m hs (behind b at 4 (bytesOf 4 c) (characterBytes s ++ rest) (length-bytes 4 c) f))
 
 unsigned-small : (z : ℤ) → within valueLimit z ≡ true → unsigned z < 4294967296
 unsigned-small (pos v) h = omega (arith, leb-true v valueLimit h)
 unsigned-small (negsuc v) h = omega arith
 
-integers-back : (b : List ℕ) (at : ℕ) (zs : List ℤ) (rest : List ℕ) → allWithin valueLimit zs ≡ true → drop at b ≡ integerBytes zs ++ rest → i32s b at (length zs) ≡ zs
+integers-back : (b : List ℕ) (at : ℕ) (zs : List ℤ) (rest : List ℕ)
+    → allWithin valueLimit zs ≡ true
+    → drop at b ≡ integerBytes zs ++ rest
+    → i32s b at (length zs) ≡ zs
 unfolding i32s integerBytes allWithin flatMap
 integers-back b at [] rest h e = refl
 integers-back b at (z ∷ zs) rest h e =
@@ -92,15 +96,22 @@ record RecordAt (b : List ℕ) (at k : ℕ) (body rest : List ℕ) : Type 0 wher
   rest-stands : drop (next b at) b ≡ rest
   ends : next b at + length rest ≡ length b
 
-record-back : (b : List ℕ) (at k : ℕ) (body rest : List ℕ) → k < 65536 → length body < 4294967296 → drop at b ≡ recordBytes k body ++ rest → RecordAt b at k body rest
+record-back : (b : List ℕ) (at k : ℕ) (body rest : List ℕ)
+    → k < 65536
+    → length body < 4294967296
+    → drop at b ≡ recordBytes k body ++ rest
+    → RecordAt b at k body rest
 record-back b at k body rest few short e =
     let fields : drop at b ≡ bytesOf 4 (length body) ++ (bytesOf 2 k ++ (body ++ rest)) =
     e ∙ append-assoc (bytesOf 4 (length body)) (bytesOf 2 k ++ body) rest ∙ ap (λ l. bytesOf 4 (length body) ++ l) (append-assoc (bytesOf 2 k) body rest) in
-    let from-kind : drop (at + 4) b ≡ bytesOf 2 k ++ (body ++ rest) = behind b at 4 (bytesOf 4 (length body)) (bytesOf 2 k ++ (body ++ rest)) (length-bytes 4 (length body)) fields in
+    let from-kind : drop (at + 4) b ≡ bytesOf 2 k ++ (body ++ rest) =
+    behind b at 4 (bytesOf 4 (length body)) (bytesOf 2 k ++ (body ++ rest)) (length-bytes 4 (length body)) fields in
     let six : at + 4 + 2 ≡ at + 6 = omega arith in
-    let from-body : drop (at + 6) b ≡ body ++ rest = subst (λ n. drop n b ≡ body ++ rest) six (behind b (at + 4) 2 (bytesOf 2 k) (body ++ rest) (length-bytes 2 k) from-kind) in
+    let from-body : drop (at + 6) b ≡ body ++ rest =
+    subst (λ n. drop n b ≡ body ++ rest) six (behind b (at + 4) 2 (bytesOf 2 k) (body ++ rest) (length-bytes 2 k) from-kind) in
     let z : size b at ≡ length body = u32-back b at (length body) (bytesOf 2 k ++ (body ++ rest)) short fields in
-    let total : next b at + length rest ≡ length b = omega (arith, ap length e, length-drop at b, length-append (recordBytes k body) rest, length-record k body) in
+    let total : next b at + length rest ≡ length b =
+    omega (arith, ap length e, length-drop at b, length-append (recordBytes k body) rest, length-record k body) in
     record {
       is-kind = u16-back b (at + 4) k (body ++ rest) few from-kind;
       is-size = z;
@@ -119,11 +130,15 @@ record Back (b : List ℕ) (u : Question) (ss : List (List ℕ)) (zs : List ℤ)
   strings : texts b (length ss) at ≡ ss
   integers : integersAt b (length zs) (skip b (length ss) at) ≡ zs
 
-inside-more : (b : List ℕ) (u : Question) (p r at : ℕ) → allCharacters (u .n) (textAt b at) ≡ true → outside b u p (suc r) (next b at) ≡ none → outside b u (suc p) r at ≡ none
+inside-more : (b : List ℕ) (u : Question) (p r at : ℕ)
+    → allCharacters (u .n) (textAt b at) ≡ true
+    → outside b u p (suc r) (next b at) ≡ none
+    → outside b u (suc p) r at ≡ none
 unfolding outside
 inside-more b u p r at e h = ap (λ x. elim x as (λ _. Option ℕ) [ true ↦ outside b u p (suc r) (next b at) | false ↦ some r ]) e ∙ h
 
-module _ (b : List ℕ) (u : Question) (zs : List ℤ) (characters : u .n ≤ alphabetLimit) (count : length zs ≡ u .q) (few : length zs ≤ variableLimit) (values : allWithin valueLimit zs ≡ true) where
+module _ (b : List ℕ) (u : Question) (zs : List ℤ) (characters : u .n ≤ alphabetLimit) (count : length zs ≡ u .q) (few : length zs ≤ variableLimit)
+    (values : allWithin valueLimit zs ≡ true) where
   -- the records of the integers and of the end
   abbrev tail : List ℕ
   tail = recordBytes 10 (integerBytes zs) ++ recordBytes 8 []
@@ -136,20 +151,29 @@ module _ (b : List ℕ) (u : Question) (zs : List ℤ) (characters : u .n ≤ al
       let read : integersAt b (length zs) at ≡ zs = integers-back b (at + 6) zs (recordBytes 8 []) values (k .body-stands) in
       record {
         form =
-            ap₂ _&&_ (ap₂ _&&_ (k .is-whole) (ap₂ _&&_ (eq-eqb (kind b at) 10 (k .is-kind)) (eq-eqb (size b at) (4 * length zs) (k .is-size ∙ length-integers zs))))
+            ap₂ _&&_
+            (ap₂ _&&_ (k .is-whole) (ap₂ _&&_ (eq-eqb (kind b at) 10 (k .is-kind)) (eq-eqb (size b at) (4 * length zs) (k .is-size ∙ length-integers zs))))
             (ap₂ _&&_ (ap₂ _&&_ (l .is-whole) (ap₂ _&&_ (eq-eqb (kind b (next b at)) 8 (l .is-kind)) (eq-eqb (size b (next b at)) 0 (l .is-size))))
             (eq-eqb (next b (next b at)) (length b) (omega (arith, l .ends))));
-        inside = ap (λ x. elim x as (λ _. Option ℕ) [ true ↦ none | false ↦ some r ]) (ap (λ q. allWithin valueLimit (integersAt b q at)) (sym count) ∙ ap (allWithin valueLimit) read ∙ values);
+        inside =
+            ap (λ x. elim x as (λ _. Option ℕ) [ true ↦ none | false ↦ some r ])
+            (ap (λ q. allWithin valueLimit (integersAt b q at)) (sym count) ∙ ap (allWithin valueLimit) read ∙ values);
         strings = refl;
         integers = read;
       }
 
-  strings-back : (ss : List (List ℕ)) (r at : ℕ) → All (λ s. length s ≤ lengthLimit) ss → All (Over (u .n)) ss → drop at b ≡ stringRecords ss ++ tail → Back b u ss zs r at
+  strings-back : (ss : List (List ℕ)) (r at : ℕ)
+      → All (λ s. length s ≤ lengthLimit) ss
+      → All (Over (u .n)) ss
+      → drop at b ≡ stringRecords ss ++ tail
+      → Back b u ss zs r at
   unfolding answerForm outside texts skip stringRecords flatMap
   strings-back [] r at h o e = tail-back r at e
   strings-back (s ∷ ss) r at (h, hs) (o, os) e =
       let body : List ℕ = characterBytes s in
-      let k = record-back b at 9 body (stringRecords ss ++ tail) (omega arith) (omega (arith, length-characters s)) (e ∙ append-assoc (recordBytes 9 body) (stringRecords ss) tail) in
+      let k =
+      record-back b at 9 body (stringRecords ss ++ tail) (omega arith) (omega (arith, length-characters s))
+      (e ∙ append-assoc (recordBytes 9 body) (stringRecords ss) tail) in
       let fours : size b at ≡ 4 * length s = k .is-size ∙ length-characters s in
       let many : size b at / 4 ≡ length s = omega arith in
       let read : textAt b at ≡ s = ap (u32s b (at + 6)) many ∙ characters-back b (at + 6) (u .n) s (stringRecords ss ++ tail) characters o (k .body-stands) in
@@ -166,15 +190,29 @@ module _ (b : List ℕ) (u : Question) (zs : List ℤ) (characters : u .n ≤ al
 
 -- ---- judging
 
-judged : (u : Question) (v : List ℕ) (a : Assignment) → answerForm v (u .p) (u .q) 0 ≡ true → outside v u (u .p) 0 0 ≡ none → assignmentOf v u ≡ a → judgeAnswer u v ≡ Judged u a
+judged : (u : Question) (v : List ℕ) (a : Assignment)
+    → answerForm v (u .p) (u .q) 0 ≡ true
+    → outside v u (u .p) 0 0 ≡ none
+    → assignmentOf v u ≡ a
+    → judgeAnswer u v ≡ Judged u a
 judged u v a form inside read =
-    ap₂ (λ x o. elim x as (λ _. Judging) [ false ↦ Refused 15 0 | true ↦ elim o as (λ _. Judging) [ some r ↦ Refused 16 r | none ↦ Judged u (assignmentOf v u) ] ]) form inside ∙ ap (Judged u) read
+    ap₂ (λ x o.
+    elim x as (λ _. Judging) [ false ↦ Refused 15 0 | true ↦ elim o as (λ _. Judging) [ some r ↦ Refused 16 r | none ↦ Judged u (assignmentOf v u) ] ])
+    form inside
+    ∙ ap (Judged u) read
 
 -- from the bytes of an assignment of the question judging reads that assignment
-answer-back : (u : Question) (a : Assignment) → QuestionInRange u → For u a → All (λ s. length s ≤ lengthLimit) (a .strs) → allWithin valueLimit (a .ints) ≡ true → judgeAnswer u (encode a) ≡ Judged u a
+answer-back : (u : Question) (a : Assignment)
+    → QuestionInRange u
+    → For u a
+    → All (λ s. length s ≤ lengthLimit) (a .strs)
+    → allWithin valueLimit (a .ints) ≡ true
+    → judgeAnswer u (encode a) ≡ Judged u a
 unfolding encode
 answer-back u a r f short values =
-    let k = strings-back (encode a) u (a .ints) (r .characters) (f .integers) (omega (arith, f .integers, r .head .integers)) values (a .strs) 0 0 short (getD-all (Over (u .n)) (a .strs) [] (λ x h. f .over x)) refl in
+    let k =
+    strings-back (encode a) u (a .ints) (r .characters) (f .integers) (omega (arith, f .integers, r .head .integers)) values (a .strs) 0 0 short
+    (getD-all (Over (u .n)) (a .strs) [] (λ x h. f .over x)) refl in
     judged u (encode a) a
     (ap₂ (λ p q. answerForm (encode a) p q 0) (sym (f .strings)) (sym (f .integers)) ∙ k .form)
     (ap (λ p. outside (encode a) u p 0 0) (sym (f .strings)) ∙ k .inside)
@@ -189,11 +227,15 @@ answers-judged b u a e f short values = read (question b) refl e
     read (Stopped c r) q e = absurd (none-some e)
     read (Ended s at r) q e = headed (leb 1 (s .last)) refl e
       where
-        headed : (x : Bool) → leb 1 (s .last) ≡ x → _≡_ {A = Option Question} (cond x (some (s .question)) none) (some u) → judgeBehind (question b) (encode a) ≡ Judged u a
+        headed : (x : Bool)
+            → leb 1 (s .last) ≡ x
+            → _≡_ {A = Option Question} (cond x (some (s .question)) none) (some u)
+            → judgeBehind (question b) (encode a) ≡ Judged u a
         headed false h e = absurd (none-some e)
         headed true h e =
             let same : s .question ≡ u = some-injective e in
             ap (λ g. judgeBehind g (encode a)) q
             ∙ ap (λ x. elim x as (λ _. Judging) [ false ↦ Refused 4 r | true ↦ judgeAnswer (s .question) (encode a) ]) h
             ∙ ap (λ v. judgeAnswer v (encode a)) same
-            ∙ answer-back u a (subst QuestionInRange same (asked-in-range b (question→form b q) (leb-true 1 (s .last) h))) f short (→within valueLimit (a .ints) values)
+            ∙ answer-back u a (subst QuestionInRange same (asked-in-range b (question→form b q) (leb-true 1 (s .last) h))) f short
+            (→within valueLimit (a .ints) values)

@@ -14,7 +14,9 @@ use Rattle.calculus.specs.Facts.{arithmetic}
 use Rattle.calculus.specs.Strings.{given}
 use Rattle.format.specs.Fields.{u16, u32}
 use Rattle.format.specs.Records.{size, kind, next, whole, need}
-use Rattle.format.specs.Question.{stringKind, arithmeticKind, headRank, literalRank, Progress, Manner, headRange, headFault, textOf, literalFault, stringRange, stringFact, stringFault, formRange, formOf, relationOf, arithmeticFault, constraintFault, constraintOf, rankInPlace, inPlace, questionBodyFault, formFault, findsRoom, orCrowded, questionFault}
+use Rattle.format.specs.Question.{stringKind, arithmeticKind, headRank, literalRank, Progress, Manner, headRange, headFault, textOf, literalFault}
+use Rattle.format.specs.Question.{stringRange, stringFact, stringFault, formRange, formOf, relationOf, arithmeticFault, constraintFault}
+use Rattle.format.specs.Question.{constraintOf, rankInPlace, inPlace, questionBodyFault, formFault, findsRoom, orCrowded, questionFault}
 use Rattle.format.proofs.Faults.{none-applies}
 
 -- ---- a whole record, of a kind k and a size n
@@ -53,7 +55,9 @@ cut-short m b s at h = rw (lt-leb (next b at) (length b) h)
 -- ---- no number applies
 
 -- the form has no fault, and the record finds room
-pub uncrowded : (m : Manner) (b : List ℕ) (s : Progress) (at : ℕ) → questionFault m b s at ≡ 0 → (formFault (m .greatest) b s at ≡ 0) × (findsRoom m s (kind b at) ≡ true)
+pub uncrowded : (m : Manner) (b : List ℕ) (s : Progress) (at : ℕ)
+    → questionFault m b s at ≡ 0
+    → (formFault (m .greatest) b s at ≡ 0) × (findsRoom m s (kind b at) ≡ true)
 unfolding questionFault
 uncrowded m b s at e = go (formFault (m .greatest) b s at) e
   where
@@ -61,7 +65,10 @@ uncrowded m b s at e = go (formFault (m .greatest) b s at) e
     go zero e = (refl, none-applies 9 (findsRoom m s (kind b at)) 0 e .0)
     go (suc c) e = absurd (omega arith)
 
-pub →uncrowded : (m : Manner) (b : List ℕ) (s : Progress) (at : ℕ) → formFault (m .greatest) b s at ≡ 0 → findsRoom m s (kind b at) ≡ true → questionFault m b s at ≡ 0
+pub →uncrowded : (m : Manner) (b : List ℕ) (s : Progress) (at : ℕ)
+    → formFault (m .greatest) b s at ≡ 0
+    → findsRoom m s (kind b at) ≡ true
+    → questionFault m b s at ≡ 0
 unfolding questionFault
 →uncrowded m b s at e r = ap (λ c. orCrowded c (findsRoom m s (kind b at))) e ∙ ap (λ x. need 10 x 0) r
 
@@ -118,7 +125,9 @@ pub record Head (b : List ℕ) (at m : ℕ) : Type 0 where
 pub head-formed : (b : List ℕ) (at m : ℕ) → headFault b at m ≡ 0 → Head b at m
 head-formed b at m e =
     let a5 = none-applies 4 (eqb m 8) (need 6 (headRange b at) 0) e in
-    let r1 = and-both (leb 1 (u32 b at)) (leb (u32 b at) alphabetLimit && (leb (u16 b (at + 4)) variableLimit && leb (u16 b (at + 6)) variableLimit)) (none-applies _ _ _ (a5 .1) .0) in
+    let r1 =
+    and-both (leb 1 (u32 b at)) (leb (u32 b at) alphabetLimit && (leb (u16 b (at + 4)) variableLimit && leb (u16 b (at + 6)) variableLimit))
+    (none-applies _ _ _ (a5 .1) .0) in
     let r2 = and-both _ _ (r1 .1) in
     let r3 = and-both _ _ (r2 .1) in
     record {
@@ -137,7 +146,9 @@ pub record Literal (b : List ℕ) (n at m : ℕ) : Type 0 where
 
 pub literal-formed : (b : List ℕ) (n : ℕ) (ls : List (List ℕ)) (at m : ℕ) → literalFault b n ls at m ≡ 0 → Literal b n at m
 literal-formed b n ls at m e =
-    let a5 = none-applies 4 (leb 4 m && (leb m (4 * lengthLimit) && eqb (m % 4) 0)) (need 6 (allCharacters n (textOf b at m)) (need 7 (not (given (textOf b at m) ls)) 0)) e in
+    let a5 =
+    none-applies 4 (leb 4 m && (leb m (4 * lengthLimit) && eqb (m % 4) 0))
+    (need 6 (allCharacters n (textOf b at m)) (need 7 (not (given (textOf b at m) ls)) 0)) e in
     let l1 = and-both (leb 4 m) (leb m (4 * lengthLimit) && eqb (m % 4) 0) (a5 .0) in
     let l2 = and-both _ _ (l1 .1) in
     record {
@@ -196,7 +207,9 @@ arithmetic-constraint-formed b c at m e =
 
 -- a constraint of kind k and what it says
 pub data Constraint (b : List ℕ) (p l c k at m : ℕ) : Type 0 where
-  on-strings : k ≡ stringKind → StringConstraint p l m (u16 b at) (u16 b (at + 2)) (u16 b (at + 4)) → constraintOf b k at m ≡ stringFact (u16 b at) (u16 b (at + 2)) (u16 b (at + 4))
+  on-strings : k ≡ stringKind
+      → StringConstraint p l m (u16 b at) (u16 b (at + 2)) (u16 b (at + 4))
+      → constraintOf b k at m ≡ stringFact (u16 b at) (u16 b (at + 2)) (u16 b (at + 4))
       → Constraint b p l c k at m
   on-columns : k ≡ arithmeticKind → ArithmeticConstraint b c at m → constraintOf b k at m ≡ arithmetic (relationOf (u16 b at)) (formOf b (at + 2) (m / 6 - 1))
       → Constraint b p l c k at m
@@ -205,7 +218,11 @@ pub constraint-formed : (b : List ℕ) (p l c k at m : ℕ) → constraintFault 
 unfolding constraintFault
 constraint-formed b p l c k at m e = go (eqb k stringKind) (eqb k arithmeticKind) refl refl e
   where
-    go : (x y : Bool) → eqb k stringKind ≡ x → eqb k arithmeticKind ≡ y → cond x (stringFault b p l at m) (cond y (arithmeticFault b c at m) 4) ≡ 0 → Constraint b p l c k at m
+    go : (x y : Bool)
+        → eqb k stringKind ≡ x
+        → eqb k arithmeticKind ≡ y
+        → cond x (stringFault b p l at m) (cond y (arithmeticFault b c at m) 4) ≡ 0
+        → Constraint b p l c k at m
     go true y ex ey f = on-strings (eqb-true _ _ ex) (string-constraint-formed b p l at m f) (rw ex)
     go false true ex ey f = on-columns (eqb-true _ _ ey) (arithmetic-constraint-formed b c at m f) (rw ex)
     go false false ex ey f = absurd (omega arith)

@@ -33,7 +33,11 @@ module _ {B C : Type 0} (w : Method B C) (b : List ℕ) (u : Question) where
   pub steps-done : (s : State B C) (r at : ℕ) → at + 6 ≤ length b → fault w b u s at ≡ 0 → eqb (kind b at) 8 ≡ true → stepsOn w b u s r at ≡ Done u s
   steps-done s r at h f e = steps-turn s r at h ∙ ap₂ (turn s r at) f e
 
-  pub steps-more : (s : State B C) (r at : ℕ) → at + 6 ≤ length b → fault w b u s at ≡ 0 → eqb (kind b at) 8 ≡ false → stepsOn w b u s r at ≡ stepsOn w b u (advanced w b u s at) (suc r) (next b at)
+  pub steps-more : (s : State B C) (r at : ℕ)
+      → at + 6 ≤ length b
+      → fault w b u s at ≡ 0
+      → eqb (kind b at) 8 ≡ false
+      → stepsOn w b u s r at ≡ stepsOn w b u (advanced w b u s at) (suc r) (next b at)
   steps-more s r at h f e = steps-turn s r at h ∙ ap₂ (turn s r at) f e
 
 module _ {B C : Type 0} (method : Question → Method B C) (b : List ℕ) (s : Progress) where

@@ -1,4 +1,5 @@
--- TH-5 and TH-6: where checking gives strings, they meet every constraint and differ wherever the leaf's classes differ; and in proper form, within the limits and every step proper, they are given exactly when demand 3 accepts the leaf.
+-- TH-5 and TH-6: where checking gives strings, they meet every constraint and differ wherever the leaf's classes differ; and in proper form, within the limits
+-- and every step proper, they are given exactly when demand 3 accepts the leaf.
 use Prim.Native.Nat.{ℕ, _+_, _≤_}
 use native.Mathlib.Omega.{arith}
 use mathlib.Core.Path.{_≡_, sym, _∙_, ap, ap₂, subst}
@@ -35,7 +36,8 @@ use Rattle.format.proofs.Limits.{within→}
 
 -- ---- the model and the leaf are determined by the bytes
 
-model-is : {b : List ℕ} {u : Question} {m : List ℤ} (h : Holding b u false (some m)) → m ≡ modelAt b u (getD (behindClaim (h .claimed)) (length (stepsWithChild b)) 0 + 6)
+model-is : {b : List ℕ} {u : Question} {m : List ℤ} (h : Holding b u false (some m))
+    → m ≡ modelAt b u (getD (behindClaim (h .claimed)) (length (stepsWithChild b)) 0 + 6)
 model-is {b} {u} h = formed-model b u (childFits u false) (behindClaim (h .claimed)) (stepsWithChild b) (h .formed)
 
 -- a value for each column
@@ -80,7 +82,11 @@ accepted→given rules work answer b out e =
     let (u, s, r, few, a) = verdict→ rules work answer b (Strings out) (λ c r z. let z : _≡_ {A = ℕ} 0 1 = cc in omega arith) e in
     (u, by-claim u s r few a)
   where
-    by-claim : (u : Question) (s : State Branch (List Fact)) → ReadAs (checkerBy rules) b u s → length (u .constraints) ≤ factLimit → accepted u s ≡ Strings out → Given rules b u out
+    by-claim : (u : Question) (s : State Branch (List Fact))
+        → ReadAs (checkerBy rules) b u s
+        → length (u .constraints) ≤ factLimit
+        → accepted u s ≡ Strings out
+        → Given rules b u out
     by-claim u s (true, o, h, k) few a =
         let (_, ends) = proved→walked rules u (working (u .constraints) []) (stepsWithChild b) o s k in
         absurd (let z : _≡_ {A = ℕ} 0 1 = cc in omega arith)
@@ -114,12 +120,19 @@ strings-hold work answer t out e =
         assignment = given;
         for-question = a .for-question;
         bytes = k .bytes;
-        read-back = ap (judging t) (k .bytes) ∙ answers-judged t u given (claimed-asked (form→claimed (k .few) (k .held .claimed))) (a .for-question) short (within→ valueLimit (given .ints) (integers-within (k .held)));
-        room = subst (λ o. length o ≤ answerBytes) (sym (k .bytes)) (encode-short given (omega (arith, a .for-question .strings, q .head .strings)) short (omega (arith, a .for-question .integers, q .head .integers)));
+        read-back =
+            ap (judging t) (k .bytes)
+            ∙ answers-judged t u given (claimed-asked (form→claimed (k .few) (k .held .claimed))) (a .for-question) short
+            (within→ valueLimit (given .ints) (integers-within (k .held)));
+        room =
+            subst (λ o. length o ≤ answerBytes) (sym (k .bytes)) (encode-short given (omega (arith, a .for-question .strings, q .head .strings)) short
+            (omega (arith, a .for-question .integers, q .head .integers)));
         meets-all = leaf-met u given (stepsWithChild t) (u .constraints) (k .leaf) path (a .met);
         leaf = k .leaf;
         path = path;
-        only-leaf = λ l p. one-leaf children u (u .constraints) l (k .leaf) (stepsWithChild t) (path→followed u (q .head) (stepsWithChild t) (u .constraints) l (q .constraints) (steps-in-range (k .held)) p) (k .followed);
+        only-leaf =
+            λ l p. one-leaf children u (u .constraints) l (k .leaf) (stepsWithChild t)
+            (path→followed u (q .head) (stepsWithChild t) (u .constraints) l (q .constraints) (steps-in-range (k .held)) p) (k .followed);
         differ = a .differ;
       },
     )
@@ -141,14 +154,25 @@ leaves-exact work answer t u m leaf big proper limits path =
     let r = leaf-in-range u (q .head) (stepsWithChild t) (u .constraints) leaf (q .constraints) (steps-in-range h) path in (
       λ (out, e). unfaulted→accepted u q leaf r m (no-fault h followed out e),
       λ a.
-          let taken = followed→taken u (q .head) (u .constraints) leaf m (stepsWithChild t) (q .constraints) (steps-in-range h) (limits .steps) followed (accepted→unfaulted u q leaf r m a) in
+          let taken =
+          followed→taken u (q .head) (u .constraints) leaf m (stepsWithChild t) (q .constraints) (steps-in-range h) (limits .steps) followed
+          (accepted→unfaulted u q leaf r m a) in
           (encode (answerOf u leaf m), →verdict children work answer t u false (some m) (modelled leaf m) big (limits .question) h taken),
     )
   where
-    determined : (out : List ℕ) → Holding t u false (some m) → Followed u (u .constraints) (stepsWithChild t) leaf → Given children t u out → leafFault u leaf m ≡ 0
-    determined out h f k = ap₂ (leafFault u) (one-leaf children u (u .constraints) leaf (k .leaf) (stepsWithChild t) f (k .followed)) (one-model h (k .held)) ∙ k .no-fault
+    determined : (out : List ℕ)
+        → Holding t u false (some m)
+        → Followed u (u .constraints) (stepsWithChild t) leaf
+        → Given children t u out
+        → leafFault u leaf m ≡ 0
+    determined out h f k =
+        ap₂ (leafFault u) (one-leaf children u (u .constraints) leaf (k .leaf) (stepsWithChild t) f (k .followed)) (one-model h (k .held)) ∙ k .no-fault
 
-    no-fault : Holding t u false (some m) → Followed u (u .constraints) (stepsWithChild t) leaf → (out : List ℕ) → verdict work answer t ≡ Strings out → leafFault u leaf m ≡ 0
+    no-fault : Holding t u false (some m)
+        → Followed u (u .constraints) (stepsWithChild t) leaf
+        → (out : List ℕ)
+        → verdict work answer t ≡ Strings out
+        → leafFault u leaf m ≡ 0
     no-fault h f out e =
         let (v, k) = accepted→given children work answer t out e in
         let same : v ≡ u = cc (claimed-asked (k .held .claimed), claimed-asked (h .claimed)) in

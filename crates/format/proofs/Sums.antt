@@ -68,7 +68,8 @@ dot-fill (t ∷ ts) row vs c low e h f =
     dot-fill ts (set row (t .0) (t .1)) vs c (t .0 + 1) (r .rest) (omega (arith, length-set row (t .0) (t .1)))
     (λ i g. getD-set-other row (t .0) i (t .1) (pos 0) (λ d. omega arith) ∙ f i (omega (arith, r .low-enough)))
     ∙ ap (λ (y : ℤ). y +ℤ pairSum vs ts) (dot-set row vs (t .0) (t .1) (omega (arith, r .column)) (f (t .0) (r .low-enough)))
-    ∙ ring (v (t .1 *ℤ getD vs (t .0) (pos 0)) ⊕ v (dot row vs) ⊕ v (pairSum vs ts)) (v (dot row vs) ⊕ (v (t .1 *ℤ getD vs (t .0) (pos 0)) ⊕ v (pairSum vs ts))) (omega arith)
+    ∙ ring (v (t .1 *ℤ getD vs (t .0) (pos 0)) ⊕ v (dot row vs) ⊕ v (pairSum vs ts))
+    (v (dot row vs) ⊕ (v (t .1 *ℤ getD vs (t .0) (pos 0)) ⊕ v (pairSum vs ts))) (omega arith)
 
 zeros-at : (k i : ℕ) → getD (zeros k) i (pos 0) ≡ pos 0
 zeros-at zero i = refl
@@ -93,7 +94,9 @@ module _ (b : List ℕ) (at : ℕ) where
   sum-done vs zero h = refl
   sum-done vs (suc k) h = absurd (omega arith)
 
-  pub sum-more : (vs : List ℤ) (k : ℕ) → 0 < k → pairSum vs (pairsAt b at k) ≡ (i32 b (at + 2) *ℤ getD vs (u16 b at) (pos 0)) +ℤ pairSum vs (pairsAt b (at + 6) (k - 1))
+  pub sum-more : (vs : List ℤ) (k : ℕ)
+      → 0 < k
+      → pairSum vs (pairsAt b at k) ≡ (i32 b (at + 2) *ℤ getD vs (u16 b at) (pos 0)) +ℤ pairSum vs (pairsAt b (at + 6) (k - 1))
   unfolding pairSum pairsAt
   sum-more vs zero h = absurd (omega arith)
   sum-more vs (suc k) h = rw (down k)

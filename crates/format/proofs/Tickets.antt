@@ -47,18 +47,22 @@ module _ {B C : Type 0} (method : Question → Method B C) (b : List ℕ) (u : Q
 
   read-as : {s : State B C} → ReadBehind method b (questionForm b) u s → ReadAs method b u s
   read-as {s} (c, x, e, r) =
-      let same : stepsWithChild b ≡ r .steps = claimed-steps c ∙ formed-steps b u (childOk u (started (method u) x)) (behindClaim c) (r .steps) (r .model) (r .formed) in (
+      let same : stepsWithChild b ≡ r .steps =
+      claimed-steps c ∙ formed-steps b u (childOk u (started (method u) x)) (behindClaim c) (r .steps) (r .model) (r .formed) in (
         x,
         r .model,
         record {
           claimed = c;
           claim-is = e;
-          formed = subst (λ ts. Formed b u (childFits u x) (behindClaim c) ts (r .model)) (sym same) (subst (λ ok. Formed b u ok (behindClaim c) (r .steps) (r .model)) (same-test x) (r .formed));
+          formed =
+              subst (λ ts. Formed b u (childFits u x) (behindClaim c) ts (r .model)) (sym same)
+              (subst (λ ok. Formed b u ok (behindClaim c) (r .steps) (r .model)) (same-test x) (r .formed));
         },
         subst (λ ts. Taken (method u) (started (method u) x) ts (r .model) s) (sym same) (r .taken),
       )
 
-  formed-for : (x : Bool) (o : Option (List ℤ)) (h : Holding b u x o) → Formed b u (childOk u (started (method u) x)) (behindClaim (h .claimed)) (stepsWithChild b) o
+  formed-for : (x : Bool) (o : Option (List ℤ)) (h : Holding b u x o)
+      → Formed b u (childOk u (started (method u) x)) (behindClaim (h .claimed)) (stepsWithChild b) o
   formed-for x o h = subst (λ ok. Formed b u ok (behindClaim (h .claimed)) (stepsWithChild b) o) (sym (same-test x)) (h .formed)
 
 -- ---- proper form
@@ -67,7 +71,10 @@ pub proper→ : (b : List ℕ) (u : Question) {s : State ℕ ℕ} → ticketForm
 unfolding ticketForm
 proper→ b u e = read-as byShape b u (ticket→ byShape b (questionForm b) e)
 
-pub →proper : (b : List ℕ) (u : Question) (x : Bool) (o : Option (List ℤ)) {s : State ℕ ℕ} → Holding b u x o → Taken (byShape u) (started (byShape u) x) (stepsWithChild b) o s → ticketForm b ≡ Done u s
+pub →proper : (b : List ℕ) (u : Question) (x : Bool) (o : Option (List ℤ)) {s : State ℕ ℕ}
+    → Holding b u x o
+    → Taken (byShape u) (started (byShape u) x) (stepsWithChild b) o s
+    → ticketForm b ≡ Done u s
 unfolding ticketForm
 →proper b u x o h k = →ticket byShape b (h .claimed) x (stepsWithChild b) o (h .claim-is) (formed-for byShape b u x o h) k
 
@@ -90,14 +97,20 @@ module _ (rules : RuleSet) where
     where
       read : (t : Ticket Branch (List Fact)) → readBehind (checkerBy rules) b (question b) ≡ t → outcomeOf t ≡ o → AcceptedAs b o
       read (Faulty c r) p e = absurd (never c r e)
-      read (Done u s) p e = let (c, x, k, r) = ticket→ (checkerBy rules) b (question b) p in (u, s, read-as (checkerBy rules) b u (claimed→form c, x, k, r), question-few b (c .ended), e)
+      read (Done u s) p e =
+          let (c, x, k, r) = ticket→ (checkerBy rules) b (question b) p in
+          (u, s, read-as (checkerBy rules) b u (claimed→form c, x, k, r), question-few b (c .ended), e)
 
       sized : (x : Bool) → bySize b x ≡ o → AcceptedAs b o
       sized false e = absurd (never 1 0 e)
       sized true e = read (readBehind (checkerBy rules) b (question b)) refl e
 
-  pub →verdict : (work answer : ℕ) (b : List ℕ) (u : Question) (x : Bool) (o : Option (List ℤ)) (s : State Branch (List Fact)) → largeEnough work answer ≡ true → length (u .constraints) ≤ factLimit
+  pub →verdict : (work answer : ℕ) (b : List ℕ) (u : Question) (x : Bool) (o : Option (List ℤ)) (s : State Branch (List Fact))
+      → largeEnough work answer ≡ true
+      → length (u .constraints) ≤ factLimit
       → Holding b u x o → Taken (checkerBy rules u) (started (checkerBy rules u) x) (stepsWithChild b) o s → verdictBy rules work answer b ≡ accepted u s
   unfolding verdictBy
   →verdict work answer b u x o s big few h k =
-      ap (bySize b) big ∙ ap outcomeOf (→ticket (checkerBy rules) b (form→claimed few (h .claimed)) x (stepsWithChild b) o (h .claim-is) (formed-for (checkerBy rules) b u x o h) k)
+      ap (bySize b) big
+      ∙ ap outcomeOf
+      (→ticket (checkerBy rules) b (form→claimed few (h .claimed)) x (stepsWithChild b) o (h .claim-is) (formed-for (checkerBy rules) b u x o h) k)

@@ -29,7 +29,11 @@ module _ (test : List ℕ → Progress → ℕ → ℕ) (b : List ℕ) where
   pub read-ended : (s : Progress) (r at : ℕ) → at + 6 ≤ length b → ending (kind b at) ≡ true → readOn test b s r at ≡ Ended s at r
   read-ended s r at h e = read-turn s r at h ∙ ap (λ x. turn s r at x (test b s at)) e
 
-  pub read-stopped : (s : Progress) (r at c : ℕ) → at + 6 ≤ length b → ending (kind b at) ≡ false → test b s at ≡ suc c → readOn test b s r at ≡ Stopped (suc c) r
+  pub read-stopped : (s : Progress) (r at c : ℕ)
+      → at + 6 ≤ length b
+      → ending (kind b at) ≡ false
+      → test b s at ≡ suc c
+      → readOn test b s r at ≡ Stopped (suc c) r
   read-stopped s r at c h e f = read-turn s r at h ∙ ap (λ x. turn s r at x (test b s at)) e ∙ ap (turn s r at false) f
 
   pub read-more : (s : Progress) (r at : ℕ) → at + 6 ≤ length b → ending (kind b at) ≡ false → test b s at ≡ 0

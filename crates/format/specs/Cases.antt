@@ -76,40 +76,51 @@ oneInteger = blank 1 0 1
 abbrev pub starred : List Case
 starred =
     -- example 1: closes in 11 steps, C-Inj first
-    checking (headRecord 128 2 0 ∷ arithmeticRecord 0 (negsuc 0) ((0, pos 1) ∷ (1, negsuc 0) ∷ []) ∷ arithmeticRecord 1 (pos 0) ((2, pos 1) ∷ (3, negsuc 0) ∷ [])
-    ∷ arithmeticRecord 0 (pos 0) ((2, pos 1) ∷ []) ∷ claimRecord 1 ∷ stepRecord (11 ∷ 0 ∷ 0 ∷ 1 ∷ []) ∷ sumRecord 0 1 ((2, pos 1) ∷ (3, negsuc 0) ∷ []) ∷ stepRecord (4 ∷ 0 ∷ 4 ∷ [])
+    checking
+    (headRecord 128 2 0 ∷ arithmeticRecord 0 (negsuc 0) ((0, pos 1) ∷ (1, negsuc 0) ∷ []) ∷ arithmeticRecord 1 (pos 0) ((2, pos 1) ∷ (3, negsuc 0) ∷ [])
+    ∷ arithmeticRecord 0 (pos 0) ((2, pos 1) ∷ []) ∷ claimRecord 1 ∷ stepRecord (11 ∷ 0 ∷ 0 ∷ 1 ∷ []) ∷ sumRecord 0 1 ((2, pos 1) ∷ (3, negsuc 0) ∷ [])
+    ∷ stepRecord (4 ∷ 0 ∷ 4 ∷ [])
     ∷ stepRecord (3 ∷ 0 ∷ 3 ∷ []) ∷ sumRecord 0 1 ((4, pos 1) ∷ (1, negsuc 0) ∷ []) ∷ stepRecord (4 ∷ 0 ∷ 5 ∷ []) ∷ sumRecord 0 1 ((4, pos 1) ∷ (1, pos 1) ∷ [])
-    ∷ stepRecord (4 ∷ 0 ∷ 5 ∷ []) ∷ stepRecord (6 ∷ 0 ∷ 0 ∷ 0 ∷ 1 ∷ []) ∷ sumRecord 0 1 ((0, pos 1) ∷ (4, negsuc 0) ∷ []) ∷ stepRecord (4 ∷ 0 ∷ 5 ∷ []) ∷ endRecord ∷ [])
+    ∷ stepRecord (4 ∷ 0 ∷ 5 ∷ []) ∷ stepRecord (6 ∷ 0 ∷ 0 ∷ 0 ∷ 1 ∷ []) ∷ sumRecord 0 1 ((0, pos 1) ∷ (4, negsuc 0) ∷ []) ∷ stepRecord (4 ∷ 0 ∷ 5 ∷ [])
+    ∷ endRecord ∷ [])
     NoSolution
     -- example 2 with ≉, y = 97, z = 106, n = 128: code 98 accepted
-    ∷ checking (headRecord 128 3 0 ∷ literalRecord (97 ∷ []) ∷ literalRecord (106 ∷ []) ∷ stringRecord 1 0 1 ∷ stringRecord 1 0 2 ∷ stringRecord 2 1 1 ∷ stringRecord 2 2 2 ∷ arithmeticRecord 0 (negsuc 96) ((3, pos 1) ∷ [])
+    ∷ checking (headRecord 128 3 0 ∷ literalRecord (97 ∷ []) ∷ literalRecord (106 ∷ []) ∷ stringRecord 1 0 1 ∷ stringRecord 1 0 2 ∷ stringRecord 2 1 1
+    ∷ stringRecord 2 2 2 ∷ arithmeticRecord 0 (negsuc 96) ((3, pos 1) ∷ [])
     ∷ arithmeticRecord 0 (pos 106) ((3, negsuc 0) ∷ []) ∷ claimRecord 2 ∷ modelRecord (pos 1 ∷ pos 1 ∷ pos 1 ∷ pos 98 ∷ pos 97 ∷ pos 106 ∷ []) ∷ endRecord ∷ [])
     (stringsGiven ((98 ∷ []) ∷ (97 ∷ []) ∷ (106 ∷ []) ∷ []) [])
     -- example 2 with ≉: code 97 gives 13
-    ∷ checking (headRecord 128 3 0 ∷ literalRecord (97 ∷ []) ∷ literalRecord (106 ∷ []) ∷ stringRecord 1 0 1 ∷ stringRecord 1 0 2 ∷ stringRecord 2 1 1 ∷ stringRecord 2 2 2 ∷ arithmeticRecord 0 (negsuc 96) ((3, pos 1) ∷ [])
+    ∷ checking (headRecord 128 3 0 ∷ literalRecord (97 ∷ []) ∷ literalRecord (106 ∷ []) ∷ stringRecord 1 0 1 ∷ stringRecord 1 0 2 ∷ stringRecord 2 1 1
+    ∷ stringRecord 2 2 2 ∷ arithmeticRecord 0 (negsuc 96) ((3, pos 1) ∷ [])
     ∷ arithmeticRecord 0 (pos 106) ((3, negsuc 0) ∷ []) ∷ claimRecord 2 ∷ modelRecord (pos 1 ∷ pos 1 ∷ pos 1 ∷ pos 97 ∷ pos 97 ∷ pos 106 ∷ []) ∷ endRecord ∷ [])
     (Refused 13 10)
     -- example 2 as printed: S-Conf closes it
-    ∷ checking (headRecord 128 3 0 ∷ literalRecord (97 ∷ []) ∷ literalRecord (106 ∷ []) ∷ stringRecord 0 0 1 ∷ stringRecord 0 0 2 ∷ stringRecord 2 1 1 ∷ stringRecord 2 2 2 ∷ arithmeticRecord 0 (negsuc 96) ((3, pos 1) ∷ [])
+    ∷ checking (headRecord 128 3 0 ∷ literalRecord (97 ∷ []) ∷ literalRecord (106 ∷ []) ∷ stringRecord 0 0 1 ∷ stringRecord 0 0 2 ∷ stringRecord 2 1 1
+    ∷ stringRecord 2 2 2 ∷ arithmeticRecord 0 (negsuc 96) ((3, pos 1) ∷ [])
     ∷ arithmeticRecord 0 (pos 106) ((3, negsuc 0) ∷ []) ∷ claimRecord 1 ∷ stepRecord (5 ∷ 0 ∷ []) ∷ endRecord ∷ [])
     NoSolution
     -- example 4: length 1, code 0 accepted
-    ∷ checking (headRecord 128 1 0 ∷ arithmeticRecord 0 (pos 0) ((1, pos 1) ∷ []) ∷ arithmeticRecord 0 (negsuc 0) ((0, pos 1) ∷ (1, negsuc 0) ∷ []) ∷ claimRecord 2 ∷ modelRecord (pos 1 ∷ pos 0 ∷ []) ∷ endRecord
+    ∷ checking (headRecord 128 1 0 ∷ arithmeticRecord 0 (pos 0) ((1, pos 1) ∷ []) ∷ arithmeticRecord 0 (negsuc 0) ((0, pos 1) ∷ (1, negsuc 0) ∷ [])
+    ∷ claimRecord 2 ∷ modelRecord (pos 1 ∷ pos 0 ∷ []) ∷ endRecord
     ∷ [])
     (stringsGiven ((0 ∷ []) ∷ []) [])
     -- example 4: length 2, code 1 gives 13
-    ∷ checking (headRecord 128 1 0 ∷ arithmeticRecord 0 (pos 0) ((1, pos 1) ∷ []) ∷ arithmeticRecord 0 (negsuc 0) ((0, pos 1) ∷ (1, negsuc 0) ∷ []) ∷ claimRecord 2 ∷ modelRecord (pos 2 ∷ pos 1 ∷ []) ∷ endRecord
+    ∷ checking (headRecord 128 1 0 ∷ arithmeticRecord 0 (pos 0) ((1, pos 1) ∷ []) ∷ arithmeticRecord 0 (negsuc 0) ((0, pos 1) ∷ (1, negsuc 0) ∷ [])
+    ∷ claimRecord 2 ∷ modelRecord (pos 2 ∷ pos 1 ∷ []) ∷ endRecord
     ∷ [])
     (Refused 13 4)
     -- example 4: length 1, code 1 gives 12
-    ∷ checking (headRecord 128 1 0 ∷ arithmeticRecord 0 (pos 0) ((1, pos 1) ∷ []) ∷ arithmeticRecord 0 (negsuc 0) ((0, pos 1) ∷ (1, negsuc 0) ∷ []) ∷ claimRecord 2 ∷ modelRecord (pos 1 ∷ pos 1 ∷ []) ∷ endRecord
+    ∷ checking (headRecord 128 1 0 ∷ arithmeticRecord 0 (pos 0) ((1, pos 1) ∷ []) ∷ arithmeticRecord 0 (negsuc 0) ((0, pos 1) ∷ (1, negsuc 0) ∷ [])
+    ∷ claimRecord 2 ∷ modelRecord (pos 1 ∷ pos 1 ∷ []) ∷ endRecord
     ∷ [])
     (Refused 12 4)
     -- n = 2, four unjoined variables of length 2, codes −1: 00, 01, 10, 11
-    ∷ checking (headRecord 2 4 0 ∷ claimRecord 2 ∷ modelRecord (pos 2 ∷ pos 2 ∷ pos 2 ∷ pos 2 ∷ negsuc 0 ∷ negsuc 0 ∷ negsuc 0 ∷ negsuc 0 ∷ []) ∷ endRecord ∷ [])
+    ∷ checking
+    (headRecord 2 4 0 ∷ claimRecord 2 ∷ modelRecord (pos 2 ∷ pos 2 ∷ pos 2 ∷ pos 2 ∷ negsuc 0 ∷ negsuc 0 ∷ negsuc 0 ∷ negsuc 0 ∷ []) ∷ endRecord ∷ [])
     (stringsGiven ((0 ∷ 0 ∷ []) ∷ (0 ∷ 1 ∷ []) ∷ (1 ∷ 0 ∷ []) ∷ (1 ∷ 1 ∷ []) ∷ []) [])
     -- five: 13
-    ∷ checking (headRecord 2 5 0 ∷ claimRecord 2 ∷ modelRecord (pos 2 ∷ pos 2 ∷ pos 2 ∷ pos 2 ∷ pos 2 ∷ negsuc 0 ∷ negsuc 0 ∷ negsuc 0 ∷ negsuc 0 ∷ negsuc 0 ∷ []) ∷ endRecord ∷ [])
+    ∷ checking (headRecord 2 5 0 ∷ claimRecord 2
+    ∷ modelRecord (pos 2 ∷ pos 2 ∷ pos 2 ∷ pos 2 ∷ pos 2 ∷ negsuc 0 ∷ negsuc 0 ∷ negsuc 0 ∷ negsuc 0 ∷ negsuc 0 ∷ []) ∷ endRecord ∷ [])
     (Refused 13 2)
     -- n = 1, two unjoined variables of length 3: 13
     ∷ checking (headRecord 1 2 0 ∷ claimRecord 2 ∷ modelRecord (pos 3 ∷ pos 3 ∷ negsuc 0 ∷ negsuc 0 ∷ []) ∷ endRecord ∷ [])
@@ -121,5 +132,6 @@ starred =
     ∷ checking (headRecord 128 0 0 ∷ claimRecord 1 ∷ endRecord ∷ [])
     (Refused 11 2)
     -- 2a−1 ≥ 0 over divisor 2 is a−1 ≥ 0
-    ∷ adding oneInteger (arithmetic ge (minus (scale (pos 2) (column 0)) (number (pos 1))) ∷ []) (Sum 2 ((0, pos 1) ∷ [])) (arithmetic ge (minus (column 0) (number (pos 1))))
+    ∷ adding oneInteger (arithmetic ge (minus (scale (pos 2) (column 0)) (number (pos 1))) ∷ []) (Sum 2 ((0, pos 1) ∷ []))
+    (arithmetic ge (minus (column 0) (number (pos 1))))
     ∷ []

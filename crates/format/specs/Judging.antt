@@ -1,4 +1,5 @@
--- Judging: "takes a question .. and an answer: 2 to 7 and 10 for the question, then 15 .., 16 ... Otherwise it says all met, or the number of a constraint that is not met".
+-- Judging: "takes a question .. and an answer: 2 to 7 and 10 for the question, then 15 .., 16 ... Otherwise it says all met, or the number of a constraint that
+-- is not met".
 use Prim.Native.Nat.{ℕ}
 use mathlib.Core.Path.{_≡_}
 use mathlib.Core.Bool.{Bool, true, false, not}

@@ -9,7 +9,8 @@ use lib.Signed.{mag, _≤ℤ_, _<ℤ_, ≤ℤ-refl, yes-nonNeg, pos-natAbs}
 use mir.Syntax.{Width}
 use mir.Val.{SFits, hbits}
 use Rattle.integers.specs.Division.{floorDiv}
-use Rattle.integers.proofs.Ring.{up, dn, inj, up-le, up-lt, le-up, lt-up, up-neg, dn-neg, Expr, v, _⊕_, _⊖_, _⊗_, ⊝, ev, ups, dns, sound, ring, le-by, lt-by, le-of, lt-of, eq-of}
+use Rattle.integers.proofs.Ring.{up, dn, inj, up-le, up-lt, le-up, lt-up, up-neg, dn-neg, Expr, v, _⊕_}
+use Rattle.integers.proofs.Ring.{_⊖_, _⊗_, ⊝, ev, ups, dns, sound, ring, le-by, lt-by, le-of, lt-of, eq-of}
 
 -- ---- sums and products
 
@@ -173,7 +174,8 @@ floor-high (negsuc a) d h = lt-by (v (negsuc a)) (v (pos d) ⊗ (v (negsuc (a / 
 
 -- d q ≤ z < d (q + 1) for one q only
 pub floor-unique : (z : ℤ) (d : ℕ) (q : ℤ) → 0 < d → (pos d *ℤ q) ≤ℤ z → z <ℤ (pos d *ℤ (q +ℤ pos 1)) → floorDiv z d ≡ q
-floor-unique z d q h low high = ≤ℤ-antisym (lt-suc (*ℤ-pos-lt d (≤ℤ-<ℤ-trans (floor-low z d h) high))) (lt-suc (*ℤ-pos-lt d (≤ℤ-<ℤ-trans low (floor-high z d h))))
+floor-unique z d q h low high =
+    ≤ℤ-antisym (lt-suc (*ℤ-pos-lt d (≤ℤ-<ℤ-trans (floor-low z d h) high))) (lt-suc (*ℤ-pos-lt d (≤ℤ-<ℤ-trans low (floor-high z d h))))
 
 pub floor-multiple : (z : ℤ) (d : ℕ) → 0 < d → floorDiv (pos d *ℤ z) d ≡ z
 floor-multiple z d h = floor-unique (pos d *ℤ z) d z h (≤ℤ-refl (pos d *ℤ z)) (lt-by (v (pos d) ⊗ v z) (v (pos d) ⊗ (v z ⊕ v (pos 1))) (omega arith))

@@ -54,7 +54,8 @@ module _ (b : List ℕ) (at count : ℕ) (values : List ℤ) where
     term = i32 b (i + 2) *ℤ getD values (u16 b i) (pos 0)
 
     term-most : natAbs term ≤ product
-    term-most = abs-*-le (i32 b (i + 2)) (getD values (u16 b i) (pos 0)) (pair-ranged b i (length values) (s .low) left h (s .rises) .coefficient) (f .small (u16 b i))
+    term-most =
+        abs-*-le (i32 b (i + 2)) (getD values (u16 b i) (pos 0)) (pair-ranged b i (length values) (s .low) left h (s .rises) .coefficient) (f .small (u16 b i))
 
     pub column-there : u16 b i < length values
     column-there = pair-ranged b i (length values) (s .low) left h (s .rises) .column

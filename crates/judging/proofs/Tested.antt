@@ -11,7 +11,8 @@ use Rattle.calculus.specs.Facts.{Question, Fact, arithmetic, holds}
 use Rattle.calculus.specs.Meaning.{Assignment, columns}
 use Rattle.format.specs.Fields.{u16}
 use Rattle.format.specs.Records.{size, kind}
-use Rattle.format.specs.Question.{stringKind, arithmeticKind, stringFact, stringFault, formRange, formOf, relationOf, constraintFault, constraintOf, judgingManner}
+use Rattle.format.specs.Question.{stringKind, arithmeticKind, stringFact, stringFault, formRange}
+use Rattle.format.specs.Question.{formOf, relationOf, constraintFault, constraintOf, judgingManner}
 use Rattle.format.specs.Judging.{meets}
 use Rattle.format.proofs.RecordFaults.{StringConstraint, ArithmeticConstraint}
 use Rattle.question.specs.declared.Progress.{Progress}
@@ -27,7 +28,8 @@ columns-are : (b v : List ℕ) (s : Progress) → columns (valuesOf b v s) ≡ c
 unfolding columnsAt asked
 columns-are b v s = refl
 
-module _ (b v : List ℕ) (s : Progress) (places : List ℕ) (values : List ℤ) (r : Judgeable b v s places values) (at : ℕ) (c : ConstraintAt (judgingManner .greatest) b (s .p) (s .q) (s .literals) at) where
+module _ (b v : List ℕ) (s : Progress) (places : List ℕ) (values : List ℤ) (r : Judgeable b v s places values) (at : ℕ)
+    (c : ConstraintAt (judgingManner .greatest) b (s .p) (s .q) (s .literals) at) where
   abbrev u : Question
   u = asked b s
 
@@ -43,7 +45,8 @@ module _ (b v : List ℕ) (s : Progress) (places : List ℕ) (values : List ℤ)
   -- ---- a string constraint
 
   module _ (e : kind b at ≡ stringKind) where
-    strings : StringConstraint (s .p) (s .literals) m (u16 b (at + 6)) (u16 b (at + 6 + 2)) (u16 b (at + 6 + 4)) × (constraint ≡ stringFact (u16 b (at + 6)) (u16 b (at + 6 + 2)) (u16 b (at + 6 + 4)))
+    strings : StringConstraint (s .p) (s .literals) m (u16 b (at + 6)) (u16 b (at + 6 + 2)) (u16 b (at + 6 + 4))
+        × (constraint ≡ stringFact (u16 b (at + 6)) (u16 b (at + 6 + 2)) (u16 b (at + 6 + 4)))
     strings = of-strings b (s .p) (s .literals) (s .q + (s .p + s .p)) (kind b at) (at + 6) m (c .formed) e
 
     pub string-there : at + 6 + 6 ≤ length b
@@ -62,7 +65,8 @@ module _ (b v : List ℕ) (s : Progress) (places : List ℕ) (values : List ℤ)
   length-values = ap length (r .columns) ∙ length-columns v (s .p) (s .q)
 
   module _ (e : kind b at ≡ arithmeticKind) where
-    form : ArithmeticConstraint b (s .q + (s .p + s .p)) (at + 6) m × (constraint ≡ arithmetic (relationOf (u16 b (at + 6))) (formOf b (at + 6 + 2) (m / 6 - 1)))
+    form : ArithmeticConstraint b (s .q + (s .p + s .p)) (at + 6) m
+        × (constraint ≡ arithmetic (relationOf (u16 b (at + 6))) (formOf b (at + 6 + 2) (m / 6 - 1)))
     form = of-columns b (s .p) (s .literals) (s .q + (s .p + s .p)) (kind b at) (at + 6) m (c .formed) e
 
     pub arithmetic-there : (6 ≤ m) × FormIn b (at + 6 + 2) (m / 6 - 1) values

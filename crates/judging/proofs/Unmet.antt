@@ -34,7 +34,10 @@ module _ (u : Question) (a : Assignment) where
     first-no zero h e = absurd (omega arith)
     first-no (suc left) h e = ap (by (constraintsAt b left (next b at)) k) e
 
-    pub first-yes : (left : ℕ) → 0 < left → meets u a here ≡ true → firstUnmet u a (constraintsAt b left at) k ≡ firstUnmet u a (constraintsAt b (left - 1) (next b at)) (suc k)
+    pub first-yes : (left : ℕ)
+        → 0 < left
+        → meets u a here ≡ true
+        → firstUnmet u a (constraintsAt b left at) k ≡ firstUnmet u a (constraintsAt b (left - 1) (next b at)) (suc k)
     unfolding firstUnmet constraintsAt
     first-yes zero h e = absurd (omega arith)
     first-yes (suc left) h e =

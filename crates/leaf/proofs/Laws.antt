@@ -113,7 +113,9 @@ module _ (u : Question) (ls : List ℕ) (m : List ℤ) (z : ℤ) where
       ap (λ (k : ℕ). length (lowestOfLength u ls m z y) + k) e ∙ go (eqℤ (modelValue u m len y) z && eqb (lowestVariable ls y) y)
       ∙ sym (ap (λ (k : ℕ). length (lowestOfLength u ls m z k)) (add-one y))
     where
-      go : (t : Bool) → length (lowestOfLength u ls m z y) + cond t 1 0 ≡ length {A = ℕ} (elim t as (λ _. List ℕ) [ true ↦ y ∷ lowestOfLength u ls m z y | false ↦ lowestOfLength u ls m z y ])
+      go : (t : Bool)
+          → length (lowestOfLength u ls m z y) + cond t 1 0
+          ≡ length {A = ℕ} (elim t as (λ _. List ℕ) [ true ↦ y ∷ lowestOfLength u ls m z y | false ↦ lowestOfLength u ls m z y ])
       go true = add-one (length (lowestOfLength u ls m z y))
       go false = omega arith
 
@@ -209,12 +211,14 @@ module _ (b : List ℕ) (s : Progress) (ls : List ℕ) (m : List ℤ) where
   unfolding asked
   lowest-any z zero = refl
   lowest-any z (suc k) =
-      ap (λ (l : List ℕ). elim (eqℤ (modelValue (numbered s) m len k) z && eqb (lowestVariable ls k) k) as (λ _. List ℕ) [ true ↦ k ∷ l | false ↦ l ]) (lowest-any z k)
+      ap (λ (l : List ℕ). elim (eqℤ (modelValue (numbered s) m len k) z && eqb (lowestVariable ls k) k) as (λ _. List ℕ) [ true ↦ k ∷ l | false ↦ l ])
+      (lowest-any z k)
 
   pub card-any : (x : ℕ) → saturatedCard (numbered s) ls m x ≡ saturatedCard (asked b s) ls m x
   unfolding asked
   card-any x =
-      ap (λ (l : List ℕ). leb (length l) 1 || (not (leb (s .n) 1) && leb (leastPower (length l) (s .n) (length l) 0) (natAbs (modelValue (numbered s) m len x))))
+      ap (λ (l : List ℕ). leb (length l) 1
+      || (not (leb (s .n) 1) && leb (leastPower (length l) (s .n) (length l) 0) (natAbs (modelValue (numbered s) m len x))))
       (lowest-any (modelValue (numbered s) m len x) (s .p))
 
   pub pairs-any : (x : ℕ) → allBelow (s .p) (pairFits (numbered s) ls m x) ≡ allBelow (s .p) (pairFits (asked b s) ls m x)

@@ -84,7 +84,8 @@ module _ (u : Question) (ls : List ℕ) (m : List ℤ) where
   code-cases : (n : ℕ) (t : Bool) (c : ℤ)
       → ((not t && (eqℤ c (negsuc 0) && true)) || ((t && (nonNeg c && (nonNeg (pos (lastCharacter n) -ℤ c) && true))) || false)) ≡ codeBy t n c
   unfolding codeBy
-  code-cases n true (pos c) = or-false (nonNeg (pos (lastCharacter n) -ℤ pos c) && true) ∙ and-true (nonNeg (pos (lastCharacter n) -ℤ pos c)) ∙ leb-minus (lastCharacter n) c
+  code-cases n true (pos c) =
+      or-false (nonNeg (pos (lastCharacter n) -ℤ pos c) && true) ∙ and-true (nonNeg (pos (lastCharacter n) -ℤ pos c)) ∙ leb-minus (lastCharacter n) c
   code-cases n true (negsuc c) = refl
   code-cases n false c = or-false (eqℤ c (negsuc 0) && true) ∙ and-true (eqℤ c (negsuc 0))
 
@@ -104,7 +105,9 @@ module _ (u : Question) (ls : List ℕ) (m : List ℤ) where
   same-step f x y true = one-holds (arithmetic eq (minus (apply u f x) (apply u f y))) (equal-is f x y)
   same-step f x y false = refl
 
-  inj-step : (x y : ℕ) (g : Bool) → byChildren ls m (guard g (cInjChildren u x y)) ≡ byClass g (eqℤ (M code x) (negsuc 0) || (not (eqℤ (M code x) (M code y)) || sameClass ls (varNode x) (varNode y)))
+  inj-step : (x y : ℕ) (g : Bool)
+      → byChildren ls m (guard g (cInjChildren u x y))
+      ≡ byClass g (eqℤ (M code x) (negsuc 0) || (not (eqℤ (M code x) (M code y)) || sameClass ls (varNode x) (varNode y)))
   inj-step x y true =
       ap₂ _||_ (and-true _ ∙ number-is code x (negsuc 0))
       (ap₂ _||_ (and-true (not (held ls m (arithmetic eq (minus (apply u code x) (apply u code y))))) ∙ ap not (equal-is code x y))
@@ -139,8 +142,11 @@ module _ (u : Question) (ls : List ℕ) (m : List ℤ) where
     where
       itself : T (eqb x y) → (sameClass ls (varNode x) (varNode y) ≡ true) × (M len x ≡ M len y) × (M code x ≡ M code y)
       itself t =
-          let e : x ≡ y = eqb→eq x y t in
-          (→true (sameClass ls (varNode x) (varNode y)) (subst (λ (i : ℕ). T (sameClass ls (varNode x) (varNode i))) e (eqb-refl (label ls (varNode x)))), ap (M len) e, ap (M code) e)
+          let e : x ≡ y = eqb→eq x y t in (
+            →true (sameClass ls (varNode x) (varNode y)) (subst (λ (i : ℕ). T (sameClass ls (varNode x) (varNode i))) e (eqb-refl (label ls (varNode x)))),
+            ap (M len) e,
+            ap (M code) e,
+          )
 
 -- ---- the whole test
 
@@ -156,7 +162,11 @@ every-ap (suc k) s t h = ap₂ _&&_ (h k) (every-ap k s t h)
 
 module _ (u : Question) (b : Branch) (m : List ℤ) where
   var-step : (x : ℕ)
-      → (saturatedStep u b m (LIntro x) && saturatedStep u b m (LValid x) && saturatedStep u b m (CCollapse x) && saturatedStep u b m (CValid x) && saturatedCard u (labels b) m x)
+      → (saturatedStep u b m (LIntro x)
+      && saturatedStep u b m (LValid x)
+      && saturatedStep u b m (CCollapse x)
+      && saturatedStep u b m (CValid x)
+      && saturatedCard u (labels b) m x)
       ≡ varFits u (labels b) m x
   unfolding varFits
   var-step x =

@@ -84,7 +84,9 @@ unfolding judging
 answer-formed b v u a e = behind (question b) e
   where
     answered : (w : Question) (x : Bool) (o : Option ℕ) → answerForm v (w .p) (w .q) 0 ≡ x
-        → (elim x as (λ _. Judging) [ false ↦ Refused 15 0 | true ↦ elim o as (λ _. Judging) [ some r ↦ Refused 16 r | none ↦ Judged w (assignmentOf v w) ] ]) ≡ Judged u a
+        →
+        (elim x as (λ _. Judging) [ false ↦ Refused 15 0 | true ↦ elim o as (λ _. Judging) [ some r ↦ Refused 16 r | none ↦ Judged w (assignmentOf v w) ] ])
+        ≡ Judged u a
         → (p : ℕ) × (q : ℕ) × (answerForm v p q 0 ≡ true)
     answered w false o f e = clash cc
     answered w true o f e = (w .p, w .q, f)
@@ -93,11 +95,15 @@ answer-formed b v u a e = behind (question b) e
     behind (Stopped c r) e = clash cc
     behind (Ended s at r) e = go (leb 1 (s .last)) e
       where
-        go : (x : Bool) → (elim x as (λ _. Judging) [ false ↦ Refused 4 r | true ↦ judgeAnswer (s .question) v ]) ≡ Judged u a → (p : ℕ) × (q : ℕ) × (answerForm v p q 0 ≡ true)
+        go : (x : Bool)
+            → (elim x as (λ _. Judging) [ false ↦ Refused 4 r | true ↦ judgeAnswer (s .question) v ]) ≡ Judged u a
+            → (p : ℕ) × (q : ℕ) × (answerForm v p q 0 ≡ true)
         go false e = clash cc
         go true e = answered (s .question) (answerForm v (s .question .p) (s .question .q) 0) (outside v (s .question) (s .question .p) 0 0) refl e
 
-pub answer-lines : (work answer : ℕ) (b s t : List ℕ) → verdict work answer b ≡ Strings s → recordLines (s ++ t) 0 (records (s ++ t) 0) ≡ recordLines s 0 (records s 0)
+pub answer-lines : (work answer : ℕ) (b s t : List ℕ)
+    → verdict work answer b ≡ Strings s
+    → recordLines (s ++ t) 0 (records (s ++ t) 0) ≡ recordLines s 0 (records s 0)
 answer-lines work answer b s t e =
     let (u, k) = demands .th-5 work answer b s e in
     let (p, q, form) = answer-formed b s u (k .assignment) (k .read-back) in

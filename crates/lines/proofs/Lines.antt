@@ -64,7 +64,9 @@ unfolding integerLines i32s
 integers-done b j at zero h = refl
 integers-done b j at (suc k) h = absurd (omega arith)
 
-pub integers-more : (b : List ℕ) (j at k : ℕ) → 0 < k → integerLine j (i32 b at) ++ integerLines (j + 1) (i32s b (at + 4) (k - 1)) ≡ integerLines j (i32s b at k)
+pub integers-more : (b : List ℕ) (j at k : ℕ)
+    → 0 < k
+    → integerLine j (i32 b at) ++ integerLines (j + 1) (i32s b (at + 4) (k - 1)) ≡ integerLines j (i32s b at k)
 unfolding integerLines i32s
 integers-more b j at zero h = absurd (omega arith)
 integers-more b j at (suc k) h = rw (add-one j) (ap (λ m. integerLine j (i32 b at) ++ integerLines (suc j) (i32s b (at + 4) m)) (down k))

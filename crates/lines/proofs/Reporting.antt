@@ -18,7 +18,9 @@ use Rattle.lines.specs.Reports.{linesOf, linesBy, Reports}
 use Rattle.lines.proofs.Answers.{answer-lines}
 
 -- the buffer that checking leaves has the answer at its front
-same-lines : (ticket buffer : List ℕ) (o : format.Outcome) → verdict workNumbers answerBytes ticket ≡ o → linesBy (told o) (written o ++ drop (length (written o)) buffer) ≡ linesOf o
+same-lines : (ticket buffer : List ℕ) (o : format.Outcome)
+    → verdict workNumbers answerBytes ticket ≡ o
+    → linesBy (told o) (written o ++ drop (length (written o)) buffer) ≡ linesOf o
 unfolding told linesBy linesOf
 same-lines ticket buffer (format.Refused c r) e = refl
 same-lines ticket buffer format.NoSolution e = refl

@@ -26,7 +26,8 @@ any-below→ (suc m) t h = go (or→ (t m) (anyBelow m t) h) (any-below→ m t)
 
 pub →any-below : (m : ℕ) (t : ℕ → Bool) (i : ℕ) → i < m → T (t i) → T (anyBelow m t)
 →any-below zero t i h s = absurd (omega arith)
-→any-below (suc m) t i h s = below-suc (λ k. T (t k) → T (t m || anyBelow m t)) m i h (→or-left (t m) (anyBelow m t)) (λ g s. →or-right (t m) (anyBelow m t) (→any-below m t i g s)) s
+→any-below (suc m) t i h s =
+    below-suc (λ k. T (t k) → T (t m || anyBelow m t)) m i h (→or-left (t m) (anyBelow m t)) (λ g s. →or-right (t m) (anyBelow m t) (→any-below m t i g s)) s
 
 pub all-below→ : (m : ℕ) (t : ℕ → Bool) → T (allBelow m t) → (i : ℕ) → i < m → T (t i)
 all-below→ zero t h i g = absurd (omega arith)

@@ -1,4 +1,5 @@
--- A test of every element of a list, as a loop from the front takes it (none is left, the next one fails, the next one passes), also where the list is read place by place;
+-- A test of every element of a list, as a loop from the front takes it (none is left, the next one fails, the next one passes), also where the list is read
+-- place by place;
 -- of parts of the list, and of some element.
 use Prim.Native.Nat.{ℕ, zero, suc, _+_, _-_, _<_, _≤_}
 use native.Mathlib.Omega.{arith}

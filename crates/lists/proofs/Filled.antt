@@ -22,7 +22,12 @@ module _ {A : Type 0} where
       drop-set-lt (j + 1) l j x (omega arith) ∙ sym (drop-drop 1 j l) ∙ ap (λ (m : List A). drop 1 m) e ∙ drop-drop 1 j k
 
   pub kept-at : (l k : List A) (j : ℕ) (d : A) → drop j l ≡ drop j k → getD l j d ≡ getD k j d
-  kept-at l k j d e = ap (λ (i : ℕ). getD l i d) (sym (add-zero j)) ∙ sym (getD-drop j l 0 d) ∙ ap (λ (m : List A). getD m 0 d) e ∙ getD-drop j k 0 d ∙ ap (λ (i : ℕ). getD k i d) (add-zero j)
+  kept-at l k j d e =
+      ap (λ (i : ℕ). getD l i d) (sym (add-zero j))
+      ∙ sym (getD-drop j l 0 d)
+      ∙ ap (λ (m : List A). getD m 0 d) e
+      ∙ getD-drop j k 0 d
+      ∙ ap (λ (i : ℕ). getD k i d) (add-zero j)
 
   pub drop-take : (n m : ℕ) (l : List A) → drop n (take (n + m) l) ≡ take m (drop n l)
   drop-take zero m l = rw (zero-add m)

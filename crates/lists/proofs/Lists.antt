@@ -198,7 +198,8 @@ pub at-most : {A : Type 0} (xs ys : List A) → Distinct xs → ((x : A) → In 
 at-most [] ys d h = omega arith
 at-most (x ∷ xs) ys d h =
     let i : In x ys = h x (inl refl) in
-    let f : length xs ≤ length (without x ys i) = at-most xs (without x ys i) (d .1) (λ z j. in-without x z ys i (λ e. not-in→ x z xs (d .0) j (sym e)) (h z (inr j))) in
+    let f : length xs ≤ length (without x ys i) =
+    at-most xs (without x ys i) (d .1) (λ z j. in-without x z ys i (λ e. not-in→ x z xs (d .0) j (sym e)) (h z (inr j))) in
     let g : length ys ≡ suc (length (without x ys i)) = length-without x ys i in
     omega arith
 

@@ -50,11 +50,13 @@ module _ (b : List ℕ) (s : Progress) (h : Posed b s) where
 
   -- the numbers of the columns are there
   pub columns-ready : (held : List ℤ) → length held ≡ columnLimit → LeafReady b (values s held) s
-  columns-ready held all = record { posed = h; columns = omega (arith, few-columns, length-take-le (columnCount (numbered s)) held (omega (arith, few-columns, all))) }
+  columns-ready held all =
+      record { posed = h; columns = omega (arith, few-columns, length-take-le (columnCount (numbered s)) held (omega (arith, few-columns, all))) }
 
   -- ---- the model's record, with its body at a position
 
-  module _ (at : ℕ) (ls : List ℕ) (held : List ℤ) (small : allWithin valueLimit (i32s b at (columnCount (numbered s))) ≡ true) (e : held ≡ i32s b at (columnCount (numbered s)) ++ zeros (columnLimit - columnCount (numbered s))) where
+  module _ (at : ℕ) (ls : List ℕ) (held : List ℤ) (small : allWithin valueLimit (i32s b at (columnCount (numbered s))) ≡ true)
+      (e : held ≡ i32s b at (columnCount (numbered s)) ++ zeros (columnLimit - columnCount (numbered s))) where
     abbrev m : List ℤ
     m = i32s b at (columnCount (numbered s))
 
@@ -67,7 +69,8 @@ module _ (b : List ℕ) (s : Progress) (h : Posed b s) where
     pub held-filled : Filled held s
     held-filled = model-filled s m held few-columns long e small
 
-    module _ (br : Branch) (size r : ℕ) (n : size ≡ 4 * columnCount (numbered s)) (c : ls ≡ labels br) (tested : r ≡ leafFault (asked b s) br (values s held)) where
+    module _ (br : Branch) (size r : ℕ) (n : size ≡ 4 * columnCount (numbered s)) (c : ls ≡ labels br)
+        (tested : r ≡ leafFault (asked b s) br (values s held)) where
       pub settled-fault : r ≡ modelFault b (asked b s) (leafFault (asked b s) br (modelAt b (asked b s) at)) at size
       unfolding asked
       settled-fault =

@@ -9,17 +9,22 @@ use Rattle.format.specs.Question.{stringKind, arithmeticKind, stringFact, formO
 use Rattle.format.proofs.RecordFaults.{StringConstraint, ArithmeticConstraint, Constraint, on-strings, on-columns, constraint-formed}
 
 module _ (b : List ℕ) (p l c k at m : ℕ) (h : constraintFault b p l c k at m ≡ 0) where
-  pub of-strings : k ≡ stringKind → StringConstraint p l m (u16 b at) (u16 b (at + 2)) (u16 b (at + 4)) × (constraintOf b k at m ≡ stringFact (u16 b at) (u16 b (at + 2)) (u16 b (at + 4)))
+  pub of-strings : k ≡ stringKind
+      → StringConstraint p l m (u16 b at) (u16 b (at + 2)) (u16 b (at + 4)) × (constraintOf b k at m ≡ stringFact (u16 b at) (u16 b (at + 2)) (u16 b (at + 4)))
   of-strings e = go (constraint-formed b p l c k at m h)
     where
-      go : Constraint b p l c k at m → StringConstraint p l m (u16 b at) (u16 b (at + 2)) (u16 b (at + 4)) × (constraintOf b k at m ≡ stringFact (u16 b at) (u16 b (at + 2)) (u16 b (at + 4)))
+      go : Constraint b p l c k at m
+          → StringConstraint p l m (u16 b at) (u16 b (at + 2)) (u16 b (at + 4))
+          × (constraintOf b k at m ≡ stringFact (u16 b at) (u16 b (at + 2)) (u16 b (at + 4)))
       go (on-strings f s i) = (s, i)
       go (on-columns f s i) = absurd (omega arith)
 
-  pub of-columns : k ≡ arithmeticKind → ArithmeticConstraint b c at m × (constraintOf b k at m ≡ arithmetic (relationOf (u16 b at)) (formOf b (at + 2) (m / 6 - 1)))
+  pub of-columns : k ≡ arithmeticKind
+      → ArithmeticConstraint b c at m × (constraintOf b k at m ≡ arithmetic (relationOf (u16 b at)) (formOf b (at + 2) (m / 6 - 1)))
   of-columns e = go (constraint-formed b p l c k at m h)
     where
-      go : Constraint b p l c k at m → ArithmeticConstraint b c at m × (constraintOf b k at m ≡ arithmetic (relationOf (u16 b at)) (formOf b (at + 2) (m / 6 - 1)))
+      go : Constraint b p l c k at m
+          → ArithmeticConstraint b c at m × (constraintOf b k at m ≡ arithmetic (relationOf (u16 b at)) (formOf b (at + 2) (m / 6 - 1)))
       go (on-strings f s i) = absurd (omega arith)
       go (on-columns f s i) = (s, i)
 

@@ -30,9 +30,14 @@ use Rattle.format.proofs.Asked.{read-few}
 
 pub same-numbers : (b : List ℕ) (s t : Progress) → progressOf b s ≡ progressOf b t → s ≡ t
 same-numbers b s t e =
-    let literals : s .literals ≡ t .literals = sym (length-texts b (s .literals) literalsFrom) ∙ ap (λ (u : format.Progress). length (u .question .literals)) e ∙ length-texts b (t .literals) literalsFrom in
+    let literals : s .literals ≡ t .literals =
+    sym (length-texts b (s .literals) literalsFrom)
+    ∙ ap (λ (u : format.Progress). length (u .question .literals)) e
+    ∙ length-texts b (t .literals) literalsFrom in
     let constraints : s .constraints ≡ t .constraints =
-    sym (length-constraints b (s .constraints) (skip b (s .literals) literalsFrom)) ∙ ap (λ (u : format.Progress). length (u .question .constraints)) e ∙ length-constraints b (t .constraints) (skip b (t .literals) literalsFrom) in
+    sym (length-constraints b (s .constraints) (skip b (s .literals) literalsFrom))
+    ∙ ap (λ (u : format.Progress). length (u .question .constraints)) e
+    ∙ length-constraints b (t .constraints) (skip b (t .literals) literalsFrom) in
     let last : s .last ≡ t .last = ap (λ (u : format.Progress). u .last) e in
     let n : s .n ≡ t .n = ap (λ (u : format.Progress). u .question .n) e in
     let p : s .p ≡ t .p = ap (λ (u : format.Progress). u .question .p) e in
@@ -41,7 +46,11 @@ same-numbers b s t e =
 
 -- ---- positions
 
-pub literals-within : {greatest : ℕ} (b : List ℕ) (s : Progress) (at l : ℕ) → StandsTo greatest b s at → headRank ≤ s .last → l ≤ s .literals → skip b l literalsFrom ≤ length b
+pub literals-within : {greatest : ℕ} (b : List ℕ) (s : Progress) (at l : ℕ)
+    → StandsTo greatest b s at
+    → headRank ≤ s .last
+    → l ≤ s .literals
+    → skip b l literalsFrom ≤ length b
 literals-within b s at l h g few =
     omega (arith, h .ends-here g, skip-up b l (s .literals) literalsFrom few, skip-far b (s .constraints) (skip b (s .literals) literalsFrom), h .within)
 
@@ -129,8 +138,10 @@ module _ (b : List ℕ) (s : Progress) (at : ℕ) (w : NextAt b s at) where
       let other : (rank ≡ headRank → ⊥) = λ z. omega arith in
       let g = behind other in
       let (here, none) = literal-here k in
-      let f = literal-formed b (s .n) (texts b (s .literals) literalsFrom) (at + 6) (size b at) (rw (ne-eqb _ _ other, eq-eqb _ _ k) at (no-fault .body-formed)) in
-      let there : next b at ≡ skip b (s .literals + 1) literalsFrom = ap (next b) here ∙ sym (skip-snoc b (s .literals) literalsFrom) ∙ ap (λ m. skip b m literalsFrom) (sym (add-one (s .literals))) in
+      let f =
+      literal-formed b (s .n) (texts b (s .literals) literalsFrom) (at + 6) (size b at) (rw (ne-eqb _ _ other, eq-eqb _ _ k) at (no-fault .body-formed)) in
+      let there : next b at ≡ skip b (s .literals + 1) literalsFrom =
+      ap (next b) here ∙ sym (skip-snoc b (s .literals) literalsFrom) ∙ ap (λ m. skip b m literalsFrom) (sym (add-one (s .literals))) in
       let literal : LiteralAt b (s .n) at = record {
         literal = k;
         whole = no-fault .all-there;
@@ -150,7 +161,8 @@ module _ (b : List ℕ) (s : Progress) (at : ℕ) (w : NextAt b s at) where
         nothing-yet = λ z. absurd (omega arith);
         ends-here = λ _. there ∙ ap (λ m. skip b m (skip b (s .literals + 1) literalsFrom)) (sym none);
         literals-first = λ _. none;
-        literals-stand = below-more (λ j. LiteralAt b (s .n) (skip b j literalsFrom)) (s .literals) (w .stands .literals-stand) (subst (LiteralAt b (s .n)) here literal);
+        literals-stand =
+            below-more (λ j. LiteralAt b (s .n) (skip b j literalsFrom)) (s .literals) (w .stands .literals-stand) (subst (LiteralAt b (s .n)) here literal);
         constraints-stand = λ j l. absurd (omega (arith, none, l));
       }
 
@@ -159,7 +171,8 @@ module _ (b : List ℕ) (s : Progress) (at : ℕ) (w : NextAt b s at) where
       let g = behind x in
       let from : ℕ = skip b (s .literals) literalsFrom in
       let here = constraint-here x in
-      let there : next b at ≡ skip b (s .constraints + 1) from = ap (next b) here ∙ sym (skip-snoc b (s .constraints) from) ∙ ap (λ m. skip b m from) (sym (add-one (s .constraints))) in
+      let there : next b at ≡ skip b (s .constraints + 1) from =
+      ap (next b) here ∙ sym (skip-snoc b (s .constraints) from) ∙ ap (λ m. skip b m from) (sym (add-one (s .constraints))) in
       let constraint : ConstraintAt (w .greatest) b (s .p) (s .q) (s .literals) at = record {
         whole = no-fault .all-there;
         taken = g .at-most;
@@ -177,7 +190,9 @@ module _ (b : List ℕ) (s : Progress) (at : ℕ) (w : NextAt b s at) where
         ends-here = λ _. there;
         literals-first = λ l. absurd (omega (arith, g .at-least, y));
         literals-stand = w .stands .literals-stand;
-        constraints-stand = below-more (λ j. ConstraintAt (w .greatest) b (s .p) (s .q) (s .literals) (skip b j from)) (s .constraints) (w .stands .constraints-stand) (subst (ConstraintAt (w .greatest) b (s .p) (s .q) (s .literals)) here constraint);
+        constraints-stand =
+            below-more (λ j. ConstraintAt (w .greatest) b (s .p) (s .q) (s .literals) (skip b j from)) (s .constraints) (w .stands .constraints-stand)
+            (subst (ConstraintAt (w .greatest) b (s .p) (s .q) (s .literals)) here constraint);
       }
 
   pub after-stands : StandsTo (w .greatest) b (after b s at) (next b at)
@@ -219,7 +234,10 @@ begun-stands greatest b = record {
 }
 
 -- a record without fault in a manner is the next one
-abbrev pub next-at : (m : format.Manner) {b : List ℕ} {s : Progress} {at : ℕ} → StandsTo (m .greatest) b s at → questionFault m b (progressOf b s) at ≡ 0 → NextAt b s at
+abbrev pub next-at : (m : format.Manner) {b : List ℕ} {s : Progress} {at : ℕ}
+    → StandsTo (m .greatest) b s at
+    → questionFault m b (progressOf b s) at ≡ 0
+    → NextAt b s at
 next-at m {b} {s} {at} h e = record { greatest = m .greatest; stands = h; formed = uncrowded m b (progressOf b s) at e .0 }
 
 module _ (m : format.Manner) where
@@ -238,16 +256,23 @@ module _ (m : format.Manner) where
       (λ k. read-stands d b (after b s at) t (suc r) (next b at) to q (omega arith) (after-stands b s at (next-at m h k)))
     where
       go : (x y : Bool) (f : ℕ) → leb (at + 6) (length b) ≡ x → ending (kind b at) ≡ y → test b (progressOf b s) at ≡ f
-          → (test b (progressOf b s) at ≡ 0 → readOn test b (progressOf b (after b s at)) (suc r) (next b at) ≡ format.Ended (progressOf b t) to q → Ends b t to) → Ends b t to
+          → (test b (progressOf b s) at ≡ 0
+          → readOn test b (progressOf b (after b s at)) (suc r) (next b at) ≡ format.Ended (progressOf b t) to q
+          → Ends b t to)
+          → Ends b t to
       go false y f ex ey ef later = let g = read-none test b (progressOf b s) r at (leb-false _ _ ex) in clash cc
       go true true f ex ey ef later =
           let g = read-ended test b (progressOf b s) r at (leb-true _ _ ex) ey in
           let here : at ≡ to = cc in
-          let known : progressOf b s ≡ progressOf b t = cc in
-          (subst (λ (u : Progress). StandsTo (m .greatest) b u to) (same-numbers b s t known) (subst (StandsTo (m .greatest) b s) here h), subst (λ z. z + 6 ≤ length b) here (leb-true _ _ ex))
+          let known : progressOf b s ≡ progressOf b t = cc in (
+            subst (λ (u : Progress). StandsTo (m .greatest) b u to) (same-numbers b s t known) (subst (StandsTo (m .greatest) b s) here h),
+            subst (λ z. z + 6 ≤ length b) here (leb-true _ _ ex),
+          )
       go true false (suc f) ex ey ef later = let g = read-stopped test b (progressOf b s) r at f (leb-true _ _ ex) ey ef in clash cc
       go true false zero ex ey ef later =
-          later ef (ap (λ (u : format.Progress). readOn test b u (suc r) (next b at)) (after-advanced b s at (next-at m h ef)) ∙ sym (read-more test b (progressOf b s) r at (leb-true _ _ ex) ey ef) ∙ e)
+          later ef (ap (λ (u : format.Progress). readOn test b u (suc r) (next b at)) (after-advanced b s at (next-at m h ef))
+          ∙ sym (read-more test b (progressOf b s) r at (leb-true _ _ ex) ey ef)
+          ∙ e)
 
   -- a question is read from a ticket that is not too long
   pub question-short : (b : List ℕ) (t : format.Progress) (to q : ℕ) → readIn m b ≡ format.Ended t to q → length b ≤ ticketBytes
@@ -267,7 +292,11 @@ module _ (m : format.Manner) where
   pub question-few : m .limited ≡ true → (b : List ℕ) (t : Progress) (to q : ℕ) → readIn m b ≡ format.Ended (progressOf b t) to q → t .constraints ≤ factLimit
   question-few l b t to q e = omega (arith, read-few m l b e, length-constraints b (t .constraints) (skip b (t .literals) literalsFrom))
 
-  pub question-posed : m .limited ≡ true → (b : List ℕ) (t : Progress) (to q : ℕ) → readIn m b ≡ format.Ended (progressOf b t) to q → headRank ≤ t .last → PosedTo (m .greatest) b t
+  pub question-posed : m .limited ≡ true
+      → (b : List ℕ) (t : Progress) (to q : ℕ)
+      → readIn m b ≡ format.Ended (progressOf b t) to q
+      → headRank ≤ t .last
+      → PosedTo (m .greatest) b t
   question-posed l b t to q e h = record {
     to = to;
     stands = question-stands b t to q e .0;

@@ -37,7 +37,9 @@ branch-same w v (suc k) e =
     let n : rowLength * suc k ≡ rowLength * k + rowLength = omega arith in
     let f : take (rowLength * k + rowLength) w ≡ take (rowLength * k + rowLength) v = rw n at e in
     let before : take (rowLength * k) w ≡ take (rowLength * k) v =
-    sym (take-take (rowLength * k) (rowLength * k + rowLength) w (omega arith)) ∙ ap (λ (l : List ℤ). take (rowLength * k) l) f ∙ take-take (rowLength * k) (rowLength * k + rowLength) v (omega arith) in
+    sym (take-take (rowLength * k) (rowLength * k + rowLength) w (omega arith))
+    ∙ ap (λ (l : List ℤ). take (rowLength * k) l) f
+    ∙ take-take (rowLength * k) (rowLength * k + rowLength) v (omega arith) in
     let row : rowAt w k ≡ rowAt v k =
     sym (drop-take (rowLength * k) rowLength w) ∙ ap (λ (l : List ℤ). drop (rowLength * k) l) f ∙ drop-take (rowLength * k) rowLength v in
     ap₂ (λ (b : List Fact) (r : List ℤ). b ++ (factOf r ∷ [])) (branch-same w v k before) row
@@ -71,7 +73,8 @@ branch-put w row k h n =
     let new = take (rowLength * k) w ++ rest in
     let same : branchOf new k ≡ branchOf w k = branch-same new w k (take-at (take (rowLength * k) w) rest (rowLength * k) front) in
     let its : rowAt new k ≡ row =
-    ap (λ (l : List ℤ). take rowLength l) (drop-at (take (rowLength * k) w) rest (rowLength * k) front) ∙ take-at row (drop (rowLength * k + rowLength) w) rowLength n in
+    ap (λ (l : List ℤ). take rowLength l) (drop-at (take (rowLength * k) w) rest (rowLength * k) front)
+    ∙ take-at row (drop (rowLength * k + rowLength) w) rowLength n in
     branch-more new k ∙ ap₂ (λ (b : List Fact) (r : List ℤ). b ++ (factOf r ∷ [])) same its
 
 -- a row's own stretch is lent and comes back as a row that states f: the facts before it and f

@@ -25,12 +25,15 @@ single-fact r c j k h =
     let e : j + 2 ≡ suc (suc j) = omega arith in
     ap (λ i. factOf (set (pos r ∷ c ∷ zeros 48) i k)) e ∙ relation-fact r (set (number c) (suc j) k) h
 
-pub difference-fact : (r i j : ℕ) → r ≤ 2 → factOf (set (set (pos r ∷ zeros 49) (i + 2) (pos 1)) (j + 2) (negsuc 0)) ≡ arithmetic (relationOf r) (difference i j)
+pub difference-fact : (r i j : ℕ)
+    → r ≤ 2
+    → factOf (set (set (pos r ∷ zeros 49) (i + 2) (pos 1)) (j + 2) (negsuc 0)) ≡ arithmetic (relationOf r) (difference i j)
 unfolding difference
 difference-fact r i j h =
     let e : i + 2 ≡ suc (suc i) = omega arith in
     let f : j + 2 ≡ suc (suc j) = omega arith in
-    ap₂ (λ m n. factOf (set (set (pos r ∷ zeros 49) m (pos 1)) n (negsuc 0))) e f ∙ relation-fact r (set (set (number (pos 0)) (suc i) (pos 1)) (suc j) (negsuc 0)) h
+    ap₂ (λ m n. factOf (set (set (pos r ∷ zeros 49) m (pos 1)) n (negsuc 0))) e f
+    ∙ relation-fact r (set (set (number (pos 0)) (suc i) (pos 1)) (suc j) (negsuc 0)) h
 
 -- ---- entries of zeros and columns
 
@@ -79,7 +82,13 @@ single-constant : (c : ℤ) (j : ℕ) (k : ℤ) → entry (single c j k) 0 ≡ c
 unfolding single
 single-constant c j k = refl
 
-pub is-single : (e : List ℤ) (c : ℤ) (j : ℕ) (k : ℤ) → j < 48 → length e ≡ 49 → entry e 0 ≡ c → entry e (suc j) ≡ k → ((i : ℕ) → (i ≡ j → ⊥) → entry e (suc i) ≡ pos 0) → e ≡ single c j k
+pub is-single : (e : List ℤ) (c : ℤ) (j : ℕ) (k : ℤ)
+    → j < 48
+    → length e ≡ 49
+    → entry e 0 ≡ c
+    → entry e (suc j) ≡ k
+    → ((i : ℕ) → (i ≡ j → ⊥) → entry e (suc i) ≡ pos 0)
+    → e ≡ single c j k
 is-single e c j k h l e0 ej ei = by-entries e (single c j k) (l ∙ sym (length-single c j k)) go
   where
     at : (i : ℕ) → Dec (i ≡ j) → entry e (suc i) ≡ entry (single c j k) (suc i)
@@ -184,7 +193,10 @@ below-form c cs h = ap (λ l. ((negsuc 0 *ℤ c) +ℤ negsuc 0) ∷ l) (plus-zer
 
 -- ---- rows with these forms in place of another
 
-pub above-fact : (row : List ℤ) (v : ℤ) → length row ≡ 50 → v ≡ getD row 1 (pos 0) +ℤ negsuc 0 → factOf (set (set row 0 (pos 0)) 1 v) ≡ arithmetic ge (above (drop 1 row))
+pub above-fact : (row : List ℤ) (v : ℤ)
+    → length row ≡ 50
+    → v ≡ getD row 1 (pos 0) +ℤ negsuc 0
+    → factOf (set (set row 0 (pos 0)) 1 v) ≡ arithmetic ge (above (drop 1 row))
 above-fact [] v h e = absurd (omega arith)
 above-fact (x ∷ []) v h e = absurd (omega arith)
 above-fact (x ∷ c ∷ cs) v h e = relation-fact 0 (v ∷ cs) (omega arith) ∙ ap (arithmetic ge) (ap (λ z. z ∷ cs) e ∙ sym (above-form c cs (omega arith)))
@@ -193,7 +205,8 @@ pub below-fact : (row : List ℤ) (v : ℤ) → length row ≡ 50 → v ≡ (neg
     → factOf (set (pos 0 ∷ scale (negsuc 0) (drop 1 row)) 1 v) ≡ arithmetic ge (below (drop 1 row))
 below-fact [] v h e = absurd (omega arith)
 below-fact (x ∷ []) v h e = absurd (omega arith)
-below-fact (x ∷ c ∷ cs) v h e = relation-fact 0 (v ∷ scale (negsuc 0) cs) (omega arith) ∙ ap (arithmetic ge) (ap (λ z. z ∷ scale (negsuc 0) cs) e ∙ sym (below-form c cs (omega arith)))
+below-fact (x ∷ c ∷ cs) v h e =
+    relation-fact 0 (v ∷ scale (negsuc 0) cs) (omega arith) ∙ ap (arithmetic ge) (ap (λ z. z ∷ scale (negsuc 0) cs) e ∙ sym (below-form c cs (omega arith)))
 
 pub equation-fact : (row : List ℤ) → length row ≡ 50 → factOf (set row 0 (pos 1)) ≡ arithmetic eq (drop 1 row)
 equation-fact [] h = absurd (omega arith)

@@ -42,7 +42,13 @@ unfolding branchOf factsWithin
 fine-start w h = record { few = omega arith; room = h; small = refl }
 
 -- a fact within the limit is put behind k others
-pub fine-put : (w v : List ℤ) (k : ℕ) (f : Fact) → Fine w k → k < factLimit → length v ≡ length w → branchOf v (k + 1) ≡ branchOf w k ++ (f ∷ []) → factWithin f ≡ true → Fine v (k + 1)
+pub fine-put : (w v : List ℤ) (k : ℕ) (f : Fact)
+    → Fine w k
+    → k < factLimit
+    → length v ≡ length w
+    → branchOf v (k + 1) ≡ branchOf w k ++ (f ∷ [])
+    → factWithin f ≡ true
+    → Fine v (k + 1)
 unfolding factsWithin
 fine-put w v k f fine h l e t =
     let room = fine .room in

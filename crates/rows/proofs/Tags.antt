@@ -109,7 +109,10 @@ tag-string (pos (suc (suc (suc (suc (suc (suc n))))))) a b e h = absurd (omega a
 tag-string (negsuc n) a b e h = absurd (omega arith)
 
 -- a row of tag 3, 4 or 5 is ≈, ≉ or ≈ literal of the operands in numbers 1 and 2
-pub row-string : (row : List ℤ) (k : ℕ) → k ≡ tagOf (factOf row) → 2 < k → factOf row ≡ stringFact (k - 3) (index (getD row 1 (pos 0))) (index (getD row 2 (pos 0)))
+pub row-string : (row : List ℤ) (k : ℕ)
+    → k ≡ tagOf (factOf row)
+    → 2 < k
+    → factOf row ≡ stringFact (k - 3) (index (getD row 1 (pos 0))) (index (getD row 2 (pos 0)))
 unfolding factOf
 row-string row k e h =
     tag-string (getD row 0 (pos 0)) (index (getD row 1 (pos 0))) (index (getD row 2 (pos 0))) (drop 1 row) (subst (λ n. 2 < n) e h)

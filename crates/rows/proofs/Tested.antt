@@ -86,7 +86,9 @@ string-keeps m (arithmetic ne e) h = absurd (omega arith)
 
 -- ---- A-Conf and Join
 
-pub falsum-row : (r : Relation) (row : List ℤ) → length row ≡ 50 → isFalse (arithmetic r (drop 1 row)) ≡ (allZero (drop 2 row) && not (holds r (getD row 1 (pos 0))))
+pub falsum-row : (r : Relation) (row : List ℤ)
+    → length row ≡ 50
+    → isFalse (arithmetic r (drop 1 row)) ≡ (allZero (drop 2 row) && not (holds r (getD row 1 (pos 0))))
 falsum-row r [] h = absurd (omega arith)
 falsum-row r (x ∷ []) h = absurd (omega arith)
 falsum-row r (x ∷ c ∷ cs) h = refl
@@ -111,7 +113,11 @@ joined-second e (arithmetic ne g) h = refl
 
 -- ---- two rows, from place j on
 
-pub eqIntegers-fails : (a b : List ℤ) (j : ℕ) → j < length a → j < length b → eqℤ (getD a j (pos 0)) (getD b j (pos 0)) ≡ false → eqIntegers (drop j a) (drop j b) ≡ false
+pub eqIntegers-fails : (a b : List ℤ) (j : ℕ)
+    → j < length a
+    → j < length b
+    → eqℤ (getD a j (pos 0)) (getD b j (pos 0)) ≡ false
+    → eqIntegers (drop j a) (drop j b) ≡ false
 eqIntegers-fails a b j h k e = eq-list-step eqℤ a b j (pos 0) h k ∙ rw e
 
 pub eqIntegers-on : (a b : List ℤ) (j : ℕ) → j < length a → j < length b → eqℤ (getD a j (pos 0)) (getD b j (pos 0)) ≡ true
@@ -135,7 +141,8 @@ states-row e (pos (suc (suc zero))) a b g = refl
 states-row e (pos (suc (suc (suc zero)))) a b g = refl
 states-row e (pos (suc (suc (suc (suc zero))))) a b g = refl
 states-row e (pos (suc (suc (suc (suc (suc zero)))))) a b g = refl
-states-row e (pos (suc (suc (suc (suc (suc (suc k))))))) a b g = sym (ap (λ t. t && eqIntegers e g) (ne-eqb 1 (suc (suc (suc (suc (suc (suc k)))))) (omega arith)))
+states-row e (pos (suc (suc (suc (suc (suc (suc k))))))) a b g =
+    sym (ap (λ t. t && eqIntegers e g) (ne-eqb 1 (suc (suc (suc (suc (suc (suc k)))))) (omega arith)))
 states-row e (negsuc k) a b g = refl
 
 -- its row is the tag 1 and the form
@@ -179,7 +186,9 @@ no-fit none e h = subst T (sym e) tt
 no-fit (some a) e h = some-none h
 
 -- Join's fact is the first as an equation
-pub joined-fits : (row other : List ℤ) → fits (joinOf (factOf row) (factOf other)) ≡ true → joinOf (factOf row) (factOf other) ≡ some (one (arithmetic eq (drop 1 row)))
+pub joined-fits : (row other : List ℤ)
+    → fits (joinOf (factOf row) (factOf other)) ≡ true
+    → joinOf (factOf row) (factOf other) ≡ some (one (arithmetic eq (drop 1 row)))
 joined-fits row other e = go (ℕ-discrete (tagOf (factOf row)) 0) (ℕ-discrete (tagOf (factOf other)) 0)
   where
     go : Dec (tagOf (factOf row) ≡ 0) → Dec (tagOf (factOf other) ≡ 0) → joinOf (factOf row) (factOf other) ≡ some (one (arithmetic eq (drop 1 row)))

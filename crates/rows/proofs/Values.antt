@@ -24,7 +24,8 @@ use Rattle.rows.proofs.Small.{small-fits, all-small}
 
 -- ---- s + m x at an i64, where |s| is at most n, |m| at most a and |x| at most b
 
-module _ (s m x : ℤ) (n a b : ℕ) (hs : natAbs s ≤ n) (hm : natAbs m ≤ a) (hx : natAbs x ≤ b) (fm : SFits w64 m) (fx : SFits w64 x) (room : n + a * b ≤ 8000000000000000000) where
+module _ (s m x : ℤ) (n a b : ℕ) (hs : natAbs s ≤ n) (hm : natAbs m ≤ a) (hx : natAbs x ≤ b) (fm : SFits w64 m) (fx : SFits w64 x)
+    (room : n + a * b ≤ 8000000000000000000) where
   product-small : natAbs (m *ℤ x) ≤ a * b
   product-small = abs-*-le m x hm hx
 
@@ -87,4 +88,6 @@ keeps-filled m n [] = refl
 keeps-filled m n (f ∷ b) = ap₂ _&&_ (keeps-fact-filled m n f) (keeps-filled m n b)
 
 pub within-filled : (m : List ℤ) (n : ℕ) → allWithin valueLimit m ≡ true → Within valueLimit (m ++ zeros n)
-within-filled m n e = all-small valueLimit (m ++ zeros n) (all-append (Small valueLimit) m (zeros n) (within→ valueLimit m e) (all-replicate (Small valueLimit) n (pos 0) (omega arith)))
+within-filled m n e =
+    all-small valueLimit (m ++ zeros n)
+    (all-append (Small valueLimit) m (zeros n) (within→ valueLimit m e) (all-replicate (Small valueLimit) n (pos 0) (omega arith)))

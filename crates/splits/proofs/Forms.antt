@@ -111,12 +111,18 @@ c-valid-size s x (suc (suc (suc k))) h g = absurd (omega arith)
 
 -- ---- facts put one behind the other
 
-pub put-two : (v w x : List ℤ) (k : ℕ) (f g : Fact) → branchOf w (k + 1) ≡ branchOf v k ++ (f ∷ []) → branchOf x (k + 1 + 1) ≡ branchOf w (k + 1) ++ (g ∷ []) → branchOf x (k + 2) ≡ branchOf v k ++ (f ∷ g ∷ [])
+pub put-two : (v w x : List ℤ) (k : ℕ) (f g : Fact)
+    → branchOf w (k + 1) ≡ branchOf v k ++ (f ∷ [])
+    → branchOf x (k + 1 + 1) ≡ branchOf w (k + 1) ++ (g ∷ [])
+    → branchOf x (k + 2) ≡ branchOf v k ++ (f ∷ g ∷ [])
 put-two v w x k f g p q =
     let e : k + 2 ≡ k + 1 + 1 = omega arith in
     ap (branchOf x) e ∙ q ∙ ap (λ l. l ++ (g ∷ [])) p ∙ append-assoc (branchOf v k) (f ∷ []) (g ∷ [])
 
-pub put-three : (v x y : List ℤ) (k : ℕ) (f g h : Fact) → branchOf x (k + 2) ≡ branchOf v k ++ (f ∷ g ∷ []) → branchOf y (k + 2 + 1) ≡ branchOf x (k + 2) ++ (h ∷ []) → branchOf y (k + 3) ≡ branchOf v k ++ (f ∷ g ∷ h ∷ [])
+pub put-three : (v x y : List ℤ) (k : ℕ) (f g h : Fact)
+    → branchOf x (k + 2) ≡ branchOf v k ++ (f ∷ g ∷ [])
+    → branchOf y (k + 2 + 1) ≡ branchOf x (k + 2) ++ (h ∷ [])
+    → branchOf y (k + 3) ≡ branchOf v k ++ (f ∷ g ∷ h ∷ [])
 put-three v x y k f g h p q =
     let e : k + 3 ≡ k + 2 + 1 = omega arith in
     ap (branchOf y) e ∙ q ∙ ap (λ l. l ++ (h ∷ [])) p ∙ append-assoc (branchOf v k) (f ∷ g ∷ []) (h ∷ [])
@@ -158,4 +164,6 @@ within-single c j k h g = within-set (number c) (suc j) k (within-number c h) (l
 
 pub within-difference : (i j : ℕ) → allWithin numberLimit (difference i j) ≡ true
 unfolding difference
-within-difference i j = within-set (set (number (pos 0)) (suc i) (pos 1)) (suc j) (negsuc 0) (within-set (number (pos 0)) (suc i) (pos 1) (within-number (pos 0) (omega arith)) refl) refl
+within-difference i j =
+    within-set (set (number (pos 0)) (suc i) (pos 1)) (suc j) (negsuc 0)
+    (within-set (number (pos 0)) (suc i) (pos 1) (within-number (pos 0) (omega arith)) refl) refl

@@ -37,7 +37,8 @@ use Rattle.steps.proofs.Rules.{in-arm}
 use Rattle.steps.proofs.Bodies.{given, l-valid-variable, c-valid-variable}
 use Rattle.splits.proofs.Variables.{below-first}
 use Rattle.splits.proofs.Forms.{c-valid-children, last-is, last-none, within-single, within-difference}
-use Rattle.splits.proofs.Operands.{c-inj-operands, card-operands, branch-child, apart-child, l-valid-child, c-valid-child, c-inj-differ, c-inj-child, card-child}
+use Rattle.splits.proofs.Operands.{c-inj-operands, card-operands, branch-child, apart-child}
+use Rattle.splits.proofs.Operands.{l-valid-child, c-valid-child, c-inj-differ, c-inj-child, card-child}
 
 -- ---- one child of all
 
@@ -45,7 +46,9 @@ pub one-within : (f : Fact) → factWithin f ≡ factsWithin (f ∷ [])
 unfolding factsWithin
 one-within f = sym (and-true (factWithin f))
 
-pub two-within : (o : Option (List (List Fact))) (c d : List Fact) → o ≡ some (c ∷ d ∷ []) → childrenWithin (orNone o) ≡ (factsWithin (orNone (childIn o 1)) && factsWithin (orNone (childIn o 2)))
+pub two-within : (o : Option (List (List Fact))) (c d : List Fact)
+    → o ≡ some (c ∷ d ∷ [])
+    → childrenWithin (orNone o) ≡ (factsWithin (orNone (childIn o 1)) && factsWithin (orNone (childIn o 2)))
 unfolding childrenWithin
 two-within o c d e =
     subst (λ (p : Option (List (List Fact))). childrenWithin (orNone p) ≡ (factsWithin (orNone (childIn p 1)) && factsWithin (orNone (childIn p 2)))) (sym e)
@@ -60,16 +63,25 @@ scale-within (z ∷ e) = ap₂ (λ (n : ℕ) (t : Bool). leb n numberLimit && t)
 
 first-within : (v : ℤ) (cs : List ℤ) → allWithin numberLimit cs ≡ true → within numberLimit v ≡ factsWithin (arithmetic ge (v ∷ cs) ∷ [])
 unfolding factsWithin allWithin
-first-within v cs h = sym (and-true (within numberLimit v)) ∙ ap (λ t. within numberLimit v && t) (sym h) ∙ sym (and-true (within numberLimit v && allWithin numberLimit cs))
+first-within v cs h =
+    sym (and-true (within numberLimit v)) ∙ ap (λ t. within numberLimit v && t) (sym h) ∙ sym (and-true (within numberLimit v && allWithin numberLimit cs))
 
-pub above-within : (e : List ℤ) (v : ℤ) → length e ≡ 49 → allWithin numberLimit e ≡ true → v ≡ getD e 0 (pos 0) +ℤ negsuc 0 → within numberLimit v ≡ factsWithin (arithmetic ge (above e) ∷ [])
+pub above-within : (e : List ℤ) (v : ℤ)
+    → length e ≡ 49
+    → allWithin numberLimit e ≡ true
+    → v ≡ getD e 0 (pos 0) +ℤ negsuc 0
+    → within numberLimit v ≡ factsWithin (arithmetic ge (above e) ∷ [])
 unfolding allWithin
 above-within [] v l h q = absurd (omega arith)
 above-within (c ∷ cs) v l h q =
     first-within v cs (and-both (within numberLimit c) (allWithin numberLimit cs) h .1)
     ∙ ap (λ (r : List ℤ). factsWithin (arithmetic ge r ∷ [])) (ap (λ (z : ℤ). z ∷ cs) q ∙ sym (above-form c cs (omega arith)))
 
-pub below-within : (e : List ℤ) (v : ℤ) → length e ≡ 49 → allWithin numberLimit e ≡ true → v ≡ (negsuc 0 *ℤ getD e 0 (pos 0)) +ℤ negsuc 0 → within numberLimit v ≡ factsWithin (arithmetic ge (below e) ∷ [])
+pub below-within : (e : List ℤ) (v : ℤ)
+    → length e ≡ 49
+    → allWithin numberLimit e ≡ true
+    → v ≡ (negsuc 0 *ℤ getD e 0 (pos 0)) +ℤ negsuc 0
+    → within numberLimit v ≡ factsWithin (arithmetic ge (below e) ∷ [])
 unfolding allWithin
 below-within [] v l h q = absurd (omega arith)
 below-within (c ∷ cs) v l h q =
@@ -172,7 +184,8 @@ module _ {b : List ℕ} {s : Progress} {body m : ℕ} {w : List ℤ} {count : �
       let few = h .posed .stands .few-strings in
       let fewer = h .posed .stands .few-integers in
       let l : u16 b (body + 4) < s .p = below-first b (s .p) (body + 4) ((m - 4) / 2) (omega arith) (o .3) in
-      of _ (card-child h f e) (pairs-within (u16s b (body + 4) ((m - 4) / 2)) (lastChild (numbered s) (u16 b (body + 4)) ((m - 4) / 2)) ∙ last-within s (u16 b (body + 4)) ((m - 4) / 2) (omega arith) most)
+      of _ (card-child h f e) (pairs-within (u16s b (body + 4) ((m - 4) / 2)) (lastChild (numbered s) (u16 b (body + 4)) ((m - 4) / 2))
+      ∙ last-within s (u16 b (body + 4)) ((m - 4) / 2) (omega arith) most)
 
   module _ (r : Rule) (n : ruleNamed r ≡ rule b body) where
     -- L-Valid, C-Valid, C-Inj and Card
@@ -190,7 +203,13 @@ module _ {b : List ℕ} {s : Progress} {body m : ℕ} {w : List ℤ} {count : �
 -- ---- a child within the limits
 
 -- a child's facts are put behind those of the branch
-pub fine-added : (w v : List ℤ) (count r : ℕ) (c : List Fact) → Fine w count → length v ≡ length w → branchOf v r ≡ branchOf w count ++ c → length (branchOf w count) + length c ≤ factLimit → factsWithin c ≡ true → Fine v r
+pub fine-added : (w v : List ℤ) (count r : ℕ) (c : List Fact)
+    → Fine w count
+    → length v ≡ length w
+    → branchOf v r ≡ branchOf w count ++ c
+    → length (branchOf w count) + length c ≤ factLimit
+    → factsWithin c ≡ true
+    → Fine v r
 unfolding factsWithin
 fine-added w v count r c fine l e h t =
     let n : r ≡ length (branchOf w count) + length c = sym (length-branch v r) ∙ ap length e ∙ length-append (branchOf w count) c in

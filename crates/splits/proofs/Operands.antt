@@ -44,25 +44,33 @@ unfolding asked
 card-same b s br [] = refl
 card-same b s br (x ∷ []) = refl
 card-same b s br (x ∷ y ∷ xs) =
-    ap (λ t. guard (distinct (x ∷ y ∷ xs) && t) (pairChildren (x ∷ y ∷ xs) (lastChild (numbered s) x (length (x ∷ y ∷ xs))))) (neighbours-same b s br x (y ∷ xs))
+    ap (λ t. guard (distinct (x ∷ y ∷ xs) && t) (pairChildren (x ∷ y ∷ xs) (lastChild (numbered s) x (length (x ∷ y ∷ xs)))))
+    (neighbours-same b s br x (y ∷ xs))
 
 card-given : (s : Progress) (br : Branch) (b : List ℕ) (at m : ℕ) → 2 ≤ m → fits (cardChildren (numbered s) br (u16s b at m)) ≡ true
     → cardChildren (numbered s) br (u16s b at m) ≡ some (pairChildren (u16s b at m) (lastChild (numbered s) (u16 b at) m))
 card-given s br b at m h e =
     let q = card-children (numbered s) br b at m h in
-    q ∙ guard-given (distinct (u16s b at m) && neighbours (numbered s) br (u16 b at) (u16s b (at + 2) (m - 1))) (pairChildren (u16s b at m) (lastChild (numbered s) (u16 b at) m)) (sym (ap fits q) ∙ e)
+    q
+    ∙ guard-given (distinct (u16s b at m) && neighbours (numbered s) br (u16 b at) (u16s b (at + 2) (m - 1)))
+    (pairChildren (u16s b at m) (lastChild (numbered s) (u16 b at) m)) (sym (ap fits q) ∙ e)
 
 module _ {b : List ℕ} {s : Progress} {body m : ℕ} {w : List ℤ} {count : ℕ} (h : Ready b s body m w count) where
   -- Branch: the form
-  pub branch-operands : branch ≡ rule b body → (8 ≤ m) × (body + 4 + 4 + 6 * ((m - 8) / 6) ≤ length b) × (formRange b columnLimit (body + 4) ((m - 8) / 6) ≡ true)
+  pub branch-operands : branch ≡ rule b body
+      → (8 ≤ m) × (body + 4 + 4 + 6 * ((m - 8) / 6) ≤ length b) × (formRange b columnLimit (body + 4) ((m - 8) / 6) ≡ true)
   unfolding operandsInRange
   branch-operands e =
       let l : 8 ≤ m = long h branch e in
       let whole = h .formed .within in
       let few = h .posed .stands .few-strings in
       let fewer = h .posed .stands .few-integers in
-      let form = ranged h branch e in
-      (l, omega arith, ap₂ _&&_ (and-both (within numberLimit (i32 b (body + 4))) (rising (s .q + (s .p + s .p)) 0 (pairsAt b (body + 4 + 4) ((m - 8) / 6))) form .0) (form-rises b (s .q + (s .p + s .p)) (body + 4) ((m - 8) / 6) (omega arith) form))
+      let form = ranged h branch e in (
+        l,
+        omega arith,
+        ap₂ _&&_ (and-both (within numberLimit (i32 b (body + 4))) (rising (s .q + (s .p + s .p)) 0 (pairsAt b (body + 4 + 4) ((m - 8) / 6))) form .0)
+            (form-rises b (s .q + (s .p + s .p)) (body + 4) ((m - 8) / 6) (omega arith) form),
+      )
 
   -- Apart: the fact
   pub apart-operands : apart ≡ rule b body → body + 4 + 2 ≤ length b
@@ -80,7 +88,12 @@ module _ {b : List ℕ} {s : Progress} {body m : ℕ} {w : List ℤ} {count : �
       (omega arith, x, y)
 
   -- Card: the variables
-  pub card-operands : card ≡ rule b body → (2 ≤ (m - 4) / 2) × ((m - 4) / 2 ≤ 16) × (body + 4 + 2 * ((m - 4) / 2) ≤ length b) × (areVariables (s .p) (u16s b (body + 4) ((m - 4) / 2)) ≡ true) × (4 ≤ m)
+  pub card-operands : card ≡ rule b body
+      → (2 ≤ (m - 4) / 2)
+      × ((m - 4) / 2 ≤ 16)
+      × (body + 4 + 2 * ((m - 4) / 2) ≤ length b)
+      × (areVariables (s .p) (u16s b (body + 4) ((m - 4) / 2)) ≡ true)
+      × (4 ≤ m)
   unfolding operandsInRange
   card-operands e =
       let l : 8 ≤ m = long h card e in
@@ -117,18 +130,23 @@ module _ {b : List ℕ} {s : Progress} {body m : ℕ} {w : List ℤ} {count : �
     unfolding stepOf asked
     apart-child e = by apart e ∙ parted-is w count (u16 b (body + 4)) (apart-fact e .0) (apart-fact e .1)
 
-    differ : cInj ≡ rule b body → fits (guard (not (eqb (u16 b (body + 4)) (u16 b (body + 6)))) (cInjChildren (numbered s) (u16 b (body + 4)) (u16 b (body + 6)))) ≡ true
+    differ : cInj ≡ rule b body
+        → fits (guard (not (eqb (u16 b (body + 4)) (u16 b (body + 6)))) (cInjChildren (numbered s) (u16 b (body + 4)) (u16 b (body + 6)))) ≡ true
     unfolding stepOf asked
     differ e = fits-by-rule cInj e
 
     pub c-inj-differ : cInj ≡ rule b body → u16 b (body + 4) ≡ u16 b (body + 6) → ⊥
-    c-inj-differ e = eqb-false (u16 b (body + 4)) (u16 b (body + 6)) (not-true _ (sym (guard-fits (not (eqb (u16 b (body + 4)) (u16 b (body + 6)))) (cInjChildren (numbered s) (u16 b (body + 4)) (u16 b (body + 6)))) ∙ differ e))
+    c-inj-differ e =
+        eqb-false (u16 b (body + 4)) (u16 b (body + 6)) (not-true _
+        (sym (guard-fits (not (eqb (u16 b (body + 4)) (u16 b (body + 6)))) (cInjChildren (numbered s) (u16 b (body + 4)) (u16 b (body + 6)))) ∙ differ e))
 
     pub c-inj-child : cInj ≡ rule b body → given h ≡ some (cInjChildren (numbered s) (u16 b (body + 4)) (u16 b (body + 6)))
     unfolding stepOf asked
-    c-inj-child e = by cInj e ∙ guard-given (not (eqb (u16 b (body + 4)) (u16 b (body + 6)))) (cInjChildren (numbered s) (u16 b (body + 4)) (u16 b (body + 6))) (differ e)
+    c-inj-child e =
+        by cInj e ∙ guard-given (not (eqb (u16 b (body + 4)) (u16 b (body + 6)))) (cInjChildren (numbered s) (u16 b (body + 4)) (u16 b (body + 6))) (differ e)
 
-    pub card-child : card ≡ rule b body → given h ≡ some (pairChildren (u16s b (body + 4) ((m - 4) / 2)) (lastChild (numbered s) (u16 b (body + 4)) ((m - 4) / 2)))
+    pub card-child : card ≡ rule b body
+        → given h ≡ some (pairChildren (u16s b (body + 4) ((m - 4) / 2)) (lastChild (numbered s) (u16 b (body + 4)) ((m - 4) / 2)))
     unfolding stepOf asked
     card-child e =
         let q = by card e ∙ sym (card-same b s (before h) (u16s b (body + 4) ((m - 4) / 2))) in

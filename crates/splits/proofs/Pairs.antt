@@ -37,7 +37,10 @@ module _ (b : List ℕ) (i others : ℕ) (more : List (List Fact)) where
       ∙ with-here (u16 b i) (u16s b (i + 2) others) (pairChildren (u16s b (i + 2) others) more) j (rw (length-u16s b (i + 2) others) h)
       ∙ ap (λ y. same (u16 b i) y ∷ []) (u16s-at b (i + 2) others j h)
 
-  pub pair-there : (j : ℕ) → 0 < others → others ≤ j → getD (pairChildren (u16s b (i + 2) (others - 1 + 1)) more) (j - others) [] ≡ getD (pairChildren (u16s b i (others + 1)) more) j []
+  pub pair-there : (j : ℕ)
+      → 0 < others
+      → others ≤ j
+      → getD (pairChildren (u16s b (i + 2) (others - 1 + 1)) more) (j - others) [] ≡ getD (pairChildren (u16s b i (others + 1)) more) j []
   pair-there j some h =
       let e : others - 1 + 1 ≡ others = omega arith in
       ap (λ n. getD (pairChildren (u16s b (i + 2) n) more) (j - others) []) e

@@ -50,12 +50,18 @@ among-no b i left x h e = ap (among x) (u16s-more b i left h) ∙ ap (λ t. t ||
 pub distinct-no : (b : List ℕ) (i left : ℕ) → 0 < left → among (u16 b i) (u16s b (i + 2) (left - 1)) ≡ true → distinct (u16s b i left) ≡ false
 distinct-no b i left h e = ap distinct (u16s-more b i left h) ∙ ap (λ t. not t && distinct (u16s b (i + 2) (left - 1))) e
 
-pub distinct-yes : (b : List ℕ) (i left : ℕ) → 0 < left → among (u16 b i) (u16s b (i + 2) (left - 1)) ≡ false → distinct (u16s b i left) ≡ distinct (u16s b (i + 2) (left - 1))
+pub distinct-yes : (b : List ℕ) (i left : ℕ)
+    → 0 < left
+    → among (u16 b i) (u16s b (i + 2) (left - 1)) ≡ false
+    → distinct (u16s b i left) ≡ distinct (u16s b (i + 2) (left - 1))
 distinct-yes b i left h e = ap distinct (u16s-more b i left h) ∙ ap (λ t. not t && distinct (u16s b (i + 2) (left - 1))) e
 
-distinct-parts : (b : List ℕ) (i others : ℕ) → distinct (u16s b i (others + 1)) ≡ true → (among (u16 b i) (u16s b (i + 2) others) ≡ false) × (distinct (u16s b (i + 2) others) ≡ true)
+distinct-parts : (b : List ℕ) (i others : ℕ)
+    → distinct (u16s b i (others + 1)) ≡ true
+    → (among (u16 b i) (u16s b (i + 2) others) ≡ false) × (distinct (u16s b (i + 2) others) ≡ true)
 distinct-parts b i others e =
-    let (p, q) = and-both (not (among (u16 b i) (u16s b (i + 2) others))) (distinct (u16s b (i + 2) others)) (sym (ap distinct (u16s-one-more b i others)) ∙ e) in
+    let (p, q) =
+    and-both (not (among (u16 b i) (u16s b (i + 2) others))) (distinct (u16s b (i + 2) others)) (sym (ap distinct (u16s-one-more b i others)) ∙ e) in
     (not-true _ p, q)
 
 recount : (others : ℕ) → 0 < others → others - 1 + 1 ≡ others
@@ -72,7 +78,8 @@ neighbours-differ b i others h e q =
 -- ---- variables below p
 
 pub below-first : (b : List ℕ) (p i left : ℕ) → 0 < left → areVariables p (u16s b i left) ≡ true → u16 b i < p
-below-first b p i left h e = ltb-true (u16 b i) p (and-both (ltb (u16 b i) p) (areVariables p (u16s b (i + 2) (left - 1))) (sym (ap (areVariables p) (u16s-more b i left h)) ∙ e) .0)
+below-first b p i left h e =
+    ltb-true (u16 b i) p (and-both (ltb (u16 b i) p) (areVariables p (u16s b (i + 2) (left - 1))) (sym (ap (areVariables p) (u16s-more b i left h)) ∙ e) .0)
 
 pub below-others : (b : List ℕ) (p i left : ℕ) → 0 < left → areVariables p (u16s b i left) ≡ true → areVariables p (u16s b (i + 2) (left - 1)) ≡ true
 below-others b p i left h e = and-both (ltb (u16 b i) p) (areVariables p (u16s b (i + 2) (left - 1))) (sym (ap (areVariables p) (u16s-more b i left h)) ∙ e) .1
@@ -81,7 +88,9 @@ pub below-at : (b : List ℕ) (p i n j : ℕ) → j < n → areVariables p (u16s
 below-at b p i zero j h e = absurd (omega arith)
 below-at b p i (suc n) zero h e = let q : i + 2 * 0 ≡ i = omega arith in rw q (below-first b p i (suc n) (omega arith) e)
 below-at b p i (suc n) (suc j) h e =
-    let q : i + 2 * suc j ≡ i + 2 + 2 * j = omega arith in rw q (below-at b p (i + 2) n j (omega arith) (subst (λ l. areVariables p (u16s b (i + 2) l) ≡ true) (down n) (below-others b p i (suc n) (omega arith) e)))
+    let q : i + 2 * suc j ≡ i + 2 + 2 * j = omega arith in
+    rw q
+    (below-at b p (i + 2) n j (omega arith) (subst (λ l. areVariables p (u16s b (i + 2) l) ≡ true) (down n) (below-others b p i (suc n) (omega arith) e)))
 
 pub below-later : (b : List ℕ) (p i others j : ℕ) → j < others → areVariables p (u16s b i (others + 1)) ≡ true → u16 b (i + 2 + 2 * j) < p
 below-later b p i others j h e =
@@ -93,7 +102,10 @@ below-second b p i others h e =
     let q : i + 2 + 2 * 0 ≡ i + 2 = omega arith in
     subst (λ k. u16 b k < p) q (below-later b p i others 0 h e)
 
-pub below-rest : (b : List ℕ) (p i others : ℕ) → 0 < others → areVariables p (u16s b i (others + 1)) ≡ true → areVariables p (u16s b (i + 2) (others - 1 + 1)) ≡ true
+pub below-rest : (b : List ℕ) (p i others : ℕ)
+    → 0 < others
+    → areVariables p (u16s b i (others + 1)) ≡ true
+    → areVariables p (u16s b (i + 2) (others - 1 + 1)) ≡ true
 below-rest b p i others h e =
     let q : others + 1 - 1 ≡ others - 1 + 1 = omega arith in
     subst (λ n. areVariables p (u16s b (i + 2) n) ≡ true) q (below-others b p i (others + 1) (omega arith) e)
@@ -106,10 +118,16 @@ module _ (u : Question) (br : Branch) where
   states-same x y = refl
 
   neighbours-more : (b : List ℕ) (i others : ℕ) → 0 < others
-      → neighbours u br (u16 b i) (u16s b (i + 2) others) ≡ (statesEqual br (u .q + u16 b i) (u .q + u16 b (i + 2)) && neighbours u br (u16 b (i + 2)) (u16s b (i + 2 + 2) (others - 1)))
-  neighbours-more b i others h = ap (neighbours u br (u16 b i)) (u16s-more b (i + 2) others h) ∙ ap (λ t. t && neighbours u br (u16 b (i + 2)) (u16s b (i + 2 + 2) (others - 1))) (states-same (u16 b i) (u16 b (i + 2)))
+      → neighbours u br (u16 b i) (u16s b (i + 2) others)
+      ≡ (statesEqual br (u .q + u16 b i) (u .q + u16 b (i + 2)) && neighbours u br (u16 b (i + 2)) (u16s b (i + 2 + 2) (others - 1)))
+  neighbours-more b i others h =
+      ap (neighbours u br (u16 b i)) (u16s-more b (i + 2) others h)
+      ∙ ap (λ t. t && neighbours u br (u16 b (i + 2)) (u16s b (i + 2 + 2) (others - 1))) (states-same (u16 b i) (u16 b (i + 2)))
 
-  pub neighbours-no : (b : List ℕ) (i others : ℕ) → 0 < others → statesEqual br (u .q + u16 b i) (u .q + u16 b (i + 2)) ≡ false → neighbours u br (u16 b i) (u16s b (i + 2) others) ≡ false
+  pub neighbours-no : (b : List ℕ) (i others : ℕ)
+      → 0 < others
+      → statesEqual br (u .q + u16 b i) (u .q + u16 b (i + 2)) ≡ false
+      → neighbours u br (u16 b i) (u16s b (i + 2) others) ≡ false
   neighbours-no b i others h e = neighbours-more b i others h ∙ rw e
 
   pub neighbours-yes : (b : List ℕ) (i others : ℕ) → 0 < others → statesEqual br (u .q + u16 b i) (u .q + u16 b (i + 2)) ≡ true
@@ -121,10 +139,13 @@ module _ (u : Question) (br : Branch) where
 
   -- Card's children, of two variables or more
   pub card-children : (b : List ℕ) (at m : ℕ) → 2 ≤ m
-      → cardChildren u br (u16s b at m) ≡ guard (distinct (u16s b at m) && neighbours u br (u16 b at) (u16s b (at + 2) (m - 1))) (pairChildren (u16s b at m) (lastChild u (u16 b at) m))
+      → cardChildren u br (u16s b at m)
+      ≡ guard (distinct (u16s b at m) && neighbours u br (u16 b at) (u16s b (at + 2) (m - 1))) (pairChildren (u16s b at m) (lastChild u (u16 b at) m))
   unfolding u16s
   card-children b at zero h = absurd (omega arith)
   card-children b at (suc zero) h = absurd (omega arith)
   card-children b at (suc (suc m)) h =
       let e : suc (suc m) - 1 ≡ suc m = omega arith in
-      rw e (ap (λ n. guard (distinct (u16s b at (suc (suc m))) && neighbours u br (u16 b at) (u16s b (at + 2) (suc m))) (pairChildren (u16s b at (suc (suc m))) (lastChild u (u16 b at) n))) (length-u16s b at (suc (suc m))))
+      rw e (ap (λ n. guard (distinct (u16s b at (suc (suc m))) && neighbours u br (u16 b at) (u16s b (at + 2) (suc m)))
+      (pairChildren (u16s b at (suc (suc m))) (lastChild u (u16 b at) n)))
+      (length-u16s b at (suc (suc m))))

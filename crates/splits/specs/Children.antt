@@ -41,4 +41,5 @@ codeless len code = arithmetic ne (single (negsuc 0) len (pos 1)) ∷ arithmetic
 -- len(x) = 1, and code(x) is from low to high
 abbrev pub coded : ℕ → ℕ → ℕ → ℕ → List Fact
 coded len code low high =
-    arithmetic eq (single (negsuc 0) len (pos 1)) ∷ arithmetic ge (single (negℤ (pos low)) code (pos 1)) ∷ arithmetic ge (single (pos high) code (negsuc 0)) ∷ []
+    arithmetic eq (single (negsuc 0) len (pos 1)) ∷ arithmetic ge (single (negℤ (pos low)) code (pos 1)) ∷ arithmetic ge (single (pos high) code (negsuc 0))
+    ∷ []

@@ -12,7 +12,8 @@ use Rattle.lists.specs.Lists.{All}
 use Rattle.lists.proofs.Lists.{down}
 use Rattle.calculus.specs.Alphabet.{characterCount}
 use Rattle.calculus.specs.Steps.{pairCount, lastCount, shape}
-use Rattle.format.specs.StepForms.{Rule, sum, branch, apart, aConf, sConf, sProp, lIntro, lValid, cCollapse, cValid, cInj, card, join, unknown, formFor, fitsForm, rule, lengthFits, cardVariables, stepOf, stepAt, isChild}
+use Rattle.format.specs.StepForms.{Rule, sum, branch, apart, aConf, sConf, sProp, lIntro, lValid, cCollapse, cValid, cInj, card}
+use Rattle.format.specs.StepForms.{join, unknown, formFor, fitsForm, rule, lengthFits, cardVariables, stepOf, stepAt, isChild}
 use Rattle.format.proofs.Fields.{length-u16s}
 use Rattle.format.proofs.Faults.{not-both}
 use Rattle.format.proofs.Decoded.{at-least}

@@ -9,7 +9,8 @@ use lib.Dec.{leb}
 use borrow.Author.Tests.{leb-true}
 use Rattle.lists.proofs.Tests.{and-both}
 use Rattle.calculus.specs.Steps.{shape, pairCount}
-use Rattle.format.specs.StepForms.{Rule, sum, branch, apart, aConf, sConf, sProp, lIntro, lValid, cCollapse, cValid, cInj, card, join, unknown, formFor, fitsForm, rule, lengthFits, stepOf, stepAt, isChild}
+use Rattle.format.specs.StepForms.{Rule, sum, branch, apart, aConf, sConf, sProp, lIntro, lValid, cCollapse, cValid, cInj}
+use Rattle.format.specs.StepForms.{card, join, unknown, formFor, fitsForm, rule, lengthFits, stepOf, stepAt, isChild}
 use Rattle.format.proofs.Faults.{clash}
 use Rattle.format.proofs.Decoded.{at-least}
 use Rattle.steps.specs.Conclusions.{conclusionsOf}
@@ -87,6 +88,10 @@ child-between (c ∷ sh) k h e =
     let (l, g) = and-both (leb 1 k) (leb k (suc (length sh))) e in (leb-true 1 k l, leb-true k (suc (length sh)) g)
 
 -- "it is 1 for a rule with one conclusion or none"
-pub only-child : (b : List ℕ) (n body m k : ℕ) → lengthFits b body m ≡ true → conclusionsOf (rule b body) ≡ One → isChild (shape n (stepAt b body m)) k ≡ true → k ≡ 1
+pub only-child : (b : List ℕ) (n body m k : ℕ)
+    → lengthFits b body m ≡ true
+    → conclusionsOf (rule b body) ≡ One
+    → isChild (shape n (stepAt b body m)) k ≡ true
+    → k ≡ 1
 only-child b n body m k f e h =
     let (l, g) = child-between (1 ∷ []) k (omega arith) (ap (λ sh. isChild sh k) (sym (one-child b n body m f e)) ∙ h) in omega arith

@@ -18,7 +18,10 @@ module _ (b : List ℕ) (at : ℕ) where
   unfolding multipliersWithin pairsAt
   multipliers-done k h = along-done (λ t. within numberLimit (t .1)) (λ i. i + 6) (pairAt b) at k h
 
-  pub multipliers-yes : (k : ℕ) → 0 < k → within numberLimit (i32 b (at + 2)) ≡ true → multipliersWithin (pairsAt b at k) ≡ multipliersWithin (pairsAt b (at + 6) (k - 1))
+  pub multipliers-yes : (k : ℕ)
+      → 0 < k
+      → within numberLimit (i32 b (at + 2)) ≡ true
+      → multipliersWithin (pairsAt b at k) ≡ multipliersWithin (pairsAt b (at + 6) (k - 1))
   unfolding multipliersWithin pairsAt
   multipliers-yes k h e = along-on (λ t. within numberLimit (t .1)) (λ i. i + 6) (pairAt b) at k h e
 

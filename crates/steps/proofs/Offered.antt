@@ -90,7 +90,10 @@ module _ (o : Option (List (List Fact))) (k : ℕ) (e : fits (childIn o k) ≡ t
       let cs : List (List Fact) = orNone o in
       let its = fitted o step-fits in
       let (l, h) = number-of cs its in
-      ap (λ (s : List ℕ). getD s (k - 1) 0) (sym q) ∙ getD-map length cs (k - 1) [] 0 (omega arith) ∙ sym (ap length (child-at cs k l)) ∙ sym (ap (λ (p : Option (List (List Fact))). length (orNone (childIn p k))) its)
+      ap (λ (s : List ℕ). getD s (k - 1) 0) (sym q)
+      ∙ getD-map length cs (k - 1) [] 0 (omega arith)
+      ∙ sym (ap length (child-at cs k l))
+      ∙ sym (ap (λ (p : Option (List (List Fact))). length (orNone (childIn p k))) its)
 
 -- what holds of the numbers of all holds of its own
 pub child-in-within : (o : Option (List (List Fact))) (k : ℕ) → childrenWithin (orNone o) ≡ true → factsWithin (orNone (childIn o k)) ≡ true
@@ -101,7 +104,9 @@ child-in-within (some []) (suc j) e = refl
 child-in-within (some (c ∷ cs)) (suc zero) e = and-both (factsWithin c) (childrenWithin cs) e .0
 child-in-within (some (c ∷ cs)) (suc (suc j)) e = child-in-within (some cs) (suc j) (and-both (factsWithin c) (childrenWithin cs) e .1)
 
-pub its-shape : {b : List ℕ} {s : Progress} {body m : ℕ} {w : List ℤ} {count : ℕ} (h : Ready b s body m w count) → fits (given h) ≡ true → map length (orNone (given h)) ≡ shape (s .n) (stepAt b body m)
+pub its-shape : {b : List ℕ} {s : Progress} {body m : ℕ} {w : List ℤ} {count : ℕ} (h : Ready b s body m w count)
+    → fits (given h) ≡ true
+    → map length (orNone (given h)) ≡ shape (s .n) (stepAt b body m)
 unfolding asked offered
 its-shape {b} {s} {body} {m} h e = children-shape (asked b s) (before h) (stepAt b body m) _ (fitted (given h) e)
 

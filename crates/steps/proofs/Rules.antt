@@ -53,15 +53,46 @@ by-number t other named k = go (decLt k 14)
     go (no n) = ap (t k) (unnamed k (omega arith)) ∙ →true _ (other k)
 
 -- a number that is none of theirs
-pub unnamed-left : (k : ℕ) → (k ≡ 1 → ⊥) → (k ≡ 2 → ⊥) → (k ≡ 3 → ⊥) → (k ≡ 4 → ⊥) → (k ≡ 5 → ⊥) → (k ≡ 6 → ⊥) → (k ≡ 7 → ⊥) → (k ≡ 8 → ⊥) → (k ≡ 9 → ⊥) → (k ≡ 10 → ⊥) → (k ≡ 11 → ⊥) → (k ≡ 12 → ⊥) → (k ≡ 13 → ⊥)
+pub unnamed-left : (k : ℕ)
+    → (k ≡ 1 → ⊥)
+    → (k ≡ 2 → ⊥)
+    → (k ≡ 3 → ⊥)
+    → (k ≡ 4 → ⊥)
+    → (k ≡ 5 → ⊥)
+    → (k ≡ 6 → ⊥)
+    → (k ≡ 7 → ⊥)
+    → (k ≡ 8 → ⊥)
+    → (k ≡ 9 → ⊥)
+    → (k ≡ 10 → ⊥)
+    → (k ≡ 11 → ⊥)
+    → (k ≡ 12 → ⊥)
+    → (k ≡ 13 → ⊥)
     → format.unknown ≡ ruleOf k
 unnamed-left k n1 n2 n3 n4 n5 n6 n7 n8 n9 n10 n11 n12 n13 =
     let t =
     by-number
-    (λ k r. isUnknown r || (eqb k 1 || (eqb k 2 || (eqb k 3 || (eqb k 4 || (eqb k 5 || (eqb k 6 || (eqb k 7 || (eqb k 8 || (eqb k 9 || (eqb k 10 || (eqb k 11 || (eqb k 12 || eqb k 13)))))))))))))
+    (λ k r. isUnknown r
+    || (eqb k 1
+    || (eqb k 2
+    || (eqb k 3 || (eqb k 4 || (eqb k 5 || (eqb k 6 || (eqb k 7 || (eqb k 8 || (eqb k 9 || (eqb k 10 || (eqb k 11 || (eqb k 12 || eqb k 13)))))))))))))
     (λ k. tt) tt k in
     go (ruleOf k)
-    (rw (ne-eqb k 1 n1, ne-eqb k 2 n2, ne-eqb k 3 n3, ne-eqb k 4 n4, ne-eqb k 5 n5, ne-eqb k 6 n6, ne-eqb k 7 n7, ne-eqb k 8 n8, ne-eqb k 9 n9, ne-eqb k 10 n10, ne-eqb k 11 n11, ne-eqb k 12 n12, ne-eqb k 13 n13) at t)
+    (rw (
+      ne-eqb k 1 n1,
+      ne-eqb k 2 n2,
+      ne-eqb k 3 n3,
+      ne-eqb k 4 n4,
+      ne-eqb k 5 n5,
+      ne-eqb k 6 n6,
+      ne-eqb k 7 n7,
+      ne-eqb k 8 n8,
+      ne-eqb k 9 n9,
+      ne-eqb k 10 n10,
+      ne-eqb k 11 n11,
+      ne-eqb k 12 n12,
+      ne-eqb k 13 n13,
+    )
+    at t)
   where
     go : (r : format.Rule) → (isUnknown r || false) ≡ true → format.unknown ≡ r
     go format.sum e = absurd (not-both false e refl)
@@ -136,17 +167,26 @@ several One = false
 several Several = true
 
 -- arms of rules with another number of conclusions are not taken
-other-arm : (is : Conclusions → Bool) (c : Conclusions) → is c ≡ true → (ks : List ℕ) (r : Rule) → T (all (λ k. not (is (conclusionsOf (ruleNamed (named k))))) ks)
+other-arm : (is : Conclusions → Bool) (c : Conclusions)
+    → is c ≡ true
+    → (ks : List ℕ) (r : Rule)
+    → T (all (λ k. not (is (conclusionsOf (ruleNamed (named k))))) ks)
     → OneOf ks (tagOf the-type r) → conclusionsOf (ruleNamed r) ≡ c → ⊥
 other-arm is c e ks r h o q =
     not-both (is (conclusionsOf (ruleNamed r))) (ap is q ∙ e) (not-true _ (passes (λ r. not (is (conclusionsOf (ruleNamed r)))) ks r h o))
 
 module _ (ks : List ℕ) (r : Rule) where
-  pub not-closing : T (all (λ k. not (nothing (conclusionsOf (ruleNamed (named k))))) ks) → OneOf ks (tagOf the-type r) → conclusionsOf (ruleNamed r) ≡ Nothing → ⊥
+  pub not-closing : T (all (λ k. not (nothing (conclusionsOf (ruleNamed (named k))))) ks)
+      → OneOf ks (tagOf the-type r)
+      → conclusionsOf (ruleNamed r) ≡ Nothing
+      → ⊥
   not-closing h o = other-arm nothing Nothing refl ks r h o
 
   pub not-one : T (all (λ k. not (one (conclusionsOf (ruleNamed (named k))))) ks) → OneOf ks (tagOf the-type r) → conclusionsOf (ruleNamed r) ≡ One → ⊥
   not-one h o = other-arm one One refl ks r h o
 
-  pub not-several : T (all (λ k. not (several (conclusionsOf (ruleNamed (named k))))) ks) → OneOf ks (tagOf the-type r) → conclusionsOf (ruleNamed r) ≡ Several → ⊥
+  pub not-several : T (all (λ k. not (several (conclusionsOf (ruleNamed (named k))))) ks)
+      → OneOf ks (tagOf the-type r)
+      → conclusionsOf (ruleNamed r) ≡ Several
+      → ⊥
   not-several h o = other-arm several Several refl ks r h o

@@ -10,7 +10,8 @@ use borrow.Author.Tests.{leb-true}
 use Rattle.lists.proofs.Lists.{getD-map}
 use Rattle.lists.proofs.Tests.{and-both}
 use Rattle.format.specs.StepForms as format
-use Rattle.format.specs.StepForms.{Rule, sum, branch, apart, aConf, sConf, sProp, lIntro, lValid, cCollapse, cValid, cInj, card, join, unknown, ruleNames, ruleOf, formFor, fitsForm, rule, lengthFits}
+use Rattle.format.specs.StepForms.{Rule, sum, branch, apart, aConf, sConf, sProp, lIntro, lValid, cCollapse, cValid}
+use Rattle.format.specs.StepForms.{cInj, card, join, unknown, ruleNames, ruleOf, formFor, fitsForm, rule, lengthFits}
 use Rattle.steps.specs.Forms.{stepForm}
 use Rattle.steps.specs.declared.Form.{Form}
 

@@ -52,7 +52,8 @@ module _ (characters sizes : List ℕ) where
   in-given→ zero w i = absurd i
   in-given→ (suc p) w i = go (in-before→ (stringIn characters sizes p) (givenStrings characters sizes p) w i) (in-given→ p w)
     where
-      go : (stringIn characters sizes p ≡ some w) ⊎ In w (givenStrings characters sizes p) → (In w (givenStrings characters sizes p) → (y : ℕ) × (y < p) × (stringIn characters sizes y ≡ some w))
+      go : (stringIn characters sizes p ≡ some w) ⊎ In w (givenStrings characters sizes p)
+          → (In w (givenStrings characters sizes p) → (y : ℕ) × (y < p) × (stringIn characters sizes y ≡ some w))
           → (y : ℕ) × (y < suc p) × (stringIn characters sizes y ≡ some w)
       go (inl e) ih = (p, omega arith, e)
       go (inr j) ih = let (y, h, e) = ih j in (y, omega arith, e)
@@ -62,7 +63,9 @@ module _ (characters sizes : List ℕ) where
   →in-given zero y w h e = absurd (omega arith)
   →in-given (suc p) y w h e = →in-before (stringIn characters sizes p) (givenStrings characters sizes p) w (go (ℕ-discrete y p) (→in-given p y w))
     where
-      go : Dec (y ≡ p) → (y < p → stringIn characters sizes y ≡ some w → In w (givenStrings characters sizes p)) → (stringIn characters sizes p ≡ some w) ⊎ In w (givenStrings characters sizes p)
+      go : Dec (y ≡ p)
+          → (y < p → stringIn characters sizes y ≡ some w → In w (givenStrings characters sizes p))
+          → (stringIn characters sizes p ≡ some w) ⊎ In w (givenStrings characters sizes p)
       go (yes k) ih = inl (ap (stringIn characters sizes) (sym k) ∙ e)
       go (no k) ih = inr (ih (omega arith) e)
 
@@ -78,7 +81,10 @@ module _ (u : Question) (b : Branch) (m : List ℤ) where
   before-x x = fixedStrings u b m (u .p) ++ stringsTo u b m x
 
   -- before the third round
-  pub round-start : (ls characters sizes : List ℕ) → ls ≡ labels b → ((y : ℕ) → y < u .p → stringIn characters sizes y ≡ fixedAt u ls m y) → Filled characters sizes 0
+  pub round-start : (ls characters sizes : List ℕ)
+      → ls ≡ labels b
+      → ((y : ℕ) → y < u .p → stringIn characters sizes y ≡ fixedAt u ls m y)
+      → Filled characters sizes 0
   round-start ls characters sizes e h = record {
     passed = λ y g. absurd (no-number y g);
     ahead = λ y g k. h y k ∙ ap (λ (l : List ℕ). fixedAt u l m y) e;
@@ -104,7 +110,9 @@ module _ (u : Question) (b : Branch) (m : List ℤ) where
         there (y, g, e) = go (decLt y x)
           where
             go : Dec (y < x) → In w (before-x x)
-            go (yes k) = in-right w (fixedStrings u b m (u .p)) (stringsTo u b m x) (subst (λ s. In s (stringsTo u b m x)) (some-injective (sym (f .passed y k) ∙ e)) (→in-strings u b m x y k))
+            go (yes k) =
+                in-right w (fixedStrings u b m (u .p)) (stringsTo u b m x)
+                (subst (λ s. In s (stringsTo u b m x)) (some-injective (sym (f .passed y k) ∙ e)) (→in-strings u b m x y k))
             go (no k) = in-left w (fixedStrings u b m (u .p)) (stringsTo u b m x) (→in-fixed u b m (u .p) y w g (sym (f .ahead y (omega arith) g) ∙ e))
 
         from-fixed : (y : ℕ) → y < u .p → fixedString u b m y ≡ some w → Dec (y < x) → stringIn characters sizes y ≡ some w
@@ -138,7 +146,9 @@ module _ (u : Question) (b : Branch) (m : List ℤ) where
     round-more size s n short inside room e = record {
       passed = stored-passed characters sizes x size s (omega arith) (λ _. omega arith) (omega arith) (omega arith) (λ y. some (S u b m y)) (f .passed)
           (sized-some size s short ∙ ap some (take-all size s (omega arith) ∙ e));
-      ahead = λ y g k. stored-there characters sizes x size s (omega arith) (λ _. omega arith) (omega arith) (omega arith) y (λ q. omega arith) (omega arith) ∙ f .ahead y (omega arith) k;
+      ahead =
+          λ y g k. stored-there characters sizes x size s (omega arith) (λ _. omega arith) (omega arith) (omega arith) y (λ q. omega arith) (omega arith)
+          ∙ f .ahead y (omega arith) k;
     }
 
 -- ---- the whole table
@@ -170,4 +180,5 @@ sizes-more sizes x size inside h l y k = go (ℕ-discrete y x)
     go (no n) = omega (arith, getD-set-other sizes x y size 0 n, h y (omega arith))
 
 pub short-length : (u : Question) (m : List ℤ) (x : ℕ) → shortLengths u m ≡ true → x < u .p → natAbs (modelValue u m len x) ≤ lengthLimit
-short-length u m x e h = leb→le (natAbs (modelValue u m len x)) lengthLimit (all-below→ (u .p) (λ y. leb (natAbs (modelValue u m len y)) lengthLimit) (true→ e) x h)
+short-length u m x e h =
+    leb→le (natAbs (modelValue u m len x)) lengthLimit (all-below→ (u .p) (λ y. leb (natAbs (modelValue u m len y)) lengthLimit) (true→ e) x h)

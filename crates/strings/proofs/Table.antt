@@ -12,7 +12,8 @@ use mathlib.Core.List.{List, [], _∷_, _++_, append-assoc}
 use borrow.Author.Tests.{le-leb, lt-leb, leb-true, leb-false, lt-ltb, le-ltb}
 use lib.Dec.{leb, ltb}
 use lib.ListN.{length, getD, take, drop, set, length-drop, take-append-drop}
-use lib.Seq.{sets, sets-eq, length-sets, take-suc, length-take-le, take-append-le, drop-at, drop-drop, ext-getD, getD-take, getD-drop, getD-set-same, getD-set-other}
+use lib.Seq.{sets, sets-eq, length-sets, take-suc, length-take-le, take-append-le, drop-at}
+use lib.Seq.{drop-drop, ext-getD, getD-take, getD-drop, getD-set-same, getD-set-other}
 use lib.IntN.{ℤ, pos}
 use Rattle.answer.proofs.Written.{length-row}
 use Rattle.lists.proofs.Options.{none-some, some-injective}
@@ -86,7 +87,8 @@ ahead (x ∷ w) b at i l = ahead w (set b at x) (suc at) i (omega arith) ∙ get
 row-put : (b s : List ℕ) (x k : ℕ) → k ≤ length s → lengthLimit * x + length s ≤ length b → row (sets b (lengthLimit * x) s) x k ≡ take k s
 row-put b s x k h r =
     let n : length (take (lengthLimit * x) b) ≡ lengthLimit * x = length-take-le (lengthLimit * x) b (omega arith) in
-    ap (λ (l : List ℕ). take k (drop (lengthLimit * x) l)) (sets-eq s b (lengthLimit * x) r ∙ append-assoc (take (lengthLimit * x) b) s (drop (lengthLimit * x + length s) b))
+    ap (λ (l : List ℕ). take k (drop (lengthLimit * x) l))
+    (sets-eq s b (lengthLimit * x) r ∙ append-assoc (take (lengthLimit * x) b) s (drop (lengthLimit * x + length s) b))
     ∙ ap (λ (l : List ℕ). take k l) (drop-at (take (lengthLimit * x) b) (s ++ drop (lengthLimit * x + length s) b) (lengthLimit * x) n)
     ∙ take-append-le k s (drop (lengthLimit * x + length s) b) h
 
@@ -95,10 +97,15 @@ row-kept : (b s : List ℕ) (x y k : ℕ) → length s ≤ lengthLimit → x ≢
     → row (sets b (lengthLimit * x) s) y k ≡ row b y k
 row-kept b s x y k h ne l r =
     let n : length (row b y k) ≡ k = length-take-le k (drop (lengthLimit * y) b) (rw length-drop (omega arith)) in
-    let m : length (row (sets b (lengthLimit * x) s) y k) ≡ k = length-take-le k (drop (lengthLimit * y) (sets b (lengthLimit * x) s)) (rw (length-drop (lengthLimit * y) (sets b (lengthLimit * x) s), length-sets b (lengthLimit * x) s) (omega arith)) in
+    let m : length (row (sets b (lengthLimit * x) s) y k) ≡ k =
+    length-take-le k (drop (lengthLimit * y) (sets b (lengthLimit * x) s))
+    (rw (length-drop (lengthLimit * y) (sets b (lengthLimit * x) s), length-sets b (lengthLimit * x) s) (omega arith)) in
     ext-getD 0 (row (sets b (lengthLimit * x) s) y k) (row b y k) (m ∙ sym n) (λ i d. at i (rw m at d))
   where
-    place : (i : ℕ) → i < lengthLimit → Dec (lengthLimit * y + i < lengthLimit * x) → getD (sets b (lengthLimit * x) s) (lengthLimit * y + i) 0 ≡ getD b (lengthLimit * y + i) 0
+    place : (i : ℕ)
+        → i < lengthLimit
+        → Dec (lengthLimit * y + i < lengthLimit * x)
+        → getD (sets b (lengthLimit * x) s) (lengthLimit * y + i) 0 ≡ getD b (lengthLimit * y + i) 0
     place i d (yes q) = ahead s b (lengthLimit * x) (lengthLimit * y + i) q
     place i d (no q) = behind s b (lengthLimit * x) (lengthLimit * y + i) (omega arith)
 
@@ -128,7 +135,8 @@ part-stored b v at k n h =
 
 -- ---- the row of a variable becomes v, with the size of its string, past 64 for none
 
-module _ (characters sizes : List ℕ) (x size : ℕ) (v : List ℕ) (short : length v ≤ lengthLimit) (long : size ≤ lengthLimit → size ≤ length v) (inside : x < length sizes)
+module _ (characters sizes : List ℕ) (x size : ℕ) (v : List ℕ) (short : length v ≤ lengthLimit) (long : size ≤ lengthLimit → size ≤ length v)
+    (inside : x < length sizes)
     (room : lengthLimit * x + lengthLimit ≤ length characters) where
   abbrev stored : List ℕ
   stored = sets characters (lengthLimit * x) v
@@ -183,7 +191,10 @@ module _ (characters sizes w : List ℕ) where
   unfolding givenStrings
   given-none = refl
 
-  pub given-more : (y : ℕ) → given w (givenStrings characters sizes y) ≡ false → isIt (stringIn characters sizes y) w ≡ false → given w (givenStrings characters sizes (y + 1)) ≡ false
+  pub given-more : (y : ℕ)
+      → given w (givenStrings characters sizes y) ≡ false
+      → isIt (stringIn characters sizes y) w ≡ false
+      → given w (givenStrings characters sizes (y + 1)) ≡ false
   given-more y e f = ap (λ (k : ℕ). given w (givenStrings characters sizes k)) (add-one y) ∙ given-turn y ∙ ap₂ _||_ f e
 
   pub given-yes : (p y : ℕ) → y < p → isIt (stringIn characters sizes y) w ≡ true → given w (givenStrings characters sizes p) ≡ true
@@ -213,11 +224,15 @@ module _ (n p : ℕ) (ls : List ℕ) (l : ℕ) (characters sizes : List ℕ) (x 
   unfolding completed
   completed-own s e = ap (λ (o : Option (List ℕ)). third o (ltb (lowestVariable ls x) x)) e
 
-  pub completed-copied : stringIn characters sizes x ≡ none → lowestVariable ls x < x → completed n p ls l characters sizes x ≡ row characters (lowestVariable ls x) (getD sizes (lowestVariable ls x) 0)
+  pub completed-copied : stringIn characters sizes x ≡ none
+      → lowestVariable ls x < x
+      → completed n p ls l characters sizes x ≡ row characters (lowestVariable ls x) (getD sizes (lowestVariable ls x) 0)
   unfolding completed
   completed-copied e h = ap₂ third e (lt-ltb (lowestVariable ls x) x h)
 
-  pub completed-fresh : stringIn characters sizes x ≡ none → x ≤ lowestVariable ls x → completed n p ls l characters sizes x ≡ freshFrom p n l (givenStrings characters sizes p) 0
+  pub completed-fresh : stringIn characters sizes x ≡ none
+      → x ≤ lowestVariable ls x
+      → completed n p ls l characters sizes x ≡ freshFrom p n l (givenStrings characters sizes p) 0
   unfolding completed
   completed-fresh e h = ap₂ third e (le-ltb (lowestVariable ls x) x h)
 

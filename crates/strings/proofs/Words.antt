@@ -29,7 +29,8 @@ module _ (n : ℕ) (p : 1 ≤ n) where
   first m k = ap (λ z. k / z) (pow-succ' n m) ∙ sym (div-div-eq-div-mul k n (n ^ m))
 
   behind : (m k : ℕ) → word n (suc m) (k % n ^ suc m) ≡ word n m (k / n % n ^ m) ++ (k % n ∷ [])
-  behind zero k = ap (λ c. c ∷ []) (ap (λ z. k % n ^ 1 / z) (pow-zero n) ∙ div-one (k % n ^ 1) ∙ ap (λ z. k % z) (pow-succ' n 0 ∙ ap (λ z. n * z) (pow-zero n) ∙ mul-one n))
+  behind zero k =
+      ap (λ c. c ∷ []) (ap (λ z. k % n ^ 1 / z) (pow-zero n) ∙ div-one (k % n ^ 1) ∙ ap (λ z. k % z) (pow-succ' n 0 ∙ ap (λ z. n * z) (pow-zero n) ∙ mul-one n))
   behind (suc m) k =
       let j = k % n ^ suc (suc m) in
       ap₂ _∷_ (first m j ∙ ap (λ z. z / n ^ m) (high (suc m) k))
@@ -62,7 +63,8 @@ digit n m k (suc zero) rest out p z h r e = absurd (omega arith)
 digit n m k (suc (suc j)) rest out p z h r e =
     ap (λ (i : ℕ). word n i (rest / n) ++ drop i (take m (set out i (rest % n)))) (down (suc j))
     ∙ ap (λ (l : List ℕ). word n (suc j) (rest / n) ++ l) (filled-left out m (suc j) (rest % n) (omega arith) r)
-    ∙ sym (ap (λ (l : List ℕ). l ++ drop (suc (suc j)) (take m out)) (word-snoc n p j rest) ∙ append-assoc (word n (suc j) (rest / n)) (rest % n ∷ []) (drop (suc (suc j)) (take m out)))
+    ∙ sym (ap (λ (l : List ℕ). l ++ drop (suc (suc j)) (take m out)) (word-snoc n p j rest)
+    ∙ append-assoc (word n (suc j) (rest / n)) (rest % n ∷ []) (drop (suc (suc j)) (take m out)))
     ∙ e
 
 -- the first character

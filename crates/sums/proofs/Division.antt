@@ -80,7 +80,11 @@ partly-constant (x ∷ []) n h = absurd (omega arith)
 partly-constant (x ∷ c ∷ cs) n h = refl
 
 -- then the constant too
-pub partly-whole : (row : List ℤ) (n : ℕ) (q : ℤ) → length row ≡ 50 → getD row 0 (pos 0) ≡ pos 0 → q ≡ floorDiv (getD row 1 (pos 0)) n → set (partly row n) 1 q ≡ quotients row n
+pub partly-whole : (row : List ℤ) (n : ℕ) (q : ℤ)
+    → length row ≡ 50
+    → getD row 0 (pos 0) ≡ pos 0
+    → q ≡ floorDiv (getD row 1 (pos 0)) n
+    → set (partly row n) 1 q ≡ quotients row n
 partly-whole [] n q h t e = absurd (omega arith)
 partly-whole (x ∷ []) n q h t e = absurd (omega arith)
 partly-whole (x ∷ c ∷ cs) n q h t e = ap₂ (λ y z. y ∷ z ∷ floorDivAll cs n) t e
@@ -102,7 +106,11 @@ divided-no [] n h e = absurd (omega arith)
 divided-no (x ∷ []) n h e = absurd (omega arith)
 divided-no (x ∷ c ∷ cs) n h e = ap (λ t. guard t (floorDiv c n ∷ floorDivAll cs n)) (ap (λ t. leb 1 n && t) e ∙ and-false (leb 1 n))
 
-pub divided-yes : (row : List ℤ) (n : ℕ) → 1 ≤ n → length row ≡ 50 → eqIntegers (drop 2 (multiples row n)) (drop 2 row) ≡ true → divided n (drop 1 row) ≡ some (drop 1 (quotients row n))
+pub divided-yes : (row : List ℤ) (n : ℕ)
+    → 1 ≤ n
+    → length row ≡ 50
+    → eqIntegers (drop 2 (multiples row n)) (drop 2 row) ≡ true
+    → divided n (drop 1 row) ≡ some (drop 1 (quotients row n))
 divided-yes [] n d h e = absurd (omega arith)
 divided-yes (x ∷ []) n d h e = absurd (omega arith)
 divided-yes (x ∷ c ∷ cs) n d h e = ap (λ t. guard t (floorDiv c n ∷ floorDivAll cs n)) (ap₂ _&&_ (le-leb 1 n d) e)

@@ -63,12 +63,15 @@ module _ (w : List ℤ) (count : ℕ) (b : List ℕ) (at n : ℕ) where
 
     split : (within numberLimit multiplier ≡ true) × (multipliersWithin (pairsAt b (at + 6 * (i + 1)) (n - (i + 1))) ≡ true)
     unfolding multipliersWithin
-    split = and-both (within numberLimit multiplier) (multipliersWithin (pairsAt b (at + 6 * (i + 1)) (n - (i + 1)))) (ap multipliersWithin (sym (next-pair b at n i h)) ∙ s .multipliers)
+    split =
+        and-both (within numberLimit multiplier) (multipliersWithin (pairsAt b (at + 6 * (i + 1)) (n - (i + 1))))
+        (ap multipliersWithin (sym (next-pair b at n i h)) ∙ s .multipliers)
 
     pub multiplier-small : natAbs multiplier ≤ numberLimit
     multiplier-small = leb-true (natAbs multiplier) numberLimit (split .0)
 
-    next : sumFrom (branchOf w count) (zeros 49) (pairsAt b at n) ≡ sumFrom (branchOf w count) (drop 1 sum) ((fact, multiplier) ∷ pairsAt b (at + 6 * (i + 1)) (n - (i + 1)))
+    next : sumFrom (branchOf w count) (zeros 49) (pairsAt b at n)
+        ≡ sumFrom (branchOf w count) (drop 1 sum) ((fact, multiplier) ∷ pairsAt b (at + 6 * (i + 1)) (n - (i + 1)))
     next = sym (s .left) ∙ ap (sumFrom (branchOf w count) (drop 1 sum)) (next-pair b at n i h)
 
     -- it names a fact that is not on the branch
@@ -96,7 +99,9 @@ module _ (w : List ℤ) (count : ℕ) (b : List ℕ) (at n : ℕ) where
               bound = omega arith;
               long = length-added sum multiplier row (s .long) l;
               tag = sym (same-first sum (added sum multiplier row) (added-first sum multiplier row (s .long))) ∙ s .tag;
-              small = subst (λ k. Within k (added sum multiplier row)) e (added-within (i * 1000000000000000000) sum multiplier row (s .long) (s .small) multiplier-small row-small);
+              small =
+                  subst (λ k. Within k (added sum multiplier row)) e
+                  (added-within (i * 1000000000000000000) sum multiplier row (s .long) (s .small) multiplier-small row-small);
               multipliers = split .1;
               left =
                   ap (λ (a : List ℤ). sumFrom (branchOf w count) a (pairsAt b (at + 6 * (i + 1)) (n - (i + 1)))) (added-form sum multiplier row (s .long))
@@ -115,4 +120,6 @@ module _ (w : List ℤ) (count : ℕ) (b : List ℕ) (at n : ℕ) where
       go : (k : ℕ) → 1 ≤ k → sumFrom (branchOf w count) (zeros 49) (pairsAt b at k) ≡ sumOf (branchOf w count) (pairsAt b at k)
       go zero g = absurd (omega arith)
       go (suc k) g = let few = fine .few in let room = fine .room in
-          ap (sumFrom (branchOf w count) (zeros 49)) (first-pair b at k) ∙ from-zeros w count (omega arith) (u16 b at, i32 b (at + 2)) (pairsAt b (at + 6) k) ∙ ap (sumOf (branchOf w count)) (sym (first-pair b at k))
+          ap (sumFrom (branchOf w count) (zeros 49)) (first-pair b at k)
+          ∙ from-zeros w count (omega arith) (u16 b at, i32 b (at + 2)) (pairsAt b (at + 6) k)
+          ∙ ap (sumOf (branchOf w count)) (sym (first-pair b at k))

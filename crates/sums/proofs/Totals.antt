@@ -91,7 +91,9 @@ from-is : (b : Branch) (acc : List ℤ) (ts : List (ℕ × ℤ)) → sumFrom b a
 unfolding sumFrom
 from-is b acc [] = ap some (sym (plus-none acc))
 from-is b acc (t ∷ ts) =
-    then-same (getElem? b (t .0)) _ _ (λ f p. then-same (summand (t .1) f) _ _ (λ e q. from-is b (plus acc e) ts ∙ then-same (sumOf b ts) _ _ (λ r s. ap some (plus-assoc acc e r)) ∙ sym (then-then (sumOf b ts) _ _)) ∙ sym (then-then (summand (t .1) f) _ _))
+    then-same (getElem? b (t .0)) _ _ (λ f p. then-same (summand (t .1) f) _ _
+    (λ e q. from-is b (plus acc e) ts ∙ then-same (sumOf b ts) _ _ (λ r s. ap some (plus-assoc acc e r)) ∙ sym (then-then (sumOf b ts) _ _))
+    ∙ sym (then-then (summand (t .1) f) _ _))
     ∙ sym (then-then (getElem? b (t .0)) _ _)
 
 -- ---- whole forms
@@ -141,7 +143,8 @@ module _ (w : List ℤ) (count : ℕ) (room : rowLength * count ≤ length w) wh
   pub from-zeros : (t : ℕ × ℤ) (ts : List (ℕ × ℤ)) → sumFrom (branchOf w count) (zeros 49) (t ∷ ts) ≡ sumOf (branchOf w count) (t ∷ ts)
   from-zeros t ts =
       from-is (branchOf w count) (zeros 49) (t ∷ ts)
-      ∙ then-same (sumOf (branchOf w count) (t ∷ ts)) (λ r. some (plus (zeros 49) r)) some (λ r e. let l = sum-whole t ts r e in ap some (zeros-plus 49 r (omega arith)))
+      ∙ then-same (sumOf (branchOf w count) (t ∷ ts)) (λ r. some (plus (zeros 49) r)) some
+      (λ r e. let l = sum-whole t ts r e in ap some (zeros-plus 49 r (omega arith)))
       ∙ then-some (sumOf (branchOf w count) (t ∷ ts))
     where
       then-some : {A : Type 0} (o : Option A) → then o some ≡ o
@@ -161,11 +164,15 @@ unfolding added
 added-first [] m row h = absurd (omega arith)
 added-first (s ∷ t) m row h = refl
 
-pub added-number : (sum : List ℤ) (m : ℤ) (row : List ℤ) (j : ℕ) → length sum ≡ 50 → 1 ≤ j → getD (added sum m row) j (pos 0) ≡ getD sum j (pos 0) +ℤ m *ℤ getD row j (pos 0)
+pub added-number : (sum : List ℤ) (m : ℤ) (row : List ℤ) (j : ℕ)
+    → length sum ≡ 50
+    → 1 ≤ j
+    → getD (added sum m row) j (pos 0) ≡ getD sum j (pos 0) +ℤ m *ℤ getD row j (pos 0)
 unfolding added
 added-number sum m row zero h g = absurd (omega arith)
 added-number [] m row (suc j) h g = absurd (omega arith)
-added-number (s ∷ t) m row (suc j) h g = entry-plus t (scale m (drop 1 row)) j ∙ ap (λ z. getD t j (pos 0) +ℤ z) (entry-scale m (drop 1 row) j ∙ ap (λ z. m *ℤ z) (behind row))
+added-number (s ∷ t) m row (suc j) h g =
+    entry-plus t (scale m (drop 1 row)) j ∙ ap (λ z. getD t j (pos 0) +ℤ z) (entry-scale m (drop 1 row) j ∙ ap (λ z. m *ℤ z) (behind row))
   where
     behind : (row : List ℤ) → getD (drop 1 row) j (pos 0) ≡ getD row (suc j) (pos 0)
     behind [] = refl
@@ -180,12 +187,18 @@ pub same-first : (a b : List ℤ) → take 1 a ≡ take 1 b → getD a 0 (pos 0)
 same-first a b e = sym (getD-take 1 a 0 (pos 0) (omega arith)) ∙ ap (λ (l : List ℤ). getD l 0 (pos 0)) e ∙ getD-take 1 b 0 (pos 0) (omega arith)
 
 -- its size
-pub added-within : (n : ℕ) (sum : List ℤ) (m : ℤ) (row : List ℤ) → length sum ≡ 50 → Within n sum → natAbs m ≤ numberLimit → allWithin numberLimit (drop 1 row) ≡ true
+pub added-within : (n : ℕ) (sum : List ℤ) (m : ℤ) (row : List ℤ)
+    → length sum ≡ 50
+    → Within n sum
+    → natAbs m ≤ numberLimit
+    → allWithin numberLimit (drop 1 row) ≡ true
     → Within (n + 1000000000000000000) (added sum m row)
-added-within n sum m row h ws hm wr zero = le-trans (subst (λ z. natAbs z ≤ n) (same-first sum (added sum m row) (added-first sum m row h)) (ws 0)) (omega arith)
+added-within n sum m row h ws hm wr zero =
+    le-trans (subst (λ z. natAbs z ≤ n) (same-first sum (added sum m row) (added-first sum m row h)) (ws 0)) (omega arith)
 added-within n sum m row h ws hm wr (suc j) =
     rw (added-number sum m row (suc j) h (omega arith))
-    (abs-+-le (getD sum (suc j) (pos 0)) (m *ℤ getD row (suc j) (pos 0)) (ws (suc j)) (abs-*-le m (getD row (suc j) (pos 0)) hm (behind-tag row (suc j) wr (omega arith))))
+    (abs-+-le (getD sum (suc j) (pos 0)) (m *ℤ getD row (suc j) (pos 0)) (ws (suc j))
+    (abs-*-le m (getD row (suc j) (pos 0)) hm (behind-tag row (suc j) wr (omega arith))))
 
 -- ---- the children of a Sum
 

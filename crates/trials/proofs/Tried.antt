@@ -34,7 +34,12 @@ module _ (br : Branch) (pending : ℕ) (o : Option (List (List Fact))) where
   split-nine e w = rw (e, w)
 
   -- the facts find room, and the split among those pending
-  pub split-ten : (t p : Bool) → fits o ≡ true → childrenWithin (orNone o) ≡ true → roomForAll (length br) (orNone o) ≡ t → roomToPend pending (orNone o) ≡ p → need 10 (t && p) 0 ≡ allTried br pending o
+  pub split-ten : (t p : Bool)
+      → fits o ≡ true
+      → childrenWithin (orNone o) ≡ true
+      → roomForAll (length br) (orNone o) ≡ t
+      → roomToPend pending (orNone o) ≡ p
+      → need 10 (t && p) 0 ≡ allTried br pending o
   split-ten t p e w r q = rw (e, w, r, q)
 
 -- ---- claim 2
@@ -52,7 +57,9 @@ module _ (br : Branch) (o : Option (List Fact)) where
 -- ---- the child taken
 
 -- a step that closes has none
-none-taken : (br : Branch) (o : Option (List (List Fact))) (k : ℕ) → ((cs : List (List Fact)) → o ≡ some cs → map length cs ≡ []) → 8 ≡ takenTried br (childIn o k)
+none-taken : (br : Branch) (o : Option (List (List Fact))) (k : ℕ)
+    → ((cs : List (List Fact)) → o ≡ some cs → map length cs ≡ [])
+    → 8 ≡ takenTried br (childIn o k)
 none-taken br none k h = refl
 none-taken br (some []) zero h = refl
 none-taken br (some []) (suc k) h = refl
@@ -61,10 +68,15 @@ none-taken br (some (c ∷ cs)) k h = let f = h (c ∷ cs) refl in clash cc
 module _ {b : List ℕ} {s : Progress} {body m : ℕ} {w : List ℤ} {count : ℕ} (h : Ready b s body m w count) (k : ℕ) where
   pub closing-eight : conclusionsOf (rule b body) ≡ Nothing → 8 ≡ takenTried (before h) (childIn (given h) k)
   unfolding offered
-  closing-eight e = none-taken (before h) (given h) k (λ cs f. children-shape (asked b s) (before h) (stepAt b body m) cs f ∙ no-child b (asked b s .n) body m (h .formed .fits) e)
+  closing-eight e =
+      none-taken (before h) (given h) k
+      (λ cs f. children-shape (asked b s) (before h) (stepAt b body m) cs f ∙ no-child b (asked b s .n) body m (h .formed .fits) e)
 
   -- of a split that fits there is one
-  pub taken-there : conclusionsOf (rule b body) ≡ Several → childInRange (s .n) (stepAt b body m) k ≡ true → fits (given h) ≡ true → fits (childIn (given h) k) ≡ true
+  pub taken-there : conclusionsOf (rule b body) ≡ Several
+      → childInRange (s .n) (stepAt b body m) k ≡ true
+      → fits (given h) ≡ true
+      → fits (childIn (given h) k) ≡ true
   taken-there several e f =
       let (l, g) = child-between (shape (s .n) (stepAt b body m)) k (some-child b (s .n) body m (h .formed .fits) several) e in
       child-in-there (given h) k f l (omega (arith, length-map (orNone (given h)) length, ap length (its-shape h f)))

@@ -10,7 +10,9 @@ use Rattle.format.specs.Answer.{recordBytes}
 use Rattle.format.proofs.Encoded.{length-bytes}
 
 -- length and kind, and then the body, stored behind each other are the record
-pub record-put : (b : List ℕ) (at m k : ℕ) (body : List ℕ) → m ≡ length body → sets (sets b at (bytesOf 4 m ++ bytesOf 2 k)) (at + 6) body ≡ sets b at (recordBytes k body)
+pub record-put : (b : List ℕ) (at m k : ℕ) (body : List ℕ)
+    → m ≡ length body
+    → sets (sets b at (bytesOf 4 m ++ bytesOf 2 k)) (at + 6) body ≡ sets b at (recordBytes k body)
 record-put b at m k body e =
     let n : length (bytesOf 4 m ++ bytesOf 2 k) ≡ 6 = length-append (bytesOf 4 m) (bytesOf 2 k) ∙ rw (length-bytes 4 m, length-bytes 2 k) in
     ap (λ (j : ℕ). sets (sets b at (bytesOf 4 m ++ bytesOf 2 k)) (at + j) body) (sym n)

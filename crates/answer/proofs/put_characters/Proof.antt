@@ -13,7 +13,8 @@ use Rattle.answer.proofs.put_characters.Statement.{statement}
 use Rattle.answer.proofs.put_characters.Tie as tie
 
 abbrev Inv-loop : tie.InvT-loop
-Inv-loop buffer₀ at characters i₀ buffer i = (i ≤ length characters) × (length buffer ≡ length buffer₀) × (buffer ≡ sets buffer₀ at (characterBytes (take i characters)))
+Inv-loop buffer₀ at characters i₀ buffer i =
+    (i ≤ length characters) × (length buffer ≡ length buffer₀) × (buffer ≡ sets buffer₀ at (characterBytes (take i characters)))
 
 abbrev μ-loop : tie.MeasureT-loop
 μ-loop buffer₀ at characters i₀ buffer i = length characters - i
@@ -49,8 +50,11 @@ loop-less c = search needs
 loop-again : tie.Need-loop-again Inv-loop μ-loop
 loop-again c =
     let l = c .before .before .before .before .before .before .loop in
-    let s = c .before .before .before .before .before .before .before .before .before .args in
-    (omega arith, c .before .before .put-u32 .kept .0 ∙ l .inv .1, c .before .before .put-u32 .ensures ∙ rw (l .inv .2) (characters-more (now (s .buffer)) (now (s .characters)) (s .at) (l .i) (omega arith)))
+    let s = c .before .before .before .before .before .before .before .before .before .args in (
+      omega arith,
+      c .before .before .put-u32 .kept .0 ∙ l .inv .1,
+      c .before .before .put-u32 .ensures ∙ rw (l .inv .2) (characters-more (now (s .buffer)) (now (s .characters)) (s .at) (l .i) (omega arith)),
+    )
 
 same-length : tie.Need-same-length Inv-loop μ-loop
 same-length c = search needs

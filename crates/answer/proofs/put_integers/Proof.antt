@@ -32,7 +32,8 @@ shared-slice-copy-out-z : tie.Need-shared-slice-copy-out-z Inv-loop μ-loop
 shared-slice-copy-out-z c = search needs
 
 bits-of-requires : tie.Need-bits-of-requires Inv-loop μ-loop
-bits-of-requires c κs = rw (toZ-ofZ (record { sfits = c .z .given })) (omega (arith, c .before .before .before .before .pre .0 .small (c .before .before .loop .i) (omega arith)))
+bits-of-requires c κs =
+    rw (toZ-ofZ (record { sfits = c .z .given })) (omega (arith, c .before .before .before .before .pre .0 .small (c .before .before .loop .i) (omega arith)))
 
 mul-put-u32 : tie.Need-mul-put-u32 Inv-loop μ-loop
 mul-put-u32 c = search needs
@@ -51,10 +52,12 @@ loop-less c = search needs
 
 loop-again : tie.Need-loop-again Inv-loop μ-loop
 loop-again c =
+    let z-read = c .before .before .before .before .before .z in
     let l = c .before .before .before .before .before .before .before .loop in
     let s = c .before .before .before .before .before .before .before .before .before in
     let z : ℤ = getD (now (s .args .model)) (l .i) (pos 0) in
-    let v : c .before .before .before .before .bits-of .result ≡ unsigned z = c .before .before .before .before .bits-of .ensures ∙ ap unsigned (toZ-ofZ {z = z} (record { sfits = c .before .before .before .before .before .z .given })) in (
+    let v : c .before .before .before .before .bits-of .result ≡ unsigned z =
+    c .before .before .before .before .bits-of .ensures ∙ ap unsigned (toZ-ofZ {z = z} (record { sfits = z-read .given })) in (
       omega arith,
       c .before .before .put-u32 .kept .0 ∙ l .inv .1,
       c .before .before .put-u32 .ensures

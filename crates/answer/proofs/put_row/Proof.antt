@@ -40,7 +40,8 @@ returns c =
     let s = c .before .before .before .before .before .before .before .args in
     let n : 64 * s .x + s .size - 64 * s .x ≡ s .size = omega arith in (
       c .before .before .put-string .ensures .0 ∙ ap (λ (k : ℕ). s .at + length (recordBytes 9 (characterBytes (row (now (s .characters)) (s .x) k)))) n,
-      c .before .before .put-string .ensures .1 ∙ ap (λ (k : ℕ). sets (now (s .buffer)) (s .at) (recordBytes 9 (characterBytes (row (now (s .characters)) (s .x) k)))) n,
+      c .before .before .put-string .ensures .1
+          ∙ ap (λ (k : ℕ). sets (now (s .buffer)) (s .at) (recordBytes 9 (characterBytes (row (now (s .characters)) (s .x) k)))) n,
     )
 
 pub put-row-spec : {M : Type 1} → statement M

@@ -15,7 +15,10 @@ use Rattle.answer.proofs.put_strings.Tie as tie
 
 abbrev Inv-loop : tie.InvT-loop
 Inv-loop buffer₀ characters sizes p at₀ x₀ buffer at x =
-    (x ≤ p) × (length buffer ≡ length buffer₀) × (at ≡ length (stringRecords (tableStrings characters sizes x))) × (buffer ≡ sets buffer₀ 0 (stringRecords (tableStrings characters sizes x)))
+    (x ≤ p)
+    × (length buffer ≡ length buffer₀)
+    × (at ≡ length (stringRecords (tableStrings characters sizes x)))
+    × (buffer ≡ sets buffer₀ 0 (stringRecords (tableStrings characters sizes x)))
 
 abbrev μ-loop : tie.MeasureT-loop
 μ-loop buffer₀ characters sizes p at₀ x₀ buffer at x = p - x
@@ -28,7 +31,9 @@ mul-size : tie.Need-mul-size Inv-loop μ-loop
 mul-size c = search needs
 
 shared-slice-read-size : tie.Need-shared-slice-read-size Inv-loop μ-loop
-shared-slice-read-size c = omega (arith, c .before .before .before .before .before .before .pre .0 .sized)
+shared-slice-read-size c =
+    let pre = c .before .before .before .before .before .before .pre in
+    omega (arith, pre .0 .sized)
 
 put-row-requires : tie.Need-put-row-requires Inv-loop μ-loop
 put-row-requires c κs =

@@ -26,16 +26,28 @@ returns : tie.Need-returns Inv-loop μ-loop
 returns c =
     let l = c .before .before .before .loop in
     let s = c .before .before .before .before .before .args in
-    sym (form-no (now (s .v)) (s .q) (l .at) (l .left) (c .before .before .loop-test .taken) (sym (c .before .string-formed .ensures) ∙ not-true _ (c .if1 .taken))) ∙ l .inv
+    sym (form-no (now (s .v)) (s .q) (l .at) (l .left) (c .before .before .loop-test .taken)
+    (sym (c .before .string-formed .ensures) ∙ not-true _ (c .if1 .taken)))
+    ∙ l .inv
 
 add-at : tie.Need-add-at Inv-loop μ-loop
-add-at c = omega (arith, string-there (now (c .before .before .before .before .before .args .v)) (c .before .before .before .loop .at) (sym (c .before .string-formed .ensures) ∙ not-false _ (c .if1 .left)))
+add-at c =
+    let args = c .before .before .before .before .before .args in
+    omega (arith, string-there (now (args .v)) (c .before .before .before .loop .at) (sym (c .before .string-formed .ensures) ∙ not-false _ (c .if1 .left)))
 
 u32-at-requires : tie.Need-u32-at-requires Inv-loop μ-loop
-u32-at-requires c κs = omega (arith, string-there (now (c .before .before .before .before .before .args .v)) (c .before .before .before .loop .at) (sym (c .before .string-formed .ensures) ∙ not-false _ (c .if1 .left)))
+u32-at-requires c κs =
+    let args = c .before .before .before .before .before .args in
+    omega (arith, string-there (now (args .v)) (c .before .before .before .loop .at) (sym (c .before .string-formed .ensures) ∙ not-false _ (c .if1 .left)))
 
 add-at-2 : tie.Need-add-at-2 Inv-loop μ-loop
-add-at-2 c = omega (arith, string-there (now (c .before .before .before .before .before .before .args .v)) (c .before .before .before .before .loop .at) (sym (c .before .before .string-formed .ensures) ∙ not-false _ (c .before .if1 .left)))
+add-at-2 c =
+    let args = c .before .before .before .before .before .before .args in
+    omega (
+      arith,
+      string-there (now (args .v)) (c .before .before .before .before .loop .at)
+          (sym (c .before .before .string-formed .ensures) ∙ not-false _ (c .before .if1 .left)),
+    )
 
 sub-left : tie.Need-sub-left Inv-loop μ-loop
 sub-left c = search needs
@@ -47,7 +59,9 @@ loop-again : tie.Need-loop-again Inv-loop μ-loop
 loop-again c =
     let l = c .before .before .before .before .loop in
     let s = c .before .before .before .before .before .before .args in
-    rw (c .u32-at .ensures .0) (sym (form-yes (now (s .v)) (s .q) (l .at) (l .left) (c .before .before .before .loop-test .taken) (sym (c .before .before .string-formed .ensures) ∙ not-false _ (c .before .if1 .left))) ∙ l .inv)
+    rw (c .u32-at .ensures .0) (sym (form-yes (now (s .v)) (s .q) (l .at) (l .left) (c .before .before .before .loop-test .taken)
+    (sym (c .before .before .string-formed .ensures) ∙ not-false _ (c .before .if1 .left)))
+    ∙ l .inv)
 
 tail-formed-requires : tie.Need-tail-formed-requires Inv-loop μ-loop
 tail-formed-requires c κs = search needs

@@ -55,7 +55,8 @@ loop-again c =
     let g : l .j < length cs = omega (arith, length-columns (now (s .v)) (s .p) (s .q)) in (
       omega arith,
       simp length-set (l .inv .1),
-      rw (add-one, take-suc-set (l .values) (l .j) _ h, l .inv .2, take-suc cs (l .j) (pos 0) g) (ap (λ (z : ℤ). take (l .j) cs ++ (z ∷ [])) (toZ-ofZ (record { sfits = c .column-value .ok }) ∙ c .column-value .ensures)),
+      rw (add-one, take-suc-set (l .values) (l .j) _ h, l .inv .2, take-suc cs (l .j) (pos 0) g)
+          (ap (λ (z : ℤ). take (l .j) cs ++ (z ∷ [])) (toZ-ofZ (record { sfits = c .column-value .ok }) ∙ c .column-value .ensures)),
     )
 
 returns : tie.Need-returns Inv-loop μ-loop

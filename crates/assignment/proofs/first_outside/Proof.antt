@@ -47,7 +47,8 @@ all-characters-requires : tie.Need-all-characters-requires Inv-loop μ-loop
 all-characters-requires c κs =
     let s = c .before .before .before .before in
     let l = c .before .before .loop in
-    let t : next (now (s .args .v)) (l .at) ≤ length (now (s .args .v)) = rw (l .inv .1) (text-there (now (s .args .v)) (s .args .p) (s .args .q) (s .pre) (l .r) (c .before .loop-test .taken)) in
+    let t : next (now (s .args .v)) (l .at) ≤ length (now (s .args .v)) =
+    rw (l .inv .1) (text-there (now (s .args .v)) (s .args .p) (s .args .q) (s .pre) (l .r) (c .before .loop-test .taken)) in
     omega arith
 
 returns : tie.Need-returns Inv-loop μ-loop
@@ -55,19 +56,26 @@ returns c =
     let l = c .before .before .before .before .loop in
     let s = c .before .before .before .before .before .before .args in
     let t : allCharacters (s .n) (textAt (now (s .v)) (l .at)) ≡ false =
-    ap (λ (m : ℕ). allCharacters (s .n) (u32s (now (s .v)) (l .at + 6) (m / 4))) (sym (c .before .before .u32-at .ensures .0)) ∙ sym (c .before .all-characters .ensures) ∙ not-true _ (c .if1 .taken) in
+    ap (λ (m : ℕ). allCharacters (s .n) (u32s (now (s .v)) (l .at + 6) (m / 4))) (sym (c .before .before .u32-at .ensures .0))
+    ∙ sym (c .before .all-characters .ensures)
+    ∙ not-true _ (c .if1 .taken) in
     sym (outside-no (now (s .v)) (blank (s .n) (s .p) (s .q)) (l .r) (l .at) (s .p - l .r) (omega arith) t) ∙ l .inv .2
 
 add-at : tie.Need-add-at Inv-loop μ-loop
 add-at c =
     let s = c .before .before .before .before .before .before in
-    omega (arith, text-there (now (s .args .v)) (s .args .p) (s .args .q) (s .pre) (c .before .before .before .before .loop .r) (c .before .before .before .loop-test .taken))
+    omega (
+      arith,
+      text-there (now (s .args .v)) (s .args .p) (s .args .q) (s .pre) (c .before .before .before .before .loop .r)
+          (c .before .before .before .loop-test .taken),
+    )
 
 add-at-2 : tie.Need-add-at-2 Inv-loop μ-loop
 add-at-2 c =
     let s = c .before .before .before .before .before .before in
     let l = c .before .before .before .before .loop in
-    let t : next (now (s .args .v)) (l .at) ≤ length (now (s .args .v)) = rw (l .inv .1) (text-there (now (s .args .v)) (s .args .p) (s .args .q) (s .pre) (l .r) (c .before .before .before .loop-test .taken)) in
+    let t : next (now (s .args .v)) (l .at) ≤ length (now (s .args .v)) =
+    rw (l .inv .1) (text-there (now (s .args .v)) (s .args .p) (s .args .q) (s .pre) (l .r) (c .before .before .before .loop-test .taken)) in
     omega arith
 
 add-r : tie.Need-add-r Inv-loop μ-loop
@@ -82,7 +90,9 @@ loop-again c =
     let s = c .before .before .before .before .before .before .args in
     let u = blank (s .n) (s .p) (s .q) in
     let t : allCharacters (s .n) (textAt (now (s .v)) (l .at)) ≡ true =
-    ap (λ (m : ℕ). allCharacters (s .n) (u32s (now (s .v)) (l .at + 6) (m / 4))) (sym (c .before .before .u32-at .ensures .0)) ∙ sym (c .before .all-characters .ensures) ∙ not-false _ (c .if1 .left) in
+    ap (λ (m : ℕ). allCharacters (s .n) (u32s (now (s .v)) (l .at + 6) (m / 4))) (sym (c .before .before .u32-at .ensures .0))
+    ∙ sym (c .before .all-characters .ensures)
+    ∙ not-false _ (c .if1 .left) in
     let e : s .p - l .r - 1 ≡ s .p - (l .r + 1) = omega arith in
     let here : next (now (s .v)) (l .at) ≡ skip (now (s .v)) (suc (l .r)) 0 = ap (next (now (s .v))) (l .inv .1) ∙ sym (skip-snoc (now (s .v)) (l .r) 0) in
     rw (c .before .before .u32-at .ensures .0) (
@@ -107,14 +117,19 @@ returns-2 : tie.Need-returns-2 Inv-loop μ-loop
 returns-2 c =
     let l = c .before .before .before .loop in
     let s = c .before .before .before .before .before .args in
-    sym (outside-none (now (s .v)) (blank (s .n) (s .p) (s .q)) (l .r) (l .at) (s .p - l .r) (omega arith) (sym (c .before .integers-within .ensures) ∙ c .if2 .taken)) ∙ l .inv .2
+    sym (outside-none (now (s .v)) (blank (s .n) (s .p) (s .q)) (l .r) (l .at) (s .p - l .r) (omega arith)
+    (sym (c .before .integers-within .ensures) ∙ c .if2 .taken))
+    ∙ l .inv .2
 
 returns-3 : tie.Need-returns-3 Inv-loop μ-loop
 returns-3 c =
     let l = c .before .before .before .loop in
     let s = c .before .before .before .before .before .args in
     let e : s .p ≡ l .r = omega arith in
-    ap some e ∙ sym (outside-last (now (s .v)) (blank (s .n) (s .p) (s .q)) (l .r) (l .at) (s .p - l .r) (omega arith) (sym (c .before .integers-within .ensures) ∙ c .if2 .left)) ∙ l .inv .2
+    ap some e
+    ∙ sym (outside-last (now (s .v)) (blank (s .n) (s .p) (s .q)) (l .r) (l .at) (s .p - l .r) (omega arith)
+    (sym (c .before .integers-within .ensures) ∙ c .if2 .left))
+    ∙ l .inv .2
 
 pub first-outside-spec : {M : Type 1} → statement M
 first-outside-spec =

@@ -29,16 +29,18 @@ enum-told-2 c = search needs
 
 returns-2 : tie.Need-returns-2
 returns-2 c =
+    let read-at = c .before .before .before .before .before .read-at in
     let s = c .before .before .before .before .before .before .before .args in
-    let (w, k, m) = whole-there (now (s .v)) (s .at) (sym (c .before .before .before .before .before .read-at .ensures) ∙ c .before .before .before .kind .given .1) in
+    let (w, k, m) = whole-there (now (s .v)) (s .at) (sym (read-at .ensures) ∙ c .before .before .before .kind .given .1) in
     let e : kind (now (s .v)) (s .at) ≡ 9 = sym k ∙ c .before .if1 .left in
     let f : size (now (s .v)) (s .at) % 4 ≡ 0 = ap (λ (n : ℕ). n % 4) (sym m) ∙ c .if2 .taken in
     rw (m, w, eq-eqb (kind (now (s .v)) (s .at)) 9 e, eq-eqb (size (now (s .v)) (s .at) % 4) 0 f)
 
 returns-3 : tie.Need-returns-3
 returns-3 c =
+    let read-at = c .before .before .before .before .before .read-at in
     let s = c .before .before .before .before .before .before .before .args in
-    let (w, k, m) = whole-there (now (s .v)) (s .at) (sym (c .before .before .before .before .before .read-at .ensures) ∙ c .before .before .before .kind .given .1) in
+    let (w, k, m) = whole-there (now (s .v)) (s .at) (sym (read-at .ensures) ∙ c .before .before .before .kind .given .1) in
     let e : kind (now (s .v)) (s .at) ≡ 9 = sym k ∙ c .before .if1 .left in
     rw (w, eq-eqb (kind (now (s .v)) (s .at)) 9 e, ne-eqb (size (now (s .v)) (s .at) % 4) 0 (λ g. c .if2 .left (ap (λ (n : ℕ). n % 4) m ∙ g)))
 

@@ -33,9 +33,12 @@ same-length-2 c = search needs
 
 returns-3 : tie.Need-returns-3
 returns-3 c =
+    let if2 = c .before .before .before .before .before .before .before .before .before .if2 in
+    let if1 = c .before .before .before .before .before .before .before .before .before .before .if1 in
     let s = c .before .before .before .before .before .before .before .before .before .before .before .before .before .args in
     let decide = c .before .before .before .before .before .before .decide in
-    decided (now (s .ticket)) (now (s .work)) (now (s .answer)) (c .before .before .before .before .before .before .before .before .before .before .if1 .left) (c .before .before .before .before .before .before .before .before .before .if2 .left) (c .before .clear .ensures ∙ ap (λ (n : ℕ). replicate n (pos 0)) (decide .kept .1 .0)) (decide .ensures)
+    decided (now (s .ticket)) (now (s .work)) (now (s .answer)) (if1 .left) (if2 .left)
+    (c .before .clear .ensures ∙ ap (λ (n : ℕ). replicate n (pos 0)) (decide .kept .1 .0)) (decide .ensures)
 
 pub check-ticket-spec : {M : Type 1} → statement M
 check-ticket-spec =

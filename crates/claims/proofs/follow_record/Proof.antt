@@ -25,7 +25,9 @@ returns c =
     let p = s .pre .1 .1 in
     let a = s .args in
     record {
-      fault = taken-place b u (a .«record») (a .kind) (a .size) (p .0) (branchOf (now (a .work)) (a .count)) (p .1) _ (c .before .open-fault .ensures) (c .if1 .taken);
+      fault =
+          taken-place b u (a .«record») (a .kind) (a .size) (p .0) (branchOf (now (a .work)) (a .count)) (p .1) _ (c .before .open-fault .ensures)
+          (c .if1 .taken);
       added = λ z. absurd (c .if1 .taken z);
       fine = λ z. absurd (c .if1 .taken z);
     }
@@ -46,7 +48,9 @@ returns-2 c =
     let a = s .args in
     let place = sym (c .before .before .if1 .left) ∙ c .before .before .before .open-fault .ensures in
     record {
-      fault = taken-form b u (a .«record») (a .kind) (a .size) (p .0) (branchOf (now (a .work)) (a .count)) (p .1) place _ (c .before .step-fault-two .ensures) (c .if2 .taken);
+      fault =
+          taken-form b u (a .«record») (a .kind) (a .size) (p .0) (branchOf (now (a .work)) (a .count)) (p .1) place _ (c .before .step-fault-two .ensures)
+          (c .if2 .taken);
       added = λ z. absurd (c .if2 .taken z);
       fine = λ z. absurd (c .if2 .taken z);
     }
@@ -71,13 +75,15 @@ same-length c = search needs
 returns-3 : tie.Need-returns-3
 unfolding asked
 returns-3 c =
+    let if1 = c .before .before .before .before .before .if1 in
+    let open-fault = c .before .before .before .before .before .before .open-fault in
     let s = c .before .before .before .before .before .before .before .before in
     let b = now (s .args .ticket) in
     let u = asked b (s .args .s) in
     let p = s .pre .1 .1 in
     let a = s .args in
     let f = c .before .take-child .ensures in
-    let place = sym (c .before .before .before .before .before .if1 .left) ∙ c .before .before .before .before .before .before .open-fault .ensures in
+    let place = sym (if1 .left) ∙ open-fault .ensures in
     let form = sym (c .before .before .before .if2 .left) ∙ c .before .before .before .before .step-fault-two .ensures in
     record {
       fault = f .fault ∙ taken-step b u (a .«record») (a .kind) (a .size) (p .0) (branchOf (now (a .work)) (a .count)) (p .1) place form;

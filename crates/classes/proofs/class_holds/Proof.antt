@@ -15,7 +15,9 @@ same-class-requires : tie.Need-same-class-requires
 same-class-requires c κs = search needs
 
 returns : tie.Need-returns
-returns c = c .same-class .ensures ∙ ap₂ (sameClass (c .before .before .before .args .labels)) (c .before .before .variable-node .ensures) (c .before .literal-node .ensures)
+returns c =
+    c .same-class .ensures
+    ∙ ap₂ (sameClass (c .before .before .before .args .labels)) (c .before .before .variable-node .ensures) (c .before .literal-node .ensures)
 
 pub class-holds-spec : {M : Type 1} → statement M
 class-holds-spec = tie.close (tie.spec variable-node-requires literal-node-requires same-class-requires returns)

@@ -23,7 +23,8 @@ returns-2 : tie.Need-returns-2
 returns-2 c =
     let s = c .before .before .before .args in
     c .sides-meet .ensures
-    ∙ sym (ap (λ (t : Bool). t || sidesMeet (s .labels) (branchOf (now (s .work)) (s .count))) (sym (c .before .before .literals-meet .ensures) ∙ c .before .if1 .left))
+    ∙ sym (ap (λ (t : Bool). t || sidesMeet (s .labels) (branchOf (now (s .work)) (s .count)))
+    (sym (c .before .before .literals-meet .ensures) ∙ c .before .if1 .left))
 
 pub conflict-spec : {M : Type 1} → statement M
 conflict-spec = tie.close (tie.spec literals-meet-requires returns sides-meet-requires returns-2)

@@ -43,8 +43,9 @@ loop-less c = search needs
 
 loop-again : tie.Need-loop-again Inv-loop μ-loop
 loop-again c =
+    let args = c .before .before .before .before .before .args in
     let l = c .before .before .before .loop in
-    let w = now (c .before .before .before .before .before .args .work) in (
+    let w = now (args .work) in (
       omega arith,
       c .merge-row .ensures
           ∙ ap₂ (λ (ls : List ℕ) (row : List ℤ). mergeFact ls (factOf row)) (l .inv .1) (c .before .row-at .ensures)

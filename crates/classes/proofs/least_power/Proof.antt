@@ -49,7 +49,9 @@ loop-again c =
     let less : s .m - l .k - 1 ≡ s .m - (l .k + 1) = omega arith in (
       omega arith,
       ap (λ (i : ℕ). i * s .n) (l .inv .1) ∙ sym (ap (λ (i : ℕ). s .n ^ i) (add-one (l .k)) ∙ pow-suc (s .n) (l .k)),
-      ap (λ (i : ℕ). leastPower i (s .n) (s .m) (l .k + 1)) (sym less) ∙ sym (least-power-no (s .n) (s .m) (l .k) (s .m - l .k) (omega arith) (omega (arith, l .inv .1))) ∙ l .inv .2,
+      ap (λ (i : ℕ). leastPower i (s .n) (s .m) (l .k + 1)) (sym less)
+          ∙ sym (least-power-no (s .n) (s .m) (l .k) (s .m - l .k) (omega arith) (omega (arith, l .inv .1)))
+          ∙ l .inv .2,
     )
 
 returns-2 : tie.Need-returns-2 Inv-loop μ-loop

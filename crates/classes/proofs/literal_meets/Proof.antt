@@ -19,9 +19,13 @@ abbrev μ-loop : tie.MeasureT-loop
 
 -- what the test says of the two literals
 said : (c : tie.After-same-class Inv-loop μ-loop)
-    → c .same-class .result
-    ≡ sameClass (c .before .before .before .before .before .args .labels) (litNode (c .before .before .before .before .before .args .i)) (litNode (c .before .before .before .before .loop .j))
-said c = c .same-class .ensures ∙ ap₂ (sameClass (c .before .before .before .before .before .args .labels)) (c .before .before .literal-node .ensures) (c .before .literal-node2 .ensures)
+    →
+    let args = c .before .before .before .before .before .args in
+    c .same-class .result
+    ≡ sameClass (args .labels) (litNode (args .i)) (litNode (c .before .before .before .before .loop .j))
+said c =
+    let args = c .before .before .before .before .before .args in
+    c .same-class .ensures ∙ ap₂ (sameClass (args .labels)) (c .before .before .literal-node .ensures) (c .before .literal-node2 .ensures)
 
 loop-holds : tie.Need-loop-holds Inv-loop μ-loop
 loop-holds c = (omega arith, refl)

@@ -15,7 +15,9 @@ same-class-requires : tie.Need-same-class-requires
 same-class-requires c κs = search needs
 
 returns : tie.Need-returns
-returns c = c .same-class .ensures ∙ ap₂ (sameClass (c .before .before .before .args .labels)) (c .before .before .variable-node .ensures) (c .before .variable-node2 .ensures)
+returns c =
+    c .same-class .ensures
+    ∙ ap₂ (sameClass (c .before .before .before .args .labels)) (c .before .before .variable-node .ensures) (c .before .variable-node2 .ensures)
 
 pub one-class-spec : {M : Type 1} → statement M
 one-class-spec = tie.close (tie.spec variable-node-requires variable-node-requires-2 same-class-requires returns)

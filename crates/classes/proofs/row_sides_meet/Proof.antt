@@ -25,7 +25,9 @@ returns : tie.Need-returns
 returns c =
     let s = c .before .before .before .before .before in
     let k = c .before .before .before .before .tag-of in
-    c .one-class .ensures ∙ ap₂ (λ (a b : ℕ). sameClass (s .args .labels) (varNode a) (varNode b)) (c .before .before .variable-at .ensures .0) (c .before .variable-at2 .ensures .0)
+    c .one-class .ensures
+    ∙ ap₂ (λ (a b : ℕ). sameClass (s .args .labels) (varNode a) (varNode b)) (c .before .before .variable-at .ensures .0)
+    (c .before .variable-at2 .ensures .0)
     ∙ sym (row-sides (now (s .args .row)) (s .args .labels) (k .result) (k .ensures) (c .before .before .before .if1 .taken))
 
 returns-2 : tie.Need-returns-2

@@ -19,7 +19,8 @@ returns : tie.Need-returns
 unfolding closingOf
 returns c =
     let s = c .before in
-    λ (u : Question). sym (ap (λ (o : Option Fact). then o (λ f. guard (isFalse f) [])) (branch-beyond (now (s .args .work)) (s .args .count) (s .args .k) (c .if1 .taken)))
+    λ (u : Question). sym
+    (ap (λ (o : Option Fact). then o (λ f. guard (isFalse f) [])) (branch-beyond (now (s .args .work)) (s .args .count) (s .args .k) (c .if1 .taken)))
 
 row-at-requires : tie.Need-row-at-requires
 row-at-requires c κs = search needs

@@ -49,7 +49,8 @@ returns-2 : tie.Need-returns-2
 returns-2 c =
     let p = c .before .before .before .before .before in
     let h = p .before .before .before .before .pre .ready in (
-      nine (before h) (given h) (p .conclusion .result) (row p) (p .conclusion .ensures) (not-false _ (c .before .before .before .if1 .left)) (sym (c .before .fact-within .ensures) ∙ not-true _ (c .if2 .taken)),
+      nine (before h) (given h) (p .conclusion .result) (row p) (p .conclusion .ensures) (not-false _ (c .before .before .before .if1 .left))
+          (sym (c .before .fact-within .ensures) ∙ not-true _ (c .if2 .taken)),
       ((λ z. absurd (omega arith)), (λ z. absurd (omega arith))),
     )
 
@@ -58,10 +59,12 @@ same-length-3 c = search needs
 
 returns-3 : tie.Need-returns-3
 returns-3 c =
+    let args = c .before .before .before .before .before .before .before .before .before .before .args in
     let p = c .before .before .before .before .before .before in
     let h = p .before .before .before .before .pre .ready in
-    let n = length-branch (now (c .before .before .before .before .before .before .before .before .before .before .args .work)) (c .before .before .before .before .before .before .before .before .before .before .args .count) in (
-      ten (before h) (given h) (p .conclusion .result) (row p) (p .conclusion .ensures) (not-false _ (c .before .before .before .before .if1 .left)) (sym (c .before .before .fact-within .ensures) ∙ not-false _ (c .before .if2 .left)) (rw n (c .if3 .taken)),
+    let n = length-branch (now (args .work)) (args .count) in (
+      ten (before h) (given h) (p .conclusion .result) (row p) (p .conclusion .ensures) (not-false _ (c .before .before .before .before .if1 .left))
+          (sym (c .before .before .fact-within .ensures) ∙ not-false _ (c .before .if2 .left)) (rw n (c .if3 .taken)),
       ((λ z. absurd (omega arith)), (λ z. absurd (omega arith))),
     )
 
@@ -76,17 +79,23 @@ same-length-4 c = search needs
 
 returns-4 : tie.Need-returns-4
 returns-4 c =
+    let if2 = c .before .before .before .before .before .if2 in
+    let fact-within = c .before .before .before .before .before .before .fact-within in
+    let if1 = c .before .before .before .before .before .before .before .before .if1 in
     let s = c .before .before .before .before .before .before .before .before .before .before .before .before .before .before in
     let p = c .before .before .before .before .before .before .before .before .before .before in
     let h = p .before .before .before .before .pre .ready in
     let w = now (s .args .work) in
     let n = length-branch w (s .args .count) in
-    let fit = not-false (p .conclusion .result) (c .before .before .before .before .before .before .before .before .if1 .left) in
-    let small = sym (c .before .before .before .before .before .before .fact-within .ensures) ∙ not-false _ (c .before .before .before .before .before .if2 .left) in (
-      none-of-these (before h) (given h) (p .conclusion .result) (row p) (p .conclusion .ensures) fit small (rw n (omega (arith, c .before .before .before .before .if3 .left))),
+    let fit = not-false (p .conclusion .result) (if1 .left) in
+    let small = sym (fact-within .ensures) ∙ not-false _ (if2 .left) in (
+      none-of-these (before h) (given h) (p .conclusion .result) (row p) (p .conclusion .ensures) fit small
+          (rw n (omega (arith, c .before .before .before .before .if3 .left))),
       (
-        (λ z. c .before .put-row .ensures ∙ ap (λ (l : List Fact). before h ++ l) (its-fact (before h) (given h) (p .conclusion .result) (row p) (p .conclusion .ensures) fit)),
-        (λ z. fine-put w _ (s .args .count) (factOf (row p)) (h .fine) (omega (arith, c .before .before .before .before .if3 .left)) (search needs) (c .before .put-row .ensures) small),
+        (λ z. c .before .put-row .ensures
+            ∙ ap (λ (l : List Fact). before h ++ l) (its-fact (before h) (given h) (p .conclusion .result) (row p) (p .conclusion .ensures) fit)),
+        (λ z. fine-put w _ (s .args .count) (factOf (row p)) (h .fine) (omega (arith, c .before .before .before .before .if3 .left)) (search needs)
+            (c .before .put-row .ensures) small),
       ),
     )
 

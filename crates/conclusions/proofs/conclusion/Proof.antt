@@ -69,8 +69,16 @@ s-prop-requires c κs =
     let s = c .before .before .before .before .before .before .before in
     let h = s .pre .1 .ready in
     let few = h .posed .stands in
-    let (x, y) = s-prop-variables h (is-rule (s .pre .1) _ (c .before .before .before .enum-told2 .given .1)) in
-    (ap length (s .pre .0), (h .fine, few .few-strings, few .few-integers, omega (arith, x, c .before .before .u16-at2 .ensures .0), omega (arith, y, c .before .u16-at3 .ensures .0)))
+    let (x, y) = s-prop-variables h (is-rule (s .pre .1) _ (c .before .before .before .enum-told2 .given .1)) in (
+      ap length (s .pre .0),
+      (
+        h .fine,
+        few .few-strings,
+        few .few-integers,
+        omega (arith, x, c .before .before .u16-at2 .ensures .0),
+        omega (arith, y, c .before .u16-at3 .ensures .0),
+      ),
+    )
 
 enum-told-3 : tie.Need-enum-told-3
 enum-told-3 c = search needs
@@ -80,8 +88,13 @@ of-literal-requires c κs =
     let s = c .before .before .before .before .before in
     let h = s .pre .1 .ready in
     let few = h .posed .stands in
-    let x = l-intro-variable h (is-rule (s .pre .1) _ (c .before .enum-told3 .given .1)) .1 in
-    (ap length (s .pre .0), ((h .fine, few .few-strings, few .few-integers, omega (arith, x, c .before .before .before .u16-at .ensures .0)), (few .few-literals, literals-whole (h .posed))))
+    let x = l-intro-variable h (is-rule (s .pre .1) _ (c .before .enum-told3 .given .1)) .1 in (
+      ap length (s .pre .0),
+      (
+        (h .fine, few .few-strings, few .few-integers, omega (arith, x, c .before .before .before .u16-at .ensures .0)),
+        (few .few-literals, literals-whole (h .posed)),
+      ),
+    )
 
 enum-told-4 : tie.Need-enum-told-4
 enum-told-4 c = search needs
@@ -91,8 +104,13 @@ of-literal-requires-2 c κs =
     let s = c .before .before .before .before .before in
     let h = s .pre .1 .ready in
     let few = h .posed .stands in
-    let x = c-collapse-variable h (is-rule (s .pre .1) _ (c .before .enum-told4 .given .1)) .1 in
-    (ap length (s .pre .0), ((h .fine, few .few-strings, few .few-integers, omega (arith, x, c .before .before .before .u16-at .ensures .0)), (few .few-literals, literals-whole (h .posed))))
+    let x = c-collapse-variable h (is-rule (s .pre .1) _ (c .before .enum-told4 .given .1)) .1 in (
+      ap length (s .pre .0),
+      (
+        (h .fine, few .few-strings, few .few-integers, omega (arith, x, c .before .before .before .u16-at .ensures .0)),
+        (few .few-literals, literals-whole (h .posed)),
+      ),
+    )
 
 enum-told-5 : tie.Need-enum-told-5
 enum-told-5 c = search needs
@@ -120,7 +138,8 @@ returns c =
     let b = now (a .ticket) in
     let u = asked b (a .s) in
     c .before .sum .ensures u
-    ∙ sym (offered-by b u (branchOf (now (a .work)) (a .count)) (a .body) (a .size) sum (is-rule (s .pre .1) _ (c .before .before .before .enum-told .given .1)))
+    ∙ sym
+    (offered-by b u (branchOf (now (a .work)) (a .count)) (a .body) (a .size) sum (is-rule (s .pre .1) _ (c .before .before .before .enum-told .given .1)))
 
 same-length-2 : tie.Need-same-length-2
 same-length-2 c = search needs
@@ -128,15 +147,19 @@ same-length-2 c = search needs
 returns-2 : tie.Need-returns-2
 unfolding stepOf asked
 returns-2 c =
+    let enum-told2 = c .before .before .before .before .before .enum-told2 in
+    let u16-at = c .before .before .before .before .before .before .before .u16-at in
     let s = c .before .before .before .before .before .before .before .before .before in
     let a = s .args in
     let b = now (a .ticket) in
     let u = asked b (a .s) in
     let br = branchOf (now (a .work)) (a .count) in
     c .before .s-prop .ensures u refl refl
-    ∙ ap (λ (f : ℕ). children u br (SProp (functionOf f) (c .before .before .before .before .u16-at2 .result) (c .before .before .before .u16-at3 .result))) (c .before .before .before .before .before .before .before .u16-at .ensures .0)
-    ∙ ap₂ (λ (x y : ℕ). children u br (SProp (functionOf (u16 b (a .body + 4))) x y)) (c .before .before .before .before .u16-at2 .ensures .0) (c .before .before .before .u16-at3 .ensures .0)
-    ∙ sym (offered-by b u br (a .body) (a .size) sProp (is-rule (s .pre .1) _ (c .before .before .before .before .before .enum-told2 .given .1)))
+    ∙ ap (λ (f : ℕ). children u br (SProp (functionOf f) (c .before .before .before .before .u16-at2 .result) (c .before .before .before .u16-at3 .result)))
+    (u16-at .ensures .0)
+    ∙ ap₂ (λ (x y : ℕ). children u br (SProp (functionOf (u16 b (a .body + 4))) x y)) (c .before .before .before .before .u16-at2 .ensures .0)
+    (c .before .before .before .u16-at3 .ensures .0)
+    ∙ sym (offered-by b u br (a .body) (a .size) sProp (is-rule (s .pre .1) _ (enum-told2 .given .1)))
 
 same-length-3 : tie.Need-same-length-3
 same-length-3 c = search needs
@@ -144,13 +167,14 @@ same-length-3 c = search needs
 returns-3 : tie.Need-returns-3
 unfolding stepOf
 returns-3 c =
+    let u16-at = c .before .before .before .before .before .u16-at in
     let s = c .before .before .before .before .before .before .before in
     let a = s .args in
     let b = now (a .ticket) in
     let u = asked b (a .s) in
     let br = branchOf (now (a .work)) (a .count) in
     c .before .of-literal .ensures
-    ∙ ap (λ (x : ℕ). literalChildren u br (functionOf 0) x) (c .before .before .before .before .before .u16-at .ensures .0)
+    ∙ ap (λ (x : ℕ). literalChildren u br (functionOf 0) x) (u16-at .ensures .0)
     ∙ sym (offered-by b u br (a .body) (a .size) lIntro (is-rule (s .pre .1) _ (c .before .before .before .enum-told3 .given .1)))
 
 same-length-4 : tie.Need-same-length-4
@@ -159,13 +183,14 @@ same-length-4 c = search needs
 returns-4 : tie.Need-returns-4
 unfolding stepOf
 returns-4 c =
+    let u16-at = c .before .before .before .before .before .u16-at in
     let s = c .before .before .before .before .before .before .before in
     let a = s .args in
     let b = now (a .ticket) in
     let u = asked b (a .s) in
     let br = branchOf (now (a .work)) (a .count) in
     c .before .of-literal2 .ensures
-    ∙ ap (λ (x : ℕ). literalChildren u br (functionOf 1) x) (c .before .before .before .before .before .u16-at .ensures .0)
+    ∙ ap (λ (x : ℕ). literalChildren u br (functionOf 1) x) (u16-at .ensures .0)
     ∙ sym (offered-by b u br (a .body) (a .size) cCollapse (is-rule (s .pre .1) _ (c .before .before .before .enum-told4 .given .1)))
 
 same-length-5 : tie.Need-same-length-5
@@ -174,13 +199,14 @@ same-length-5 c = search needs
 returns-5 : tie.Need-returns-5
 unfolding stepOf
 returns-5 c =
+    let u16-at = c .before .before .before .before .before .before .u16-at in
     let s = c .before .before .before .before .before .before .before .before in
     let a = s .args in
     let b = now (a .ticket) in
     let u = asked b (a .s) in
     let br = branchOf (now (a .work)) (a .count) in
     c .before .join .ensures u
-    ∙ ap₂ (λ (j k : ℕ). children u br (Join j k)) (c .before .before .before .before .before .before .u16-at .ensures .0) (c .before .before .u16-at4 .ensures .0)
+    ∙ ap₂ (λ (j k : ℕ). children u br (Join j k)) (u16-at .ensures .0) (c .before .before .u16-at4 .ensures .0)
     ∙ sym (offered-by b u br (a .body) (a .size) join (is-rule (s .pre .1) _ (c .before .before .before .before .enum-told5 .given .1)))
 
 returns-6 : tie.Need-returns-6

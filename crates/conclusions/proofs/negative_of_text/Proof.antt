@@ -21,7 +21,8 @@ sub-result c = let n = c .before .before .args .count in minus-fits (pos n) _ (t
 returns : tie.Need-returns
 returns c =
     let a = c .before .before .args in
-    minus-is (pos (a .count)) _ (toZ-pos w64 (a .count) (omega arith)) (omega arith) ∙ ap negℤ (value-length (now (a .ticket)) (a .function) (a .at) (a .count) (c .if1 .taken))
+    minus-is (pos (a .count)) _ (toZ-pos w64 (a .count) (omega arith)) (omega arith)
+    ∙ ap negℤ (value-length (now (a .ticket)) (a .function) (a .at) (a .count) (c .if1 .taken))
 
 text-code-requires : tie.Need-text-code-requires
 text-code-requires c κs = search needs

@@ -25,12 +25,20 @@ use Rattle.conclusions.proofs.of_literal.Statement.{statement}
 use Rattle.conclusions.proofs.of_literal.Tie as tie
 
 -- the literal that was found
-found-is : (c : tie.After-known-told) → lowestLiteral (c .before .before .before .before .before .labels .result) (c .before .before .before .before .before .before .before .args .x) 0 (c .before .before .before .before .before .before .before .args .s .literals + 1) ≡ some (c .before .found .given .0 .0)
+found-is : (c : tie.After-known-told) →
+    let labels = c .before .before .before .before .before .labels in
+    let args = c .before .before .before .before .before .before .before .args in
+    lowestLiteral (labels .result) (args .x) 0 (args .s .literals + 1) ≡ some (c .before .found .given .0 .0)
 unfolding literalOf
 found-is c = sym (c .before .before .before .class-literal .ensures) ∙ ap literalOf (c .before .found .given .1)
 
-few : (c : tie.After-known-told) → c .before .found .given .0 .0 ≤ c .before .before .before .before .before .before .before .args .s .literals
-few c = omega (arith, literal-below (c .before .before .before .before .before .labels .result) (c .before .before .before .before .before .before .before .args .x) (c .before .before .before .before .before .before .before .args .s .literals + 1) (c .before .found .given .0 .0) (found-is c))
+few : (c : tie.After-known-told) →
+    let args = c .before .before .before .before .before .before .before .args in
+    c .before .found .given .0 .0 ≤ args .s .literals
+few c =
+    let labels = c .before .before .before .before .before .labels in
+    let args = c .before .before .before .before .before .before .before .args in
+    omega (arith, literal-below (labels .result) (args .x) (args .s .literals + 1) (c .before .found .given .0 .0) (found-is c))
 
 labels-requires : tie.Need-labels-requires
 labels-requires c κs = search needs
@@ -65,7 +73,9 @@ returns : tie.Need-returns
 unfolding literalOf madeOf
 returns c =
     let a = c .before .before .before .before .before .before .args in
-    literal-none (now (a .ticket)) (a .s) (branchOf (now (a .work)) (a .count)) (c .before .before .before .before .labels .result) (a .x) (c .before .before .before .before .labels .ensures) (functionOf (a .function)) (sym (c .before .before .class-literal .ensures) ∙ ap literalOf (c .enum-told .given .1))
+    literal-none (now (a .ticket)) (a .s) (branchOf (now (a .work)) (a .count)) (c .before .before .before .before .labels .result) (a .x)
+    (c .before .before .before .before .labels .ensures) (functionOf (a .function))
+    (sym (c .before .before .class-literal .ensures) ∙ ap literalOf (c .enum-told .given .1))
 
 same-length : tie.Need-same-length
 same-length c = search needs
@@ -73,13 +83,20 @@ same-length c = search needs
 returns-2 : tie.Need-returns-2
 unfolding madeOf asked
 returns-2 c =
+    let literal-text = c .before .before .before .before .before .literal-text in
+    let after-known-told = c .before .before .before .before .before .before in
+    let found = after-known-told .before .found in
+    let labels = after-known-told .before .before .before .before .before .labels in
     let a = c .before .before .before .before .before .before .before .before .before .before .before .before .before .args in
     let b = now (a .ticket) in
     ap (λ (f : Fact). some (one f)) (c .before .fill-single .ensures
-    ∙ ap (λ (z : ℤ). arithmetic eq (single z (c .before .before .column-of .result) (pos 1))) (toZ-ofZ (record { sfits = c .before .before .before .before .negative-of-text .ok }) ∙ c .before .before .before .before .negative-of-text .ensures))
-    ∙ literal-adds b (a .s) (branchOf (now (a .work)) (a .count)) (c .before .before .before .before .before .before .before .before .before .before .before .labels .result) (a .x) (c .before .before .before .before .before .before .before .before .before .before .before .labels .ensures) (a .function) (c .before .before .before .before .before .before .before .found .given .0 .0) (c .before .before .column-of .result)
-    (u32s b (c .before .before .before .before .before .literal-text .result .at) (c .before .before .before .before .before .literal-text .result .count)) (found-is (c .before .before .before .before .before .before)) (c .before .before .column-of .ensures .0) (c .before .before .column-of .ensures .1)
-    (c .before .before .before .before .before .literal-text .ensures .1 (a .s .literals) (few (c .before .before .before .before .before .before)))
+    ∙ ap (λ (z : ℤ). arithmetic eq (single z (c .before .before .column-of .result) (pos 1)))
+    (toZ-ofZ (record { sfits = c .before .before .before .before .negative-of-text .ok }) ∙ c .before .before .before .before .negative-of-text .ensures))
+    ∙ literal-adds b (a .s) (branchOf (now (a .work)) (a .count)) (labels .result) (a .x) (labels .ensures) (a .function) (found .given .0 .0)
+    (c .before .before .column-of .result)
+    (u32s b (literal-text .result .at) (literal-text .result .count)) (found-is after-known-told) (c .before .before .column-of .ensures .0)
+    (c .before .before .column-of .ensures .1)
+    (literal-text .ensures .1 (a .s .literals) (few after-known-told))
 
 pub of-literal-spec : {M : Type 1} → statement M
 of-literal-spec =

@@ -27,7 +27,8 @@ unfolding closingOf
 returns c =
     let s = c .before .before in
     let b = branchOf (now (s .args .work)) (s .args .count) in
-    λ (u : Question) (e : length (u .literals) ≡ s .args .literals). ap closingOf (c .conflict .ensures ∙ ap₂ (λ (m : ℕ) (ls : List ℕ). clash m ls b) (add-one (s .args .literals) ∙ ap suc (sym e)) (c .before .labels .ensures))
+    λ (u : Question) (e : length (u .literals) ≡ s .args .literals). ap closingOf
+    (c .conflict .ensures ∙ ap₂ (λ (m : ℕ) (ls : List ℕ). clash m ls b) (add-one (s .args .literals) ∙ ap suc (sym e)) (c .before .labels .ensures))
 
 pub s-conf-spec : {M : Type 1} → statement M
 s-conf-spec = tie.close (tie.spec labels-requires add-conflict conflict-requires returns)

@@ -23,7 +23,8 @@ returns : tie.Need-returns
 unfolding madeOf
 returns c =
     let s = c .before in
-    λ (u : Question) (ep : u .p ≡ s .args .p) (eq : u .q ≡ s .args .q). s-prop-same u (branchOf (now (s .args .work)) (s .args .count)) (functionOf (s .args .function)) (s .args .x) (s .args .y) (c .if1 .taken)
+    λ (u : Question) (ep : u .p ≡ s .args .p) (eq : u .q ≡ s .args .q). s-prop-same u (branchOf (now (s .args .work)) (s .args .count))
+    (functionOf (s .args .function)) (s .args .x) (s .args .y) (c .if1 .taken)
 
 labels-requires : tie.Need-labels-requires
 labels-requires c κs = search needs
@@ -37,8 +38,11 @@ returns-2 c =
     let s = c .before .before .before .before in
     let b = branchOf (now (s .args .work)) (s .args .count) in
     let t : sameClass (labels b) (varNode (s .args .x)) (varNode (s .args .y)) ≡ false =
-    ap (λ (ls : List ℕ). sameClass ls (varNode (s .args .x)) (varNode (s .args .y))) (sym (c .before .before .labels .ensures)) ∙ sym (c .before .one-class .ensures) ∙ not-true _ (c .if2 .taken) in
-    λ (u : Question) (ep : u .p ≡ s .args .p) (eq : u .q ≡ s .args .q). s-prop-other-class u b (functionOf (s .args .function)) (s .args .x) (s .args .y) (c .before .before .before .if1 .left) t
+    ap (λ (ls : List ℕ). sameClass ls (varNode (s .args .x)) (varNode (s .args .y))) (sym (c .before .before .labels .ensures))
+    ∙ sym (c .before .one-class .ensures)
+    ∙ not-true _ (c .if2 .taken) in
+    λ (u : Question) (ep : u .p ≡ s .args .p) (eq : u .q ≡ s .args .q). s-prop-other-class u b (functionOf (s .args .function)) (s .args .x) (s .args .y)
+    (c .before .before .before .if1 .left) t
 
 column-of-requires : tie.Need-column-of-requires
 column-of-requires c κs = search needs
@@ -55,18 +59,22 @@ same-length c = search needs
 returns-3 : tie.Need-returns-3
 unfolding madeOf
 returns-3 c =
+    let if2 = c .before .before .before .before .before .if2 in
+    let one-class = c .before .before .before .before .before .before .one-class in
+    let labels-call = c .before .before .before .before .before .before .before .labels in
+    let if1 = c .before .before .before .before .before .before .before .before .if1 in
     let s = c .before .before .before .before .before .before .before .before .before in
     let a = s .args in
     let b = branchOf (now (a .work)) (a .count) in
     let t : sameClass (labels b) (varNode (a .x)) (varNode (a .y)) ≡ true =
-    ap (λ (ls : List ℕ). sameClass ls (varNode (a .x)) (varNode (a .y))) (sym (c .before .before .before .before .before .before .before .labels .ensures)) ∙ sym (c .before .before .before .before .before .before .one-class .ensures) ∙ not-false _ (c .before .before .before .before .before .if2 .left) in
+    ap (λ (ls : List ℕ). sameClass ls (varNode (a .x)) (varNode (a .y))) (sym (labels-call .ensures)) ∙ sym (one-class .ensures) ∙ not-false _ (if2 .left) in
     λ (u : Question) (ep : u .p ≡ a .p) (eq : u .q ≡ a .q).
     ap (λ (f : Fact). some (one f)) (c .before .fill-difference .ensures)
-    ∙ ap some (s-prop-adds u (a .function) (a .x) (a .y) (c .before .before .before .column-of .result) (c .before .before .column-of2 .result) (c .before .before .before .before .before .before .before .before .if1 .left)
+    ∙ ap some (s-prop-adds u (a .function) (a .x) (a .y) (c .before .before .before .column-of .result) (c .before .before .column-of2 .result) (if1 .left)
     (c .before .before .before .column-of .ensures .0 ∙ ap₂ (λ (p q : ℕ). columnAt p q (a .function) (a .x)) (sym ep) (sym eq))
     (c .before .before .column-of2 .ensures .0 ∙ ap₂ (λ (p q : ℕ). columnAt p q (a .function) (a .y)) (sym ep) (sym eq))
     (c .before .before .before .column-of .ensures .1) (c .before .before .column-of2 .ensures .1))
-    ∙ s-prop-fits u b (functionOf (a .function)) (a .x) (a .y) (c .before .before .before .before .before .before .before .before .if1 .left) t
+    ∙ s-prop-fits u b (functionOf (a .function)) (a .x) (a .y) (if1 .left) t
 
 pub s-prop-spec : {M : Type 1} → statement M
 s-prop-spec =

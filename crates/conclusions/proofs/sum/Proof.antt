@@ -39,7 +39,10 @@ sum-row-requires c κs =
       s .pre .0,
       (
         (omega arith, omega arith, omega (arith, s .pre .1 .0 .0)),
-        ((omega (arith, h .some-divisor, c .before .u32-at .ensures .0), omega (arith, h .small-divisor, c .before .u32-at .ensures .0)), (h .multipliers, s .pre .1 .1)),
+        (
+          (omega (arith, h .some-divisor, c .before .u32-at .ensures .0), omega (arith, h .small-divisor, c .before .u32-at .ensures .0)),
+          (h .multipliers, s .pre .1 .1),
+        ),
       ),
     )
 
@@ -50,8 +53,10 @@ returns : tie.Need-returns
 returns c =
     let a = c .before .before .before .before .before .args in
     let b = now (a .ticket) in
-    λ (u : Question). sum-made u (branchOf (now (a .work)) (a .count)) (u32 b (a .body + 4)) (sumPairs b (a .body) (a .size)) (c .before .sum-row .result) (c .before .sum-row .last .0)
-    (c .before .sum-row .ensures ∙ ap (λ (d : ℕ). sumFact (branchOf (now (a .work)) (a .count)) d (sumPairs b (a .body) (a .size))) (c .before .before .before .u32-at .ensures .0))
+    λ (u : Question). sum-made u (branchOf (now (a .work)) (a .count)) (u32 b (a .body + 4)) (sumPairs b (a .body) (a .size)) (c .before .sum-row .result)
+    (c .before .sum-row .last .0)
+    (c .before .sum-row .ensures
+    ∙ ap (λ (d : ℕ). sumFact (branchOf (now (a .work)) (a .count)) d (sumPairs b (a .body) (a .size))) (c .before .before .before .u32-at .ensures .0))
 
 pub sum-spec : {M : Type 1} → statement M
 sum-spec =

@@ -27,17 +27,21 @@ abbrev μ-loop : tie.MeasureT-loop
 
 -- the pair read
 module _ (c : tie.After-i32-at2 Inv-loop μ-loop) where
-  column-is : c .before .u16-at .result ≡ u16 (now (c .before .before .before .before .before .before .before .before .before .args .b)) (c .before .before .before .before .before .before .before .before .before .args .at + 4 + 6 * c .before .before .before .loop .i)
+  column-is : let args = c .before .before .before .before .before .before .before .before .before .args in
+      c .before .u16-at .result ≡ u16 (now (args .b)) (args .at + 4 + 6 * c .before .before .before .loop .i)
   column-is = c .before .u16-at .ensures .0
 
-  coefficient-is : toZ w64 (ofZ w64 (c .i32-at2 .result)) ≡ i32 (now (c .before .before .before .before .before .before .before .before .before .args .b)) (c .before .before .before .before .before .before .before .before .before .args .at + 4 + 6 * c .before .before .before .loop .i + 2)
+  coefficient-is : let args = c .before .before .before .before .before .before .before .before .before .args in
+      toZ w64 (ofZ w64 (c .i32-at2 .result)) ≡ i32 (now (args .b)) (args .at + 4 + 6 * c .before .before .before .loop .i + 2)
   coefficient-is = let f : SFits w64 (c .i32-at2 .result) = record { sfits = c .i32-at2 .ok } in toZ-ofZ f ∙ c .i32-at2 .ensures .0
 
   small : c .before .u16-at .result < 48
   small =
       let s = c .before .before .before .before .before .before .before .before .before in
       subst (λ (k : ℕ). k < 48) (sym column-is)
-      (column-small (now (s .args .b)) (s .args .at + 4) (s .args .pairs) (pos (s .args .relation)) (i32 (now (s .args .b)) (s .args .at)) (c .before .before .before .loop .row) (c .before .before .before .loop .i) (c .before .before .before .loop .inv) (c .before .before .loop-test .taken))
+      (column-small (now (s .args .b)) (s .args .at + 4) (s .args .pairs) (pos (s .args .relation)) (i32 (now (s .args .b)) (s .args .at))
+      (c .before .before .before .loop .row) (c .before .before .before .loop .i) (c .before .before .before .loop .inv)
+      (c .before .before .loop-test .taken))
 
 clear-row-requires : tie.Need-clear-row-requires Inv-loop μ-loop
 clear-row-requires c κs = search needs
@@ -61,7 +65,8 @@ loop-holds c =
     let e : toZ w64 (ofZ w64 (c .i32-at .result)) ≡ i32 (now (s .args .b)) (s .args .at) = toZ-ofZ f ∙ c .i32-at .ensures .0 in
     let r : toZ w64 (s .args .relation) ≡ pos (s .args .relation) = toZ-pos w64 {n = s .args .relation} (omega arith) in
     subst (λ (o : List ℤ). Filling (now (s .args .b)) (s .args .at + 4) (s .args .pairs) (pos (s .args .relation)) (i32 (now (s .args .b)) (s .args .at)) o 0)
-    (sym (ap (λ (l : List ℤ). set (set l 0 (toZ w64 (s .args .relation))) 1 (toZ w64 (ofZ w64 (c .i32-at .result)))) (c .before .before .clear-row .ensures) ∙ ap₂ (λ (x y : ℤ). x ∷ y ∷ zeros 48) r e))
+    (sym (ap (λ (l : List ℤ). set (set l 0 (toZ w64 (s .args .relation))) 1 (toZ w64 (ofZ w64 (c .i32-at .result)))) (c .before .before .clear-row .ensures)
+    ∙ ap₂ (λ (x y : ℤ). x ∷ y ∷ zeros 48) r e))
     (filling-start (now (s .args .b)) (s .args .at + 4) (s .args .pairs) (pos (s .args .relation)) (i32 (now (s .args .b)) (s .args .at)) (s .pre .1 .1))
 
 add-place : tie.Need-add-place Inv-loop μ-loop
@@ -101,18 +106,23 @@ loop-again : tie.Need-loop-again Inv-loop μ-loop
 loop-again c =
     let s = c .before .before .before .before .before .before .before .before .before in
     let l = c .before .before .before .loop in
-    subst (λ (o : List ℤ). Filling (now (s .args .b)) (s .args .at + 4) (s .args .pairs) (pos (s .args .relation)) (i32 (now (s .args .b)) (s .args .at)) o (l .i + 1))
+    subst (λ (o : List ℤ). Filling (now (s .args .b)) (s .args .at + 4) (s .args .pairs) (pos (s .args .relation)) (i32 (now (s .args .b)) (s .args .at)) o
+    (l .i + 1))
     (sym (ap₂ (λ (k : ℕ) (z : ℤ). set (l .row) (k + 2) z) (column-is c) (coefficient-is c)))
-    (filling-more (now (s .args .b)) (s .args .at + 4) (s .args .pairs) (pos (s .args .relation)) (i32 (now (s .args .b)) (s .args .at)) (l .row) (l .i) (l .inv) (c .before .before .loop-test .taken))
+    (filling-more (now (s .args .b)) (s .args .at + 4) (s .args .pairs) (pos (s .args .relation)) (i32 (now (s .args .b)) (s .args .at)) (l .row) (l .i)
+    (l .inv) (c .before .before .loop-test .taken))
 
 same-length : tie.Need-same-length Inv-loop μ-loop
-same-length c = c .before .loop .inv .long ∙ sym (c .before .before .before .before .before .before .before .pre .0)
+same-length c =
+    let pre = c .before .before .before .before .before .before .before .pre in
+    c .before .loop .inv .long ∙ sym (pre .0)
 
 returns : tie.Need-returns Inv-loop μ-loop
 returns c =
     let s = c .before .before .before .before .before .before .before in
     let l = c .before .loop in
-    ap factOf (filling-done (now (s .args .b)) (s .args .at + 4) (s .args .pairs) (pos (s .args .relation)) (i32 (now (s .args .b)) (s .args .at)) (l .row) (l .i) (l .inv) (c .loop-test .left))
+    ap factOf (filling-done (now (s .args .b)) (s .args .at + 4) (s .args .pairs) (pos (s .args .relation)) (i32 (now (s .args .b)) (s .args .at)) (l .row)
+    (l .i) (l .inv) (c .loop-test .left))
     ∙ relation-fact (s .args .relation) (formOf (now (s .args .b)) (s .args .at) (s .args .pairs)) (s .pre .1 .0 .0)
 
 pub fill-form-spec : {M : Type 1} → statement M

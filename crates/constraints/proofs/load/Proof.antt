@@ -74,14 +74,21 @@ add-put-constraint c = omega (arith, stands (c .before .before .before) .whole)
 put-constraint-requires : tie.Need-put-constraint-requires Inv-loop μ-loop
 put-constraint-requires c κs =
     let l = c .before .before .before .before .loop in
-    let s = c .before .before .before .before .before .before .before in
-    ((omega (arith, s .pre .0 .few-constraints), l .inv .3 .room), rw (c .before .u16-at .ensures .0, c .before .before .u32-at .ensures .0) (omega (arith, stands (c .before .before .before) .whole), formed (c .before .before .before)))
+    let s = c .before .before .before .before .before .before .before in (
+      (omega (arith, s .pre .0 .few-constraints), l .inv .3 .room),
+      rw (c .before .u16-at .ensures .0, c .before .before .u32-at .ensures .0)
+          (omega (arith, stands (c .before .before .before) .whole), formed (c .before .before .before)),
+    )
 
 add-at : tie.Need-add-at Inv-loop μ-loop
-add-at c = omega (arith, stands (c .before .before .before .before .before) .whole)
+add-at c =
+    let in-loop = c .before .before .before .before .before in
+    omega (arith, stands in-loop .whole)
 
 add-at-2 : tie.Need-add-at-2 Inv-loop μ-loop
-add-at-2 c = omega (arith, stands (c .before .before .before .before .before) .whole, c .before .before .before .before .u32-at .ensures .0)
+add-at-2 c =
+    let in-loop = c .before .before .before .before .before in
+    omega (arith, stands in-loop .whole, c .before .before .before .before .u32-at .ensures .0)
 
 add-k : tie.Need-add-k Inv-loop μ-loop
 add-k c = search needs
@@ -91,6 +98,7 @@ loop-less c = search needs
 
 loop-again : tie.Need-loop-again Inv-loop μ-loop
 loop-again c =
+    let in-loop = c .before .before .before .before .before in
     let l = c .before .before .before .before .before .before .loop in
     let s = c .before .before .before .before .before .before .before .before .before in
     let b : List ℕ = now (s .args .ticket) in
@@ -99,7 +107,8 @@ loop-again c =
     let f : Fact = constraintOf b (kind b (l .at)) (l .at + 6) (size b (l .at)) in
     let size-is : c .before .before .before .before .u32-at .result ≡ size b (l .at) = c .before .before .before .before .u32-at .ensures .0 in
     let put : branchOf v (l .k + 1) ≡ branchOf (l .work) (l .k) ++ (f ∷ []) =
-    c .before .put-constraint .ensures ∙ ap₂ (λ (k m : ℕ). branchOf (l .work) (l .k) ++ (constraintOf b k (l .at + 6) m ∷ [])) (c .before .before .before .u16-at .ensures .0) size-is in
+    c .before .put-constraint .ensures
+    ∙ ap₂ (λ (k m : ℕ). branchOf (l .work) (l .k) ++ (constraintOf b k (l .at + 6) m ∷ [])) (c .before .before .before .u16-at .ensures .0) size-is in
     let kept : length v ≡ length (l .work) = c .before .put-constraint .kept .0 in
     let less : s .args .s .constraints - l .k - 1 ≡ s .args .s .constraints - (l .k + 1) = omega arith in
     let few = s .pre .0 .few-constraints in
@@ -107,7 +116,8 @@ loop-again c =
       omega arith,
       ap (next b) (l .inv .1) ∙ sym (skip-snoc b (l .k) from) ∙ ap (λ (k : ℕ). skip b k from) (sym (add-one (l .k))),
       kept ∙ l .inv .2,
-      fine-put (l .work) v (l .k) f (l .inv .3) (omega arith) kept put (constraint-within b _ _ _ (kind b (l .at)) (l .at + 6) (size b (l .at)) (formed (c .before .before .before .before .before))),
+      fine-put (l .work) v (l .k) f (l .inv .3) (omega arith) kept put
+          (constraint-within b _ _ _ (kind b (l .at)) (l .at + 6) (size b (l .at)) (formed in-loop)),
       rw (put, ← less) (loaded-more b (l .at) (s .args .s .constraints - l .k) (branchOf (l .work) (l .k)) (omega arith)) ∙ l .inv .4,
     )
 
@@ -120,7 +130,8 @@ returns c =
     let l = c .before .loop in
     let s = c .before .before .before .before .args in
     let e : l .k ≡ s .s .constraints = omega arith in
-    let all : branchOf (l .work) (l .k) ≡ constraintsAt (now (s .ticket)) (s .s .constraints) (c .before .before .behind-literals .result) = sym (loaded-all (now (s .ticket)) (l .at) (s .s .constraints - l .k) (branchOf (l .work) (l .k)) (omega arith)) ∙ l .inv .4 in (
+    let all : branchOf (l .work) (l .k) ≡ constraintsAt (now (s .ticket)) (s .s .constraints) (c .before .before .behind-literals .result) =
+    sym (loaded-all (now (s .ticket)) (l .at) (s .s .constraints - l .k) (branchOf (l .work) (l .k)) (omega arith)) ∙ l .inv .4 in (
       ap (branchOf (l .work)) (sym e) ∙ all ∙ ap (constraintsAt (now (s .ticket)) (s .s .constraints)) (c .before .before .behind-literals .ensures),
       subst (Fine (l .work)) e (l .inv .3),
     )

@@ -27,11 +27,15 @@ text c = let s = c .before .before .before in of-strings (now (s .args .b)) _ _ 
 form : (c : tie.At-match-keys2) →
     let s = c .before .before .before .args in
     let b = now (s .b) in
-    ArithmeticConstraint b columnLimit (s .at) (s .size) × (constraintOf b (s .kind) (s .at) (s .size) ≡ arithmetic (relationOf (u16 b (s .at))) (formOf b (s .at + 2) (s .size / 6 - 1)))
+    ArithmeticConstraint b columnLimit (s .at) (s .size)
+    × (constraintOf b (s .kind) (s .at) (s .size) ≡ arithmetic (relationOf (u16 b (s .at))) (formOf b (s .at + 2) (s .size / 6 - 1)))
 form c = let s = c .before .before .before in of-columns (now (s .args .b)) _ _ _ (s .args .kind) (s .args .at) (s .args .size) (s .pre .1 .1) (c .match .keys2)
 
 u16-at-requires : tie.Need-u16-at-requires
-u16-at-requires c κs = let s = c .before in let h = six-bytes (now (s .args .b)) _ _ _ (s .args .kind) (s .args .at) (s .args .size) (s .pre .1 .1) in omega arith
+u16-at-requires c κs =
+    let s = c .before in
+    let h = six-bytes (now (s .args .b)) _ _ _ (s .args .kind) (s .args .at) (s .args .size) (s .pre .1 .1) in
+    omega arith
 
 add-u16-at : tie.Need-add-u16-at
 add-u16-at c = search needs
@@ -62,6 +66,7 @@ same-length c = search needs
 
 returns : tie.Need-returns
 returns c =
+    let at-match-keys1 = c .before .before .before .before .before in
     let s = c .before .before .before .before .before .before .before .before in
     let b = now (s .args .b) in
     let at' = s .args .at in
@@ -72,7 +77,7 @@ returns c =
     ∙ ap (λ (f : Fact). branchOf (now (s .args .work)) (s .args .k) ++ (f ∷ []))
     (ap₂ (λ (m n : ℕ). stringFact m n (second .result)) (relation .ensures .0) x
     ∙ ap (stringFact (u16 b at') (u16 b (at' + 2))) (second .ensures .0)
-    ∙ sym (text (c .before .before .before .before .before) .1))
+    ∙ sym (text at-match-keys1 .1))
 
 add-put-form : tie.Need-add-put-form
 add-put-form c = search needs

@@ -27,7 +27,8 @@ returns c =
     let b = now (s .ticket) in
     let pre = c .before .before .before .before .before .pre in
     refused (now (s .answer))
-    (unsettled b (asked b (s .s)) (branchOf (now (s .work)) (s .count)) (s .r) (s .at) (c .before .before .u32-at .result) (c .before .before .u32-at .ensures .0) (pre .1) (pre .2) _ (c .before .settle .ensures .0) (c .if1 .taken))
+    (unsettled b (asked b (s .s)) (branchOf (now (s .work)) (s .count)) (s .r) (s .at) (c .before .before .u32-at .result)
+    (c .before .before .u32-at .ensures .0) (pre .1) (pre .2) _ (c .before .settle .ensures .0) (c .if1 .taken))
 
 add-end-fault : tie.Need-add-end-fault
 add-end-fault c = search needs
@@ -47,7 +48,8 @@ returns-2 c =
     let b = now (s .ticket) in
     let pre = c .before .before .before .before .before .before .before .pre in
     refused (now (s .answer))
-    (unended b (asked b (s .s)) (branchOf (now (s .work)) (s .count)) (s .r) (s .at) (c .before .before .before .before .u32-at .result) (c .before .before .before .before .u32-at .ensures .0) (pre .1) (pre .2)
+    (unended b (asked b (s .s)) (branchOf (now (s .work)) (s .count)) (s .r) (s .at) (c .before .before .before .before .u32-at .result)
+    (c .before .before .before .before .u32-at .ensures .0) (pre .1) (pre .2)
     (sym (c .before .before .before .settle .ensures .0) ∙ c .before .before .if1 .left) _ (c .before .end-fault .ensures) (c .if2 .taken))
 
 write-requires : tie.Need-write-requires
@@ -58,15 +60,19 @@ same-length c = search needs
 
 returns-3 : tie.Need-returns-3
 returns-3 c =
+    let end-fault = c .before .before .before .before .before .end-fault in
+    let if1 = c .before .before .before .before .before .before .if1 in
+    let settle = c .before .before .before .before .before .before .before .settle in
+    let u32-at = c .before .before .before .before .before .before .before .before .u32-at in
     let s = c .before .before .before .before .before .before .before .before .before .before .before .args in
     let b = now (s .ticket) in
     let u = asked b (s .s) in
     let br = branchOf (now (s .work)) (s .count) in
     let pre = c .before .before .before .before .before .before .before .before .before .before .before .pre in
     strings (now (s .answer)) _
-    (ended b u br (s .r) (s .at) (c .before .before .before .before .before .before .before .before .u32-at .result) (c .before .before .before .before .before .before .before .before .u32-at .ensures .0) (pre .1) (pre .2)
-    (sym (c .before .before .before .before .before .before .before .settle .ensures .0) ∙ c .before .before .before .before .before .before .if1 .left) (sym (c .before .before .before .before .before .end-fault .ensures) ∙ c .before .before .before .before .if2 .left))
-    (c .before .before .write .ensures br (modelAt b u (s .at + 6)) (c .before .before .before .before .before .before .before .settle .ensures .1 (c .before .before .before .before .before .before .if1 .left)))
+    (ended b u br (s .r) (s .at) (u32-at .result) (u32-at .ensures .0) (pre .1) (pre .2)
+    (sym (settle .ensures .0) ∙ if1 .left) (sym (end-fault .ensures) ∙ c .before .before .before .before .if2 .left))
+    (c .before .before .write .ensures br (modelAt b u (s .at + 6)) (settle .ensures .1 (if1 .left)))
 
 pub at-model-spec : {M : Type 1} → statement M
 at-model-spec =

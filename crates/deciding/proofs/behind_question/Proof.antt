@@ -22,8 +22,11 @@ returns c =
 
 load-requires : tie.Need-load-requires
 load-requires c κs =
-    let s = c .before .before .before .before .before in
-    (posed (now (s .args .ticket)) (s .args .s) (s .args .at) (s .pre .0 .0) (s .pre .0 .2) (s .pre .0 .3) (sym (c .before .before .claim-fault .ensures) ∙ c .before .if1 .left), s .pre .1 .0)
+    let s = c .before .before .before .before .before in (
+      posed (now (s .args .ticket)) (s .args .s) (s .args .at) (s .pre .0 .0) (s .pre .0 .2) (s .pre .0 .3)
+          (sym (c .before .before .claim-fault .ensures) ∙ c .before .if1 .left),
+      s .pre .1 .0,
+    )
 
 add-u16-at : tie.Need-add-u16-at
 add-u16-at c = search needs
@@ -32,7 +35,9 @@ u16-at-requires : tie.Need-u16-at-requires
 u16-at-requires c κs =
     let s = c .before .before .before .before .before .before .before in
     let b = now (s .args .ticket) in
-    let claim = claim-good b (progressOf b (s .args .s)) (s .args .at) (sym (c .before .before .before .before .claim-fault .ensures) ∙ c .before .before .before .if1 .left) in
+    let claim =
+    claim-good b (progressOf b (s .args .s)) (s .args .at)
+    (sym (c .before .before .before .before .claim-fault .ensures) ∙ c .before .before .before .if1 .left) in
     omega (arith, claim .whole, claim .two)
 
 add-prove : tie.Need-add-prove
@@ -46,16 +51,25 @@ prove-requires c κs =
     let loaded = c .before .before .before .before in
     let tested = loaded .before .before in
     let s = tested .before .before .before .before in
-    let claimed = sym (tested .before .claim-fault .ensures) ∙ tested .if1 .left in
-    ((posed (now (s .args .ticket)) (s .args .s) (s .args .at) (s .pre .0 .0) (s .pre .0 .2) (s .pre .0 .3) claimed, loaded .load .ensures .1, loaded .load .ensures .0), omega arith)
+    let claimed = sym (tested .before .claim-fault .ensures) ∙ tested .if1 .left in (
+      (
+        posed (now (s .args .ticket)) (s .args .s) (s .args .at) (s .pre .0 .0) (s .pre .0 .2) (s .pre .0 .3) claimed,
+        loaded .load .ensures .1,
+        loaded .load .ensures .0,
+      ),
+      omega arith,
+    )
 
 same-length : tie.Need-same-length
 same-length c = search needs
 
 returns-2 : tie.Need-returns-2
 returns-2 c =
+    let if1 = c .before .before .before .before .before .before .before .before .if1 in
+    let claim-fault = c .before .before .before .before .before .before .before .before .before .claim-fault in
     let s = c .before .before .before .before .before .before .before .before .before .before .before .before .args in
-    decided-by (claims-none (now (s .ticket)) (s .s) (s .at) (s .r) (sym (c .before .before .before .before .before .before .before .before .before .claim-fault .ensures) ∙ c .before .before .before .before .before .before .before .before .if1 .left) (sym (c .before .before .before .before .u16-at .ensures .0) ∙ c .before .before .before .if2 .taken))
+    decided-by (claims-none (now (s .ticket)) (s .s) (s .at) (s .r) (sym (claim-fault .ensures) ∙ if1 .left)
+    (sym (c .before .before .before .before .u16-at .ensures .0) ∙ c .before .before .before .if2 .taken))
     (c .before .prove .ensures (now (s .answer)))
 
 add-give-answer : tie.Need-add-give-answer
@@ -70,7 +84,11 @@ give-answer-requires c κs =
     let tested = loaded .before .before in
     let s = tested .before .before .before .before in
     let claimed = sym (tested .before .claim-fault .ensures) ∙ tested .if1 .left in (
-      (posed (now (s .args .ticket)) (s .args .s) (s .args .at) (s .pre .0 .0) (s .pre .0 .2) (s .pre .0 .3) claimed, loaded .load .ensures .1, loaded .load .ensures .0),
+      (
+        posed (now (s .args .ticket)) (s .args .s) (s .args .at) (s .pre .0 .0) (s .pre .0 .2) (s .pre .0 .3) claimed,
+        loaded .load .ensures .1,
+        loaded .load .ensures .0,
+      ),
       omega arith,
       s .pre .1 .1,
     )
@@ -83,8 +101,12 @@ same-length-3 c = search needs
 
 returns-3 : tie.Need-returns-3
 returns-3 c =
+    let if2 = c .before .before .before .before .before .before .if2 in
+    let u16-at = c .before .before .before .before .before .before .before .u16-at in
+    let if1 = c .before .before .before .before .before .before .before .before .before .before .before .if1 in
+    let claim-fault = c .before .before .before .before .before .before .before .before .before .before .before .before .claim-fault in
     let s = c .before .before .before .before .before .before .before .before .before .before .before .before .before .before .before .args in
-    decided-by (claims-strings (now (s .ticket)) (s .s) (s .at) (s .r) (sym (c .before .before .before .before .before .before .before .before .before .before .before .before .claim-fault .ensures) ∙ c .before .before .before .before .before .before .before .before .before .before .before .if1 .left) (λ e. c .before .before .before .before .before .before .if2 .left (c .before .before .before .before .before .before .before .u16-at .ensures .0 ∙ e)))
+    decided-by (claims-strings (now (s .ticket)) (s .s) (s .at) (s .r) (sym (claim-fault .ensures) ∙ if1 .left) (λ e. if2 .left (u16-at .ensures .0 ∙ e)))
     (c .before .before .before .give-answer .ensures)
 
 pub behind-question-spec : {M : Type 1} → statement M

@@ -22,11 +22,14 @@ enum-known-s c = search needs
 behind-question-requires : tie.Need-behind-question-requires
 unfolding readingOf
 behind-question-requires c κs =
+    let read-question-call = c .before .before .before .before .before .read-question in
+    let pre = c .before .before .before .before .before .before .before .before .pre in
     let s = c .before .before .before .before .before .before .before .before .args in
     let b = now (s .ticket) in
     let end = c .before .before .before .s .given .0 in
-    let read = read-question b (end .0) (end .1 .0) (end .1 .1 .0) (sym (c .before .before .before .before .before .read-question .ensures) ∙ ap (readingOf b) (c .before .before .before .s .given .1)) in
-    ((read .stands, read .headed, read .short, read .few-constraints, read .few), c .before .before .before .before .before .before .before .before .pre)
+    let read =
+    read-question b (end .0) (end .1 .0) (end .1 .1 .0) (sym (read-question-call .ensures) ∙ ap (readingOf b) (c .before .before .before .s .given .1)) in
+    ((read .stands, read .headed, read .short, read .few-constraints, read .few), pre)
 
 returns : tie.Need-returns
 unfolding readingOf
@@ -44,9 +47,12 @@ same-length-2 c = search needs
 returns-2 : tie.Need-returns-2
 unfolding readingOf
 returns-2 c =
+    let s-read = c .before .before .before .before .before .before .before .s in
+    let read-question-call = c .before .before .before .before .before .before .before .before .before .read-question in
     let s = c .before .before .before .before .before .before .before .before .before .before .before .before .args in
     let b = now (s .ticket) in
-    decided-by (ap (readBehind checker b) (sym (c .before .before .before .before .before .before .before .before .before .read-question .ensures) ∙ ap (readingOf b) (c .before .before .before .before .before .before .before .s .given .1))) (c .before .before .before .behind-question .ensures)
+    decided-by (ap (readBehind checker b) (sym (read-question-call .ensures) ∙ ap (readingOf b) (s-read .given .1)))
+    (c .before .before .before .behind-question .ensures)
 
 pub decide-spec : {M : Type 1} → statement M
 decide-spec =

@@ -20,8 +20,9 @@ enum-known-to c = search needs
 at-model-requires : tie.Need-at-model-requires
 unfolding LeafAt
 at-model-requires c κs =
+    let follow = c .before .before .before .before .before .before .follow in
     let s = c .before .before .before .before .before .before .before .before .before .before in
-    let leaf = subst (LeafAt (now (s .args .ticket)) _) (c .before .before .before .to .given .1) (c .before .before .before .before .before .before .follow .ensures .1) in
+    let leaf = subst (LeafAt (now (s .args .ticket)) _) (c .before .before .before .to .given .1) (follow .ensures .1) in
     (s .pre .0 .0, leaf .model, leaf .whole, leaf .low, leaf .fine, s .pre .2)
 
 same-length : tie.Need-same-length
@@ -43,9 +44,11 @@ same-length-3 c = search needs
 returns-2 : tie.Need-returns-2
 unfolding followedOf
 returns-2 c =
+    let to = c .before .before .before .before .before .before .to in
+    let follow = c .before .before .before .before .before .before .before .before .before .follow in
     let s = c .before .before .before .before .before .before .before .before .before .before .before .before .before .args in
     let b = now (s .ticket) in
-    decided-by (sym (c .before .before .before .before .before .before .before .before .before .follow .ensures .0) ∙ ap (followedOf b (asked b (s .s)) _) (c .before .before .before .before .before .before .to .given .1)) (c .before .before .at-model .ensures)
+    decided-by (sym (follow .ensures .0) ∙ ap (followedOf b (asked b (s .s)) _) (to .given .1)) (c .before .before .at-model .ensures)
 
 pub give-answer-spec : {M : Type 1} → statement M
 give-answer-spec =

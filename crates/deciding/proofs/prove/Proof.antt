@@ -28,12 +28,14 @@ same-length c = search needs
 returns : tie.Need-returns
 unfolding walkedOf
 returns c =
+    let walk = c .before .before .before .before .before .before .walk in
     let s = c .before .before .before .before .before .before .before .before .before .args in
     let b = now (s .ticket) in
     let u = asked b (s .s) in
     let to = c .before .before .before .to .given .0 in
-    λ a. decided-by (sym (c .before .before .before .before .before .before .walk .ensures) ∙ ap (walkedOf b u) (c .before .before .before .to .given .1))
-    (refused a (nonzero (closed-refused (checker u) b u (to .1 .0) (to .0) refl) (c .before .end-fault .result) (c .before .end-fault .ensures) (c .if1 .taken)))
+    λ a. decided-by (sym (walk .ensures) ∙ ap (walkedOf b u) (c .before .before .before .to .given .1))
+    (refused a
+    (nonzero (closed-refused (checker u) b u (to .1 .0) (to .0) refl) (c .before .end-fault .result) (c .before .end-fault .ensures) (c .if1 .taken)))
 
 same-length-2 : tie.Need-same-length-2
 same-length-2 c = search needs
@@ -51,11 +53,12 @@ same-length-3 c = search needs
 returns-3 : tie.Need-returns-3
 unfolding walkedOf
 returns-3 c =
+    let walk = c .before .before .before .before .before .before .walk in
     let s = c .before .before .before .before .before .before .before .before .before .args in
     let b = now (s .ticket) in
     let u = asked b (s .s) in
     let to = c .before .before .before .to .given .0 in
-    λ a. decided-by (sym (c .before .before .before .before .before .before .walk .ensures) ∙ ap (walkedOf b u) (c .before .before .before .to .given .1))
+    λ a. decided-by (sym (walk .ensures) ∙ ap (walkedOf b u) (c .before .before .before .to .given .1))
     (no-solution a (closed-done (checker u) b u (to .1 .0) (to .0) refl (sym (c .before .end-fault .ensures) ∙ c .if1 .left)))
 
 pub prove-spec : {M : Type 1} → statement M

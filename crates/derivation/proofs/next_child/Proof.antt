@@ -48,7 +48,8 @@ put-child-requires c κs =
     let split = c .before .before .before .before .before .before .before .latest in
     let size = c .before .before .before .before .before .u32-at in
     let rule = c .before .before .before .rule-of in
-    puts-next (s .pre .0) (s .pre .1) (split .result) (split .ensures) (rule .result) (rule .ensures ∙ ap ruleOf (c .before .before .before .before .u16-at .ensures .0)) (size .result) (size .ensures .0)
+    puts-next (s .pre .0) (s .pre .1) (split .result) (split .ensures) (rule .result)
+    (rule .ensures ∙ ap ruleOf (c .before .before .before .before .u16-at .ensures .0)) (size .result) (size .ensures .0)
 
 cut-back-requires : tie.Need-cut-back-requires
 cut-back-requires c κs =
@@ -73,7 +74,8 @@ returns c =
     let split = c .before .before .before .before .before .before .before .before .before .before .before .before .latest in
     let size = c .before .before .before .before .before .before .before .before .before .before .u32-at in
     let f = c .before .before .before .before .put-child in
-    next-begins (s .pre .0) (s .pre .1) (split .result) (split .ensures) (f .last .1 .1 .1 .1 .1 .0) (c .extend .result) (size .result) (f .result) (size .ensures .0) (c .extend .ensures .0) (f .ensures .0) (f .ensures .1)
+    next-begins (s .pre .0) (s .pre .1) (split .result) (split .ensures) (f .last .1 .1 .1 .1 .1 .0) (c .extend .result) (size .result) (f .result)
+    (size .ensures .0) (c .extend .ensures .0) (f .ensures .0) (f .ensures .1)
     (c .extend .ensures .1 ∙ c .before .take-next-child .ensures .1 ∙ ap begunOf (c .before .before .cut-back .ensures .1))
 
 pub next-child-spec : {M : Type 1} → statement M

@@ -24,8 +24,11 @@ unfolding Acts
 returns c =
     let s = c .before .before .before in
     let a = s .args in
-    let b = now (a .ticket) in
-    (step-open b (asked b (a .s)) (branchOf (now (a .work)) (a .count)) (a .«record») (a .size) (s .pre .1) (ap closingOf (sym (not-true _ (c .if1 .taken))) ∙ c .before .closes .ensures), λ pending n. omega arith)
+    let b = now (a .ticket) in (
+      step-open b (asked b (a .s)) (branchOf (now (a .work)) (a .count)) (a .«record») (a .size) (s .pre .1)
+          (ap closingOf (sym (not-true _ (c .if1 .taken))) ∙ c .before .closes .ensures),
+      λ pending n. omega arith,
+    )
 
 returns-2 : tie.Need-returns-2
 unfolding Acts

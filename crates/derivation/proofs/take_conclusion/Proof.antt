@@ -27,8 +27,11 @@ returns c =
     let b = now (a .ticket) in
     let u = asked b (a .s) in
     let br = branchOf (now (a .work)) (a .count) in
-    let f = c .before .before .conclude in
-    (λ pending. numbered b u br (a .«record») (a .size) (s .pre .1) pending (f .result) (one-tried b u br (a .«record») (a .size) (s .pre .1) (s .pre .0 .ready .formed .fits) (its-kind (s .pre .0)) (f .result) (f .ensures .0) pending), λ pending. c .if1 .taken)
+    let f = c .before .before .conclude in (
+      λ pending. numbered b u br (a .«record») (a .size) (s .pre .1) pending (f .result)
+          (one-tried b u br (a .«record») (a .size) (s .pre .1) (s .pre .0 .ready .formed .fits) (its-kind (s .pre .0)) (f .result) (f .ensures .0) pending),
+      λ pending. c .if1 .taken,
+    )
 
 add-t9 : tie.Need-add-t9
 add-t9 c = search needs
@@ -48,7 +51,8 @@ returns-2 c =
     let zero = c .if1 .left in
     let tried = one-tried b u br (a .«record») (a .size) (s .pre .1) (s .pre .0 .ready .formed .fits) (its-kind (s .pre .0)) 0 (sym zero ∙ f .ensures .0) in (
       λ pending. numbered b u br (a .«record») (a .size) (s .pre .1) pending 0 (tried pending),
-      λ pending. first-begins b u br (a .«record») (a .size) (s .pre .1) 1 (one-child b u br (a .«record») (a .size) pending (s .pre .1) (s .pre .0 .ready .formed) (sym (tried pending)) (its-kind (s .pre .0)))
+      λ pending. first-begins b u br (a .«record») (a .size) (s .pre .1) 1
+          (one-child b u br (a .«record») (a .size) pending (s .pre .1) (s .pre .0 .ready .formed) (sym (tried pending)) (its-kind (s .pre .0)))
           (f .last .1 .1 .1 .1 .1 .0) _ (f .ensures .1 .0 zero) (f .ensures .1 .1 zero),
     )
 

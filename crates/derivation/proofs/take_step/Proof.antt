@@ -13,7 +13,8 @@ use Rattle.derivation.proofs.take_step.Statement.{statement}
 use Rattle.derivation.proofs.take_step.Tie as tie
 
 -- the step by its rule, which has so many conclusions
-ready-by : (c : tie.After-conclusions-of) (k : Conclusions) → c .conclusions-of .result ≡ k → let a = c .before .before .before .before .args in ReadyBy (c .before .rule-of .result) k (now (a .ticket)) (a .s) (a .«record» + 6) (a .size) (now (a .work)) (a .count)
+ready-by : (c : tie.After-conclusions-of) (k : Conclusions) → c .conclusions-of .result ≡ k → let a = c .before .before .before .before .args in
+    ReadyBy (c .before .rule-of .result) k (now (a .ticket)) (a .s) (a .«record» + 6) (a .size) (now (a .work)) (a .count)
 ready-by c k e =
     record {
       ready = c .before .before .before .before .pre .0;
@@ -37,31 +38,41 @@ enum-told : tie.Need-enum-told
 enum-told c = search needs
 
 take-closing-requires : tie.Need-take-closing-requires
-take-closing-requires c κs = (ready-by (c .before .before .before) Nothing (c .before .enum-told .given .1), c .before .before .before .before .before .before .before .pre .1)
+take-closing-requires c κs =
+    let pre = c .before .before .before .before .before .before .before .pre in
+    (ready-by (c .before .before .before) Nothing (c .before .enum-told .given .1), pre .1)
 
 enum-told-2 : tie.Need-enum-told-2
 enum-told-2 c = search needs
 
 take-conclusion-requires : tie.Need-take-conclusion-requires
-take-conclusion-requires c κs = (ready-by (c .before .before .before) One (c .before .enum-told2 .given .1), c .before .before .before .before .before .before .before .pre .1)
+take-conclusion-requires c κs =
+    let pre = c .before .before .before .before .before .before .before .pre in
+    (ready-by (c .before .before .before) One (c .before .enum-told2 .given .1), pre .1)
 
 enum-told-3 : tie.Need-enum-told-3
 enum-told-3 c = search needs
 
 take-split-requires : tie.Need-take-split-requires
-take-split-requires c κs = (ready-by (c .before .before .before) Several (c .before .enum-told3 .given .1), c .before .before .before .before .before .before .before .pre .1)
+take-split-requires c κs =
+    let pre = c .before .before .before .before .before .before .before .pre in
+    (ready-by (c .before .before .before) Several (c .before .enum-told3 .given .1), pre .1)
 
 same-length : tie.Need-same-length
 same-length c = search needs
 
 returns : tie.Need-returns
-returns c = let s = c .before .before .before .before .before .before .before .before in (c .take-closing .ensures .0 (s .args .pending), c .take-closing .ensures .1 (s .args .pending))
+returns c =
+    let s = c .before .before .before .before .before .before .before .before in
+    (c .take-closing .ensures .0 (s .args .pending), c .take-closing .ensures .1 (s .args .pending))
 
 same-length-2 : tie.Need-same-length-2
 same-length-2 c = search needs
 
 returns-2 : tie.Need-returns-2
-returns-2 c = let s = c .before .before .before .before .before .before .before .before .before in (c .before .take-conclusion .ensures .0 (s .args .pending), c .before .take-conclusion .ensures .1 (s .args .pending))
+returns-2 c =
+    let s = c .before .before .before .before .before .before .before .before .before in
+    (c .before .take-conclusion .ensures .0 (s .args .pending), c .before .take-conclusion .ensures .1 (s .args .pending))
 
 same-length-3 : tie.Need-same-length-3
 same-length-3 c = search needs

@@ -29,7 +29,8 @@ returns : tie.Need-returns
 returns c =
     let s = c .before .before .before .before .args in
     c .relation-holds .ensures
-    ∙ ap₂ (λ (k : ℕ) (z : ℤ). holds (relationOf k) z) (c .before .before .u16-at .ensures .0) (toZ-ofZ (record { sfits = c .before .form-value .ok }) ∙ c .before .form-value .ensures)
+    ∙ ap₂ (λ (k : ℕ) (z : ℤ). holds (relationOf k) z) (c .before .before .u16-at .ensures .0)
+    (toZ-ofZ (record { sfits = c .before .form-value .ok }) ∙ c .before .form-value .ensures)
 
 pub arithmetic-met-spec : {M : Type 1} → statement M
 arithmetic-met-spec =

@@ -25,10 +25,14 @@ u16-at-requires : tie.Need-u16-at-requires
 u16-at-requires c κs = omega (arith, c .before .before .before .before .pre .1 .whole)
 
 add-string-met : tie.Need-add-string-met
-add-string-met c = omega (arith, c .before .before .before .before .before .before .pre .1 .whole)
+add-string-met c =
+    let pre = c .before .before .before .before .before .before .pre in
+    omega (arith, pre .1 .whole)
 
 -- the kind that was tested is the record's
-kind-is : (c : tie.After-u16-at) → c .u16-at .result ≡ kind (now (c .before .before .before .before .before .args .b)) (c .before .before .before .before .before .args .at)
+kind-is : (c : tie.After-u16-at) →
+    let args = c .before .before .before .before .before .args in
+    c .u16-at .result ≡ kind (now (args .b)) (args .at)
 kind-is c = c .u16-at .ensures .0
 
 string-met-requires : tie.Need-string-met-requires
@@ -46,16 +50,20 @@ returns c =
     let s = c .before .before .before .before .before .before .before in
     let a = s .args in
     c .string-met .ensures
-    ∙ string-is (now (a .b)) (now (a .v)) (a .s) (now (a .places)) (now (a .values)) (s .pre .0) (a .at) (s .pre .1) (sym (kind-is (c .before .before)) ∙ c .before .match .keys1)
+    ∙ string-is (now (a .b)) (now (a .v)) (a .s) (now (a .places)) (now (a .values)) (s .pre .0) (a .at) (s .pre .1)
+    (sym (kind-is (c .before .before)) ∙ c .before .match .keys1)
 
 add-arithmetic-met : tie.Need-add-arithmetic-met
-add-arithmetic-met c = omega (arith, c .before .before .before .before .before .before .pre .1 .whole)
+add-arithmetic-met c =
+    let pre = c .before .before .before .before .before .before .pre in
+    omega (arith, pre .1 .whole)
 
 arithmetic-met-requires : tie.Need-arithmetic-met-requires
 arithmetic-met-requires c κs =
     let s = c .before .before .before .before .before .before in
     let a = s .args in
-    rw (c .before .before .u32-at .ensures .0) (arithmetic-there (now (a .b)) (now (a .v)) (a .s) (now (a .places)) (now (a .values)) (s .pre .0) (a .at) (s .pre .1) (sym (kind-is (c .before)) ∙ c .match .keys2))
+    rw (c .before .before .u32-at .ensures .0) (arithmetic-there (now (a .b)) (now (a .v)) (a .s) (now (a .places)) (now (a .values)) (s .pre .0) (a .at)
+    (s .pre .1) (sym (kind-is (c .before)) ∙ c .match .keys2))
 
 returns-2 : tie.Need-returns-2
 returns-2 c =
@@ -63,8 +71,10 @@ returns-2 c =
     let a = s .args in
     let b = now (a .b) in
     c .arithmetic-met .ensures
-    ∙ ap (λ (m : ℕ). holds (relationOf (u16 b (a .at + 6))) (dot (formOf b (a .at + 6 + 2) (m / 6 - 1)) (pos 1 ∷ now (a .values)))) (c .before .before .before .u32-at .ensures .0)
-    ∙ arithmetic-is b (now (a .v)) (a .s) (now (a .places)) (now (a .values)) (s .pre .0) (a .at) (s .pre .1) (sym (kind-is (c .before .before)) ∙ c .before .match .keys2)
+    ∙ ap (λ (m : ℕ). holds (relationOf (u16 b (a .at + 6))) (dot (formOf b (a .at + 6 + 2) (m / 6 - 1)) (pos 1 ∷ now (a .values))))
+    (c .before .before .before .u32-at .ensures .0)
+    ∙ arithmetic-is b (now (a .v)) (a .s) (now (a .places)) (now (a .values)) (s .pre .0) (a .at) (s .pre .1)
+    (sym (kind-is (c .before .before)) ∙ c .before .match .keys2)
 
 returns-3 : tie.Need-returns-3
 returns-3 c =

@@ -33,8 +33,12 @@ loop-holds : tie.Need-loop-holds Inv-loop μ-loop
 unfolding skip asked
 loop-holds c =
     let s = c .before .before .before .before .args in
-    let e : s .s .constraints - 0 ≡ s .s .constraints = omega arith in
-    (omega arith, c .behind-literals .ensures, ap₂ (λ (m at : ℕ). firstUnmet (asked (now (s .b)) (s .s)) (valuesOf (now (s .b)) (now (s .v)) (s .s)) (constraintsAt (now (s .b)) m at) 0) e (c .behind-literals .ensures))
+    let e : s .s .constraints - 0 ≡ s .s .constraints = omega arith in (
+      omega arith,
+      c .behind-literals .ensures,
+      ap₂ (λ (m at : ℕ). firstUnmet (asked (now (s .b)) (s .s)) (valuesOf (now (s .b)) (now (s .v)) (s .s)) (constraintsAt (now (s .b)) m at) 0) e
+          (c .behind-literals .ensures),
+    )
 
 constraint-met-requires : tie.Need-constraint-met-requires Inv-loop μ-loop
 constraint-met-requires c κs =
@@ -45,10 +49,14 @@ returns : tie.Need-returns Inv-loop μ-loop
 returns c =
     let l = c .before .before .before .loop in
     let s = c .before .before .before .before .before .before .before .before .args in
-    sym (first-no (asked (now (s .b)) (s .s)) (valuesOf (now (s .b)) (now (s .v)) (s .s)) (now (s .b)) (l .at) (l .k) (s .s .constraints - l .k) (omega arith) (sym (c .before .constraint-met .ensures) ∙ not-true _ (c .if1 .taken))) ∙ l .inv .2
+    sym (first-no (asked (now (s .b)) (s .s)) (valuesOf (now (s .b)) (now (s .v)) (s .s)) (now (s .b)) (l .at) (l .k) (s .s .constraints - l .k)
+    (omega arith) (sym (c .before .constraint-met .ensures) ∙ not-true _ (c .if1 .taken)))
+    ∙ l .inv .2
 
 -- the record in turn is all there
-record-there : (c : tie.In-loop Inv-loop μ-loop) → next (now (c .before .before .before .before .before .before .args .b)) (c .before .loop .at) ≤ length (now (c .before .before .before .before .before .before .args .b))
+record-there : (c : tie.In-loop Inv-loop μ-loop) →
+    let args = c .before .before .before .before .before .before .args in
+    next (now (args .b)) (c .before .loop .at) ≤ length (now (args .b))
 record-there c =
     let s = c .before .before .before .before .before .before in
     rw (c .before .loop .inv .1) (s .pre .texts .posed .stands .constraints-stand (c .before .loop .k) (omega arith) .whole)
@@ -74,12 +82,14 @@ loop-again c =
     let s = c .before .before .before .before .before .before .before .before .before .args in
     let b = now (s .b) in
     let e : s .s .constraints - l .k - 1 ≡ s .s .constraints - (l .k + 1) = omega arith in
-    let here : next b (l .at) ≡ skip b (suc (l .k)) (skip b (s .s .literals) literalsFrom) = ap (next b) (l .inv .1) ∙ sym (skip-snoc b (l .k) (skip b (s .s .literals) literalsFrom)) in
+    let here : next b (l .at) ≡ skip b (suc (l .k)) (skip b (s .s .literals) literalsFrom) =
+    ap (next b) (l .inv .1) ∙ sym (skip-snoc b (l .k) (skip b (s .s .literals) literalsFrom)) in
     rw (c .u32-at .ensures .0) (
       omega arith,
       rw (add-one (l .k)) here,
       rw (← e, add-one (l .k)) (
-          sym (first-yes (asked b (s .s)) (valuesOf b (now (s .v)) (s .s)) b (l .at) (l .k) (s .s .constraints - l .k) (omega arith) (sym (c .before .before .constraint-met .ensures) ∙ not-false _ (c .before .if1 .left)))
+          sym (first-yes (asked b (s .s)) (valuesOf b (now (s .v)) (s .s)) b (l .at) (l .k) (s .s .constraints - l .k) (omega arith)
+          (sym (c .before .before .constraint-met .ensures) ∙ not-false _ (c .before .if1 .left)))
           ∙ l .inv .2
           ),
     )
@@ -88,7 +98,9 @@ returns-2 : tie.Need-returns-2 Inv-loop μ-loop
 returns-2 c =
     let l = c .before .loop in
     let s = c .before .before .before .before .before .before .args in
-    sym (first-done (asked (now (s .b)) (s .s)) (valuesOf (now (s .b)) (now (s .v)) (s .s)) (now (s .b)) (l .at) (l .k) (s .s .constraints - l .k) (omega arith)) ∙ l .inv .2
+    sym (first-done (asked (now (s .b)) (s .s)) (valuesOf (now (s .b)) (now (s .v)) (s .s)) (now (s .b)) (l .at) (l .k) (s .s .constraints - l .k)
+    (omega arith))
+    ∙ l .inv .2
 
 pub first-unmet-spec : {M : Type 1} → statement M
 first-unmet-spec =

@@ -48,26 +48,37 @@ shared-slice-copy-out-sum : tie.Need-shared-slice-copy-out-sum Inv-loop μ-loop
 shared-slice-copy-out-sum c =
     let s = c .before .before .before .before .before .before in
     let l = c .before .before .before .loop in
-    rw (c .before .u16-at .ensures .0) (column-there (now (s .args .b)) (s .args .at) (s .args .count) (now (s .args .values)) (s .pre) (toZ w64 (l .sum)) (l .i) (l .left) (c .before .before .loop-test .taken) (l .inv))
+    rw (c .before .u16-at .ensures .0) (column-there (now (s .args .b)) (s .args .at) (s .args .count) (now (s .args .values)) (s .pre) (toZ w64 (l .sum))
+    (l .i) (l .left) (c .before .before .loop-test .taken) (l .inv))
 
 -- the term that is added, and the sum with it
 term : (c : tie.After-sum Inv-loop μ-loop)
-    → toZ w64 (ofZ w64 (c .before .i32-at2 .result)) *ℤ toZ w64 (ofZ w64 (getD (now (c .before .before .before .before .before .before .before .args .values)) (c .before .before .u16-at .result) (pos 0)))
-    ≡ i32 (now (c .before .before .before .before .before .before .before .args .b)) (c .before .before .before .before .loop .i + 2) *ℤ getD (now (c .before .before .before .before .before .before .before .args .values)) (u16 (now (c .before .before .before .before .before .before .before .args .b)) (c .before .before .before .before .loop .i)) (pos 0)
+    →
+    let args = c .before .before .before .before .before .before .before .args in
+    toZ w64 (ofZ w64 (c .before .i32-at2 .result)) *ℤ toZ w64 (ofZ w64 (getD (now (args .values)) (c .before .before .u16-at .result) (pos 0)))
+    ≡ i32 (now (args .b)) (c .before .before .before .before .loop .i + 2)
+    *ℤ getD (now (args .values)) (u16 (now (args .b)) (c .before .before .before .before .loop .i)) (pos 0)
 term c =
-    product-is (c .before .i32-at2 .result) (getD (now (c .before .before .before .before .before .before .before .args .values)) (c .before .before .u16-at .result) (pos 0)) (record { sfits = c .before .i32-at2 .ok }) (record { sfits = c .sum .given })
-    (c .before .i32-at2 .ensures .0) (ap (λ (j : ℕ). getD (now (c .before .before .before .before .before .before .before .args .values)) j (pos 0)) (c .before .before .u16-at .ensures .0))
+    let args = c .before .before .before .before .before .before .before .args in
+    product-is (c .before .i32-at2 .result) (getD (now (args .values)) (c .before .before .u16-at .result) (pos 0))
+    (record { sfits = c .before .i32-at2 .ok }) (record { sfits = c .sum .given })
+    (c .before .i32-at2 .ensures .0) (ap (λ (j : ℕ). getD (now (args .values)) j (pos 0)) (c .before .before .u16-at .ensures .0))
 
 mul-sum-2 : tie.Need-mul-sum-2 Inv-loop μ-loop
 mul-sum-2 c =
     let s = c .before .before .before .before .before .before .before in
     let l = c .before .before .before .before .loop in
     subst (λ (z : ℤ). SFits w64 z) (sym (term c))
-    (term-fits (now (s .args .b)) (s .args .at) (s .args .count) (now (s .args .values)) (s .pre) (toZ w64 (l .sum)) (l .i) (l .left) (c .before .before .before .loop-test .taken) (l .inv))
+    (term-fits (now (s .args .b)) (s .args .at) (s .args .count) (now (s .args .values)) (s .pre) (toZ w64 (l .sum)) (l .i) (l .left)
+    (c .before .before .before .loop-test .taken) (l .inv))
 
 total : (c : tie.After-sum Inv-loop μ-loop)
-    → toZ w64 (c .before .before .before .before .loop .sum) +ℤ toZ w64 (ofZ w64 (toZ w64 (ofZ w64 (c .before .i32-at2 .result)) *ℤ toZ w64 (ofZ w64 (getD (now (c .before .before .before .before .before .before .before .args .values)) (c .before .before .u16-at .result) (pos 0)))))
-    ≡ toZ w64 (c .before .before .before .before .loop .sum) +ℤ i32 (now (c .before .before .before .before .before .before .before .args .b)) (c .before .before .before .before .loop .i + 2) *ℤ getD (now (c .before .before .before .before .before .before .before .args .values)) (u16 (now (c .before .before .before .before .before .before .before .args .b)) (c .before .before .before .before .loop .i)) (pos 0)
+    →
+    let args = c .before .before .before .before .before .before .before .args in
+    toZ w64 (c .before .before .before .before .loop .sum) +ℤ toZ w64 (ofZ w64
+    (toZ w64 (ofZ w64 (c .before .i32-at2 .result)) *ℤ toZ w64 (ofZ w64 (getD (now (args .values)) (c .before .before .u16-at .result) (pos 0)))))
+    ≡ toZ w64 (c .before .before .before .before .loop .sum) +ℤ i32 (now (args .b)) (c .before .before .before .before .loop .i + 2)
+    *ℤ getD (now (args .values)) (u16 (now (args .b)) (c .before .before .before .before .loop .i)) (pos 0)
 total c = ap (λ (z : ℤ). toZ w64 (c .before .before .before .before .loop .sum) +ℤ z) (toZ-ofZ (mul-sum-2 c) ∙ term c)
 
 add-sum : tie.Need-add-sum Inv-loop μ-loop
@@ -75,7 +86,8 @@ add-sum c =
     let s = c .before .before .before .before .before .before .before in
     let l = c .before .before .before .before .loop in
     subst (λ (z : ℤ). SFits w64 z) (sym (total c))
-    (sum-fits (now (s .args .b)) (s .args .at) (s .args .count) (now (s .args .values)) (s .pre) (toZ w64 (l .sum)) (l .i) (l .left) (c .before .before .before .loop-test .taken) (l .inv))
+    (sum-fits (now (s .args .b)) (s .args .at) (s .args .count) (now (s .args .values)) (s .pre) (toZ w64 (l .sum)) (l .i) (l .left)
+    (c .before .before .before .loop-test .taken) (l .inv))
 
 add-i-2 : tie.Need-add-i-2 Inv-loop μ-loop
 add-i-2 c = omega (arith, c .before .before .before .before .loop .inv .there)
@@ -92,10 +104,13 @@ loop-again c =
     let l = c .before .before .before .before .loop in
     subst (λ (z : ℤ). Summing (now (s .args .b)) (s .args .at) (s .args .count) (now (s .args .values)) z (l .i + 6) (l .left - 1))
     (sym (toZ-ofZ (add-sum c) ∙ total c))
-    (one-more (now (s .args .b)) (s .args .at) (s .args .count) (now (s .args .values)) (s .pre) (toZ w64 (l .sum)) (l .i) (l .left) (c .before .before .before .loop-test .taken) (l .inv))
+    (one-more (now (s .args .b)) (s .args .at) (s .args .count) (now (s .args .values)) (s .pre) (toZ w64 (l .sum)) (l .i) (l .left)
+    (c .before .before .before .loop-test .taken) (l .inv))
 
 returns : tie.Need-returns Inv-loop μ-loop
-returns c = ended (now (c .before .before .before .before .args .b)) (c .before .before .before .before .args .at) (c .before .before .before .before .args .count) (now (c .before .before .before .before .args .values)) (omega arith) (c .before .loop .inv)
+returns c =
+    ended (now (c .before .before .before .before .args .b)) (c .before .before .before .before .args .at) (c .before .before .before .before .args .count)
+    (now (c .before .before .before .before .args .values)) (omega arith) (c .before .loop .inv)
 
 pub form-value-spec : {M : Type 1} → statement M
 form-value-spec =

@@ -25,7 +25,8 @@ returns : tie.Need-returns
 returns c =
     let s = c .before .before .before .before .before .args in
     λ k h. c .same-text .ensures
-    ∙ ap₂ (λ (m : ℕ) (t : List ℕ). eqString (u32s (now (s .v)) (s .x + 6) (m / 4)) t) (c .before .before .u32-at .ensures .0) (c .before .literal-text .ensures .1 k h)
+    ∙ ap₂ (λ (m : ℕ) (t : List ℕ). eqString (u32s (now (s .v)) (s .x + 6) (m / 4)) t) (c .before .before .u32-at .ensures .0)
+    (c .before .literal-text .ensures .1 k h)
 
 pub is-literal-spec : {M : Type 1} → statement M
 is-literal-spec =

@@ -25,25 +25,30 @@ judge-behind-requires : tie.Need-judge-behind-requires
 unfolding readingOf
 judge-behind-requires c κs =
     let s = c .before .before .before .before .before .before .before .args in
-    question-posed judgingManner refl (now (s .question)) (c .before .before .s .given .0 .0) _ _ (sym (c .before .before .before .before .read-question .ensures) ∙ ap (readingOf (now (s .question))) (c .before .before .s .given .1)) (omega arith)
+    question-posed judgingManner refl (now (s .question)) (c .before .before .s .given .0 .0) _ _
+    (sym (c .before .before .before .before .read-question .ensures) ∙ ap (readingOf (now (s .question))) (c .before .before .s .given .1)) (omega arith)
 
 returns : tie.Need-returns
 unfolding readingOf
 returns c =
     let s = c .before .before .before .before .before .before .args in
-    stopped (now (s .question)) (now (s .answer)) (sym (c .before .before .before .read-question .ensures) ∙ ap (readingOf (now (s .question))) (c .before .c .given .1))
+    stopped (now (s .question)) (now (s .answer))
+    (sym (c .before .before .before .read-question .ensures) ∙ ap (readingOf (now (s .question))) (c .before .c .given .1))
 
 returns-2 : tie.Need-returns-2
 unfolding readingOf
 returns-2 c =
     let s = c .before .before .before .before .before .before .before .args in
-    headless (now (s .question)) (now (s .answer)) (sym (c .before .before .before .before .read-question .ensures) ∙ ap (readingOf (now (s .question))) (c .before .before .s .given .1)) (omega arith)
+    headless (now (s .question)) (now (s .answer))
+    (sym (c .before .before .before .before .read-question .ensures) ∙ ap (readingOf (now (s .question))) (c .before .before .s .given .1)) (omega arith)
 
 returns-3 : tie.Need-returns-3
 unfolding readingOf asked
 returns-3 c =
+    let read-question = c .before .before .before .before .before .read-question in
     let s = c .before .before .before .before .before .before .before .before .args in
-    headed (now (s .question)) (now (s .answer)) (judgementOf (c .judge-behind .result)) (sym (c .before .before .before .before .before .read-question .ensures) ∙ ap (readingOf (now (s .question))) (c .before .before .before .s .given .1)) (omega arith) (c .judge-behind .ensures)
+    headed (now (s .question)) (now (s .answer)) (judgementOf (c .judge-behind .result))
+    (sym (read-question .ensures) ∙ ap (readingOf (now (s .question))) (c .before .before .before .s .given .1)) (omega arith) (c .judge-behind .ensures)
 
 pub judge-answer-spec : {M : Type 1} → statement M
 judge-answer-spec =

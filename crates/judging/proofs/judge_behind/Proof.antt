@@ -36,24 +36,32 @@ judge-values-requires c κs =
     let u = asked (now (s .args .b)) (s .args .s) in (
       s .pre,
       sym (c .before .before .before .before .answer-formed .ensures) ∙ not-false _ (c .before .before .before .if1 .left),
-      outside-same (now (s .args .v)) u (blank (u .n) (u .p) (u .q)) (u .p) 0 0 refl refl ∙ sym (c .before .before .first-outside .ensures) ∙ ap outsideOf (c .enum-told .given .1),
+      outside-same (now (s .args .v)) u (blank (u .n) (u .p) (u .q)) (u .p) 0 0 refl refl
+          ∙ sym (c .before .before .first-outside .ensures)
+          ∙ ap outsideOf (c .enum-told .given .1),
     )
 
 returns-2 : tie.Need-returns-2
 unfolding asked
 returns-2 c =
+    let answer-formed = c .before .before .before .before .before .answer-formed in
     let s = c .before .before .before .before .before .before .before .before .args in
     let u = asked (now (s .b)) (s .s) in
-    out-of-range u (now (s .v)) (sym (c .before .before .before .before .before .answer-formed .ensures) ∙ not-false _ (c .before .before .before .before .if1 .left))
-    (outside-same (now (s .v)) u (blank (u .n) (u .p) (u .q)) (u .p) 0 0 refl refl ∙ sym (c .before .before .before .first-outside .ensures) ∙ ap outsideOf (c .before .r .given .1))
+    out-of-range u (now (s .v)) (sym (answer-formed .ensures) ∙ not-false _ (c .before .before .before .before .if1 .left))
+    (outside-same (now (s .v)) u (blank (u .n) (u .p) (u .q)) (u .p) 0 0 refl refl
+    ∙ sym (c .before .before .before .first-outside .ensures)
+    ∙ ap outsideOf (c .before .r .given .1))
 
 returns-3 : tie.Need-returns-3
 unfolding asked
 returns-3 c =
+    let answer-formed = c .before .before .before .before .before .answer-formed in
     let s = c .before .before .before .before .before .before .before .before .args in
     let u = asked (now (s .b)) (s .s) in
-    judged u (now (s .v)) (sym (c .before .before .before .before .before .answer-formed .ensures) ∙ not-false _ (c .before .before .before .before .if1 .left))
-    (outside-same (now (s .v)) u (blank (u .n) (u .p) (u .q)) (u .p) 0 0 refl refl ∙ sym (c .before .before .before .first-outside .ensures) ∙ ap outsideOf (c .before .enum-told .given .1))
+    judged u (now (s .v)) (sym (answer-formed .ensures) ∙ not-false _ (c .before .before .before .before .if1 .left))
+    (outside-same (now (s .v)) u (blank (u .n) (u .p) (u .q)) (u .p) 0 0 refl refl
+    ∙ sym (c .before .before .before .first-outside .ensures)
+    ∙ ap outsideOf (c .before .enum-told .given .1))
     (c .judge-values .ensures)
 
 pub judge-behind-spec : {M : Type 1} → statement M

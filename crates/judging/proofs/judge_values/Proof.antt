@@ -48,9 +48,17 @@ first-unmet-requires c κs =
     let s = c .before .before .before .before .before .before .before in
     let stands = s .pre .0 .stands in
     record {
-      texts = record { posed = s .pre .0; formed = s .pre .1; placed = c .before .before .before .before .record-places .ensures; enough = omega (arith, stands .few-strings) };
+      texts =
+          record {
+            posed = s .pre .0;
+            formed = s .pre .1;
+            placed = c .before .before .before .before .record-places .ensures;
+            enough = omega (arith, stands .few-strings);
+          };
       columns = c .before .before .column-values .ensures;
-      small = rw (c .before .before .column-values .ensures) (small-columns (now (s .args .v)) (asked (now (s .args .b)) (s .args .s)) (stands .few-characters) (s .pre .1) (s .pre .2));
+      small =
+          rw (c .before .before .column-values .ensures)
+          (small-columns (now (s .args .v)) (asked (now (s .args .b)) (s .args .s)) (stands .few-characters) (s .pre .1) (s .pre .2));
     }
 
 returns : tie.Need-returns

@@ -27,7 +27,8 @@ returns : tie.Need-returns
 returns c =
     let s = c .before .before .before .before .args in
     c .same-text .ensures
-    ∙ ap₂ (λ (m k : ℕ). eqString (u32s (now (s .v)) (s .x + 6) (m / 4)) (u32s (now (s .v)) (s .y + 6) (k / 4))) (c .before .before .u32-at .ensures .0) (c .before .u32-at2 .ensures .0)
+    ∙ ap₂ (λ (m k : ℕ). eqString (u32s (now (s .v)) (s .x + 6) (m / 4)) (u32s (now (s .v)) (s .y + 6) (k / 4))) (c .before .before .u32-at .ensures .0)
+    (c .before .u32-at2 .ensures .0)
 
 pub same-strings-spec : {M : Type 1} → statement M
 same-strings-spec =

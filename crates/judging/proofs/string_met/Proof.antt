@@ -56,16 +56,19 @@ is-literal-requires c κs =
 returns : tie.Need-returns
 unfolding asked
 returns c =
+    let u16-at = c .before .before .before .before .before .u16-at in
     let s = c .before .before .before .before .before .before .before .before .before in
     let b = now (s .args .b) in
     let v = now (s .args .v) in
     let k = s .args .s .literals in
     let r = string-constraint-formed b (s .args .s .p) k (s .args .at) 6 (s .pre .2) in
-    let two : u16 b (s .args .at) ≡ 2 = sym (c .before .before .before .before .before .u16-at .ensures .0) ∙ c .before .if1 .taken in
+    let two : u16 b (s .args .at) ≡ 2 = sym (u16-at .ensures .0) ∙ c .before .if1 .taken in
     let few : c .before .before .before .u16-at3 .result ≤ k = omega (arith, c .before .before .before .u16-at3 .ensures .0, r .literal two) in
     c .is-literal .ensures k few
-    ∙ ap₂ (λ (x y : ℕ). eqString (textAt v (getD (now (s .args .places)) x 0)) (getD ([] ∷ texts b k literalsFrom) y [])) (c .before .before .before .before .u16-at2 .ensures .0) (c .before .before .before .u16-at3 .ensures .0)
-    ∙ ap (λ (t : List ℕ). eqString t (getD ([] ∷ texts b k literalsFrom) (u16 b (s .args .at + 4)) [])) (text-is b v (s .args .s) (now (s .args .places)) (s .pre .0) (u16 b (s .args .at + 2)) (r .first))
+    ∙ ap₂ (λ (x y : ℕ). eqString (textAt v (getD (now (s .args .places)) x 0)) (getD ([] ∷ texts b k literalsFrom) y []))
+    (c .before .before .before .before .u16-at2 .ensures .0) (c .before .before .before .u16-at3 .ensures .0)
+    ∙ ap (λ (t : List ℕ). eqString t (getD ([] ∷ texts b k literalsFrom) (u16 b (s .args .at + 4)) []))
+    (text-is b v (s .args .s) (now (s .args .places)) (s .pre .0) (u16 b (s .args .at + 2)) (r .first))
     ∙ literal-met (asked b (s .args .s)) (valuesOf b v (s .args .s)) (u16 b (s .args .at)) (u16 b (s .args .at + 2)) (u16 b (s .args .at + 4)) two
 
 mul-same-strings : tie.Need-mul-same-strings
@@ -73,16 +76,18 @@ mul-same-strings c = search needs
 
 shared-slice-read-same-strings : tie.Need-shared-slice-read-same-strings
 shared-slice-read-same-strings c =
+    let u16-at = c .before .before .before .before .before .u16-at in
     let s = c .before .before .before .before .before .before .before .before .before in
     let r = string-constraint-formed (now (s .args .b)) (s .args .s .p) (s .args .s .literals) (s .args .at) 6 (s .pre .2) in
-    let y = r .second (λ e. c .before .if1 .left (c .before .before .before .before .before .u16-at .ensures .0 ∙ e)) in
+    let y = r .second (λ e. c .before .if1 .left (u16-at .ensures .0 ∙ e)) in
     omega (arith, c .before .before .before .u16-at3 .ensures .0, s .pre .0 .enough)
 
 same-strings-requires : tie.Need-same-strings-requires
 same-strings-requires c κs =
+    let u16-at = c .before .before .before .before .before .u16-at in
     let s = c .before .before .before .before .before .before .before .before .before in
     let r = string-constraint-formed (now (s .args .b)) (s .args .s .p) (s .args .s .literals) (s .args .at) 6 (s .pre .2) in
-    let y = r .second (λ e. c .before .if1 .left (c .before .before .before .before .before .u16-at .ensures .0 ∙ e)) in
+    let y = r .second (λ e. c .before .if1 .left (u16-at .ensures .0 ∙ e)) in
     rw (c .before .before .before .before .u16-at2 .ensures .0, c .before .before .before .u16-at3 .ensures .0) (
       text-room (now (s .args .b)) (now (s .args .v)) (s .args .s) (now (s .args .places)) (s .pre .0) (u16 (now (s .args .b)) (s .args .at + 2)) (r .first),
       text-room (now (s .args .b)) (now (s .args .v)) (s .args .s) (now (s .args .places)) (s .pre .0) (u16 (now (s .args .b)) (s .args .at + 4)) y,
@@ -94,33 +99,41 @@ strings : (c : tie.After-same-strings) →
     let a = valuesOf (now (s .b)) (now (s .v)) (s .s) in
     c .same-strings .result ≡ eqString (str a (u16 (now (s .b)) (s .at + 2))) (str a (u16 (now (s .b)) (s .at + 4)))
 strings c =
+    let u16-at2 = c .before .before .before .before .before .u16-at2 in
+    let u16-at = c .before .before .before .before .before .before .u16-at in
     let s = c .before .before .before .before .before .before .before .before .before .before in
     let b = now (s .args .b) in
     let v = now (s .args .v) in
     let r = string-constraint-formed b (s .args .s .p) (s .args .s .literals) (s .args .at) 6 (s .pre .2) in
-    let y = r .second (λ e. c .before .before .if1 .left (c .before .before .before .before .before .before .u16-at .ensures .0 ∙ e)) in
+    let y = r .second (λ e. c .before .before .if1 .left (u16-at .ensures .0 ∙ e)) in
     c .same-strings .ensures
-    ∙ ap₂ (λ (x y : ℕ). eqString (textAt v (getD (now (s .args .places)) x 0)) (textAt v (getD (now (s .args .places)) y 0))) (c .before .before .before .before .before .u16-at2 .ensures .0) (c .before .before .before .before .u16-at3 .ensures .0)
-    ∙ ap₂ eqString (text-is b v (s .args .s) (now (s .args .places)) (s .pre .0) (u16 b (s .args .at + 2)) (r .first)) (text-is b v (s .args .s) (now (s .args .places)) (s .pre .0) (u16 b (s .args .at + 4)) y)
+    ∙ ap₂ (λ (x y : ℕ). eqString (textAt v (getD (now (s .args .places)) x 0)) (textAt v (getD (now (s .args .places)) y 0))) (u16-at2 .ensures .0)
+    (c .before .before .before .before .u16-at3 .ensures .0)
+    ∙ ap₂ eqString (text-is b v (s .args .s) (now (s .args .places)) (s .pre .0) (u16 b (s .args .at + 2)) (r .first))
+    (text-is b v (s .args .s) (now (s .args .places)) (s .pre .0) (u16 b (s .args .at + 4)) y)
 
 returns-2 : tie.Need-returns-2
 returns-2 c =
+    let u16-at = c .before .before .before .before .before .before .before .u16-at in
     let s = c .before .before .before .before .before .before .before .before .before .before .before in
     let b = now (s .args .b) in
     let v = now (s .args .v) in
-    let zero : u16 b (s .args .at) ≡ 0 = sym (c .before .before .before .before .before .before .before .u16-at .ensures .0) ∙ c .if2 .taken in
-    strings (c .before) ∙ same-met (asked b (s .args .s)) (valuesOf b v (s .args .s)) (u16 b (s .args .at)) (u16 b (s .args .at + 2)) (u16 b (s .args .at + 4)) zero
+    let zero : u16 b (s .args .at) ≡ 0 = sym (u16-at .ensures .0) ∙ c .if2 .taken in
+    strings (c .before)
+    ∙ same-met (asked b (s .args .s)) (valuesOf b v (s .args .s)) (u16 b (s .args .at)) (u16 b (s .args .at + 2)) (u16 b (s .args .at + 4)) zero
 
 returns-3 : tie.Need-returns-3
 returns-3 c =
+    let u16-at = c .before .before .before .before .before .before .before .u16-at in
     let s = c .before .before .before .before .before .before .before .before .before .before .before in
     let b = now (s .args .b) in
     let v = now (s .args .v) in
     let r = string-constraint-formed b (s .args .s .p) (s .args .s .literals) (s .args .at) 6 (s .pre .2) in
-    let not-two : u16 b (s .args .at) ≡ 2 → ⊥ = λ e. c .before .before .before .if1 .left (c .before .before .before .before .before .before .before .u16-at .ensures .0 ∙ e) in
-    let not-zero : u16 b (s .args .at) ≡ 0 → ⊥ = λ e. c .if2 .left (c .before .before .before .before .before .before .before .u16-at .ensures .0 ∙ e) in
+    let not-two : u16 b (s .args .at) ≡ 2 → ⊥ = λ e. c .before .before .before .if1 .left (u16-at .ensures .0 ∙ e) in
+    let not-zero : u16 b (s .args .at) ≡ 0 → ⊥ = λ e. c .if2 .left (u16-at .ensures .0 ∙ e) in
     let one : u16 b (s .args .at) ≡ 1 = omega (arith, r .relation) in
-    ap not (strings (c .before)) ∙ not-same-met (asked b (s .args .s)) (valuesOf b v (s .args .s)) (u16 b (s .args .at)) (u16 b (s .args .at + 2)) (u16 b (s .args .at + 4)) one
+    ap not (strings (c .before))
+    ∙ not-same-met (asked b (s .args .s)) (valuesOf b v (s .args .s)) (u16 b (s .args .at)) (u16 b (s .args .at + 2)) (u16 b (s .args .at + 4)) one
 
 pub string-met-spec : {M : Type 1} → statement M
 string-met-spec =

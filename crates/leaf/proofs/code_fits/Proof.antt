@@ -24,7 +24,8 @@ returns : tie.Need-returns
 returns c =
     let s = c .before .before .before in
     let w = negative (s .args .code) (s .fits .code) (c .if2 .taken) in
-    sym (ap (codeFits (s .args .n) (s .args .len)) (w .3) ∙ code-negative (s .args .n) (s .args .len) (w .0) (sym (single (c .before .before)) ∙ c .before .if1 .taken))
+    sym (ap (codeFits (s .args .n) (s .args .len)) (w .3)
+    ∙ code-negative (s .args .n) (s .args .len) (w .0) (sym (single (c .before .before)) ∙ c .before .if1 .taken))
 
 cast-c : tie.Need-cast-c
 cast-c c =
@@ -39,7 +40,8 @@ returns-2 c =
     let s = c .before .before .before in
     let w = not-negative (s .args .code) (s .fits .code) (c .if2 .left) in
     ap (λ (z : ℤ). leb (natAbs z) (lastCharacter (s .args .n))) (w .2)
-    ∙ sym (ap (codeFits (s .args .n) (s .args .len)) (w .3) ∙ code-character (s .args .n) (s .args .len) (w .0) (sym (single (c .before .before)) ∙ c .before .if1 .taken))
+    ∙ sym (ap (codeFits (s .args .n) (s .args .len)) (w .3)
+    ∙ code-character (s .args .n) (s .args .len) (w .0) (sym (single (c .before .before)) ∙ c .before .if1 .taken))
 
 equal-requires-2 : tie.Need-equal-requires-2
 equal-requires-2 c κs = search needs

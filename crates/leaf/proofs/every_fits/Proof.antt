@@ -29,7 +29,8 @@ returns : tie.Need-returns Inv-loop μ-loop
 returns c =
     let l = c .before .before .before .before .loop in
     let s = c .before .before .before .before .before .before .args in
-    sym (every-no (byValues (asked (now (s .ticket)) (s .s)) (s .labels) (now (s .model))) (s .s .p) (l .x) (omega arith) (sym (c .before .values-fit .ensures) ∙ not-true _ (c .if2 .taken)))
+    sym (every-no (byValues (asked (now (s .ticket)) (s .s)) (s .labels) (now (s .model))) (s .s .p) (l .x) (omega arith)
+    (sym (c .before .values-fit .ensures) ∙ not-true _ (c .if2 .taken)))
 
 add-x : tie.Need-add-x Inv-loop μ-loop
 add-x c = search needs
@@ -40,8 +41,11 @@ loop-less c = search needs
 loop-again : tie.Need-loop-again Inv-loop μ-loop
 loop-again c =
     let l = c .before .before .before .before .loop in
-    let s = c .before .before .before .before .before .before .args in
-    (omega arith, every-more (byValues (asked (now (s .ticket)) (s .s)) (s .labels) (now (s .model))) (l .x) (l .inv .1) (sym (c .before .values-fit .ensures) ∙ not-false _ (c .if2 .left)))
+    let s = c .before .before .before .before .before .before .args in (
+      omega arith,
+      every-more (byValues (asked (now (s .ticket)) (s .s)) (s .labels) (now (s .model))) (l .x) (l .inv .1)
+          (sym (c .before .values-fit .ensures) ∙ not-false _ (c .if2 .left)),
+    )
 
 returns-2 : tie.Need-returns-2 Inv-loop μ-loop
 returns-2 c =

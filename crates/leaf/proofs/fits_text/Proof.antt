@@ -17,11 +17,15 @@ use Rattle.leaf.proofs.fits_text.Statement.{statement}
 use Rattle.leaf.proofs.fits_text.Tie as tie
 
 -- the first test, of the length
-size-test : (c : tie.After-equal) → c .equal .result ≡ eqℤ (c .before .before .args .len) (pos (length (u32s (now (c .before .before .args .ticket)) (c .before .before .args .at) (c .before .before .args .count))))
+size-test : (c : tie.After-equal)
+    → c .equal .result
+    ≡ eqℤ (c .before .before .args .len)
+    (pos (length (u32s (now (c .before .before .args .ticket)) (c .before .before .args .at) (c .before .before .args .count))))
 size-test c =
     let s = c .before .before in
     c .equal .ensures
-    ∙ ap₂ eqℤ (toZ-ofZ (s .fits .len)) (toZ-pos w64 (s .args .count) (omega arith) ∙ ap pos (sym (length-u32s (now (s .args .ticket)) (s .args .at) (s .args .count))))
+    ∙ ap₂ eqℤ (toZ-ofZ (s .fits .len))
+    (toZ-pos w64 (s .args .count) (omega arith) ∙ ap pos (sym (length-u32s (now (s .args .ticket)) (s .args .at) (s .args .count))))
 
 cast-size : tie.Need-cast-size
 cast-size c = search needs

@@ -17,7 +17,9 @@ use Rattle.leaf.proofs.literal_fits.Statement.{statement}
 use Rattle.leaf.proofs.literal_fits.Tie as tie
 
 -- the literal that was found
-found-is : (c : tie.After-known-told) → literalIn (asked (now (c .before .before .before .before .before .before .args .ticket)) (c .before .before .before .before .before .before .args .s)) (c .before .before .before .before .before .before .args .labels) (c .before .before .before .before .before .before .args .x) ≡ some (c .before .found .given .0 .0)
+found-is : (c : tie.After-known-told) →
+    let args = c .before .before .before .before .before .before .args in
+    literalIn (asked (now (args .ticket)) (args .s)) (args .labels) (args .x) ≡ some (c .before .found .given .0 .0)
 unfolding literalOf
 found-is c =
     let s = c .before .before .before .before .before .before .args in
@@ -50,8 +52,11 @@ returns c =
     let b = now (s .args .ticket) in
     let l = c .before .before .before .found .given .0 .0 in
     c .fits-text .ensures
-    ∙ ap₂ (λ (z w : ℤ). textFits (u32s b (c .before .literal-text .result .at) (c .before .literal-text .result .count)) z w) (toZ-ofZ (s .fits .len)) (toZ-ofZ (s .fits .code))
-    ∙ ap (λ (t : List ℕ). textFits t (s .args .len) (s .args .code)) (c .before .literal-text .ensures .1 (s .args .s .literals) (literal-known b (s .args .s) (s .args .labels) (s .args .x) l (found-is (c .before .before))))
+    ∙ ap₂ (λ (z w : ℤ). textFits (u32s b (c .before .literal-text .result .at) (c .before .literal-text .result .count)) z w) (toZ-ofZ (s .fits .len))
+    (toZ-ofZ (s .fits .code))
+    ∙ ap (λ (t : List ℕ). textFits t (s .args .len) (s .args .code))
+    (c .before .literal-text .ensures .1 (s .args .s .literals)
+    (literal-known b (s .args .s) (s .args .labels) (s .args .x) l (found-is (c .before .before))))
     ∙ sym (literal-some (asked b (s .args .s)) (s .args .len) (s .args .code) _ l (found-is (c .before .before)))
 
 returns-2 : tie.Need-returns-2
@@ -59,7 +64,8 @@ unfolding literalOf
 returns-2 c =
     let s = c .before .before .before .before .before .args in
     let b = now (s .ticket) in
-    sym (literal-none (asked b (s .s)) (s .len) (s .code) _ (literal-in b (s .s) (s .labels) (s .x) ∙ sym (c .before .before .class-literal .ensures) ∙ ap literalOf (c .enum-told .given .1)))
+    sym (literal-none (asked b (s .s)) (s .len) (s .code) _
+    (literal-in b (s .s) (s .labels) (s .x) ∙ sym (c .before .before .class-literal .ensures) ∙ ap literalOf (c .enum-told .given .1)))
 
 pub literal-fits-spec : {M : Type 1} → statement M
 literal-fits-spec =

@@ -27,7 +27,9 @@ returns-2 c =
     let s = c .before .before .before .before in
     let e = equal-read (c .before .before .equal .result) (s .args .z) (s .args .w) (s .fits .z) (s .fits .w) (c .before .before .equal .ensures) in
     let g = equal-read (c .equal2 .result) (s .args .c) (s .args .d) (s .fits .c) (s .fits .d) (c .equal2 .ensures) in
-    g ∙ sym (pair-codes (s .args .z) (s .args .w) (s .args .c) (s .args .d) (s .args .same) (c .before .before .before .if1 .taken) (sym e ∙ not-false _ (c .before .if2 .left)))
+    g
+    ∙ sym (pair-codes (s .args .z) (s .args .w) (s .args .c) (s .args .d) (s .args .same) (c .before .before .before .if1 .taken)
+    (sym e ∙ not-false _ (c .before .if2 .left)))
 
 equal-requires-3 : tie.Need-equal-requires-3
 equal-requires-3 c κs = search needs
@@ -44,9 +46,13 @@ equal-requires-4 c κs = search needs
 returns-4 : tie.Need-returns-4
 returns-4 c =
     let s = c .before .before .before .before in
-    let e = equal-read (c .before .before .equal3 .result) (s .args .c) (negsuc 0) (s .fits .c) (record { sfits = omega arith }) (c .before .before .equal3 .ensures) in
+    let e =
+    equal-read (c .before .before .equal3 .result) (s .args .c) (negsuc 0) (s .fits .c) (record { sfits = omega arith })
+    (c .before .before .equal3 .ensures) in
     let g = equal-read (c .equal4 .result) (s .args .c) (s .args .d) (s .fits .c) (s .fits .d) (c .equal4 .ensures) in
-    ap not g ∙ sym (pair-other-class (s .args .z) (s .args .w) (s .args .c) (s .args .d) (s .args .same) (c .before .before .before .if1 .left) (sym e ∙ c .before .if3 .left))
+    ap not g
+    ∙ sym (pair-other-class (s .args .z) (s .args .w) (s .args .c) (s .args .d) (s .args .same) (c .before .before .before .if1 .left)
+    (sym e ∙ c .before .if3 .left))
 
 pub pair-by-spec : {M : Type 1} → statement M
 pair-by-spec =

@@ -33,14 +33,19 @@ pair-by-requires c κs = search needs
 returns : tie.Need-returns
 unfolding pairFits
 returns c =
+    let one-class = c .before .before .before .before .before .one-class in
     let s = c .before .before .before .before .before .before .args in
     let u = numbered (s .s) in
     let m = now (s .model) in
-    let z : toZ w64 (ofZ w64 (c .before .before .before .before .value-of .result)) ≡ modelValue u m len (s .x) = toZ-ofZ (record { sfits = c .before .before .before .before .value-of .ok }) ∙ c .before .before .before .before .value-of .ensures in
-    let w : toZ w64 (ofZ w64 (c .before .before .before .value-of2 .result)) ≡ modelValue u m len (s .y) = toZ-ofZ (record { sfits = c .before .before .before .value-of2 .ok }) ∙ c .before .before .before .value-of2 .ensures in
-    let p : toZ w64 (ofZ w64 (c .before .before .value-of3 .result)) ≡ modelValue u m code (s .x) = toZ-ofZ (record { sfits = c .before .before .value-of3 .ok }) ∙ c .before .before .value-of3 .ensures in
-    let q : toZ w64 (ofZ w64 (c .before .value-of4 .result)) ≡ modelValue u m code (s .y) = toZ-ofZ (record { sfits = c .before .value-of4 .ok }) ∙ c .before .value-of4 .ensures in
-    c .pair-by .ensures ∙ rw (c .before .before .before .before .before .one-class .ensures, z, w, p, q)
+    let z : toZ w64 (ofZ w64 (c .before .before .before .before .value-of .result)) ≡ modelValue u m len (s .x) =
+    toZ-ofZ (record { sfits = c .before .before .before .before .value-of .ok }) ∙ c .before .before .before .before .value-of .ensures in
+    let w : toZ w64 (ofZ w64 (c .before .before .before .value-of2 .result)) ≡ modelValue u m len (s .y) =
+    toZ-ofZ (record { sfits = c .before .before .before .value-of2 .ok }) ∙ c .before .before .before .value-of2 .ensures in
+    let p : toZ w64 (ofZ w64 (c .before .before .value-of3 .result)) ≡ modelValue u m code (s .x) =
+    toZ-ofZ (record { sfits = c .before .before .value-of3 .ok }) ∙ c .before .before .value-of3 .ensures in
+    let q : toZ w64 (ofZ w64 (c .before .value-of4 .result)) ≡ modelValue u m code (s .y) =
+    toZ-ofZ (record { sfits = c .before .value-of4 .ok }) ∙ c .before .value-of4 .ensures in
+    c .pair-by .ensures ∙ rw (one-class .ensures, z, w, p, q)
 
 pub pair-fits-spec : {M : Type 1} → statement M
 pair-fits-spec =

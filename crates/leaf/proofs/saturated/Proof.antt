@@ -16,7 +16,10 @@ use Rattle.leaf.proofs.saturated.Statement.{statement}
 use Rattle.leaf.proofs.saturated.Tie as tie
 
 -- S-Conf's test
-conflict-test : (c : tie.After-conflict) → c .conflict .result ≡ conflict (asked (now (c .before .before .before .args .ticket)) (c .before .before .before .args .s)) (branchOf (now (c .before .before .before .args .work)) (c .before .before .before .args .count))
+conflict-test : (c : tie.After-conflict)
+    → c .conflict .result
+    ≡ conflict (asked (now (c .before .before .before .args .ticket)) (c .before .before .before .args .s))
+    (branchOf (now (c .before .before .before .args .work)) (c .before .before .before .args .count))
 conflict-test c =
     let s = c .before .before .before in
     c .conflict .ensures ∙ conflict-is (now (s .args .ticket)) (s .args .s) (s .args .labels) (branchOf (now (s .args .work)) (s .args .count)) (s .pre .1)
@@ -47,7 +50,8 @@ returns-2 c =
     let b = branchOf (now (s .args .work)) (s .args .count) in
     c .every-fits .ensures
     ∙ ap (λ (ls : List ℕ). allBelow (u .p) (byValues u ls m)) (s .pre .1)
-    ∙ sym (saturated-is u b m ∙ ap (λ (t : Bool). not t && allBelow (u .p) (byValues u (labels b) m)) (sym (conflict-test (c .before .before)) ∙ c .before .if1 .left))
+    ∙ sym (saturated-is u b m
+    ∙ ap (λ (t : Bool). not t && allBelow (u .p) (byValues u (labels b) m)) (sym (conflict-test (c .before .before)) ∙ c .before .if1 .left))
 
 pub saturated-spec : {M : Type 1} → statement M
 saturated-spec =

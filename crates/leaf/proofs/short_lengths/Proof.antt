@@ -30,7 +30,9 @@ abbrev μ-loop : tie.MeasureT-loop
 μ-loop model s x₀ x = s .p - x
 
 -- the length that was read
-size-is : (c : tie.After-magnitude Inv-loop μ-loop) → c .magnitude .result ≡ natAbs (modelValue (numbered (c .before .before .before .before .before .args .s)) (now (c .before .before .before .before .before .args .model)) len (c .before .before .before .before .loop .x))
+size-is : (c : tie.After-magnitude Inv-loop μ-loop) →
+    let args = c .before .before .before .before .before .args in
+    c .magnitude .result ≡ natAbs (modelValue (numbered (args .s)) (now (args .model)) len (c .before .before .before .before .loop .x))
 size-is c = c .magnitude .ensures ∙ ap natAbs (toZ-ofZ (record { sfits = c .before .value-of .ok }) ∙ c .before .value-of .ensures)
 
 loop-holds : tie.Need-loop-holds Inv-loop μ-loop
@@ -46,7 +48,8 @@ returns : tie.Need-returns Inv-loop μ-loop
 returns c =
     let l = c .before .before .before .before .before .loop in
     let s = c .before .before .before .before .before .before .args in
-    sym (every-no (short (s .s) (now (s .model))) (s .s .p) (l .x) (omega arith) (ap (λ (k : ℕ). leb k lengthLimit) (sym (size-is (c .before))) ∙ lt-leb (c .before .magnitude .result) 64 (c .if2 .taken)))
+    sym (every-no (short (s .s) (now (s .model))) (s .s .p) (l .x) (omega arith)
+    (ap (λ (k : ℕ). leb k lengthLimit) (sym (size-is (c .before))) ∙ lt-leb (c .before .magnitude .result) 64 (c .if2 .taken)))
 
 add-x : tie.Need-add-x Inv-loop μ-loop
 add-x c = search needs
@@ -57,8 +60,11 @@ loop-less c = search needs
 loop-again : tie.Need-loop-again Inv-loop μ-loop
 loop-again c =
     let l = c .before .before .before .before .before .loop in
-    let s = c .before .before .before .before .before .before .args in
-    (omega arith, every-more (short (s .s) (now (s .model))) (l .x) (l .inv .1) (ap (λ (k : ℕ). leb k lengthLimit) (sym (size-is (c .before))) ∙ le-leb (c .before .magnitude .result) 64 (c .if2 .left)))
+    let s = c .before .before .before .before .before .before .args in (
+      omega arith,
+      every-more (short (s .s) (now (s .model))) (l .x) (l .inv .1)
+          (ap (λ (k : ℕ). leb k lengthLimit) (sym (size-is (c .before))) ∙ le-leb (c .before .magnitude .result) 64 (c .if2 .left)),
+    )
 
 returns-2 : tie.Need-returns-2 Inv-loop μ-loop
 returns-2 c =

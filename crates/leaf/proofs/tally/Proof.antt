@@ -27,13 +27,20 @@ lowest-variable-requires c κs = search needs
 
 returns-2 : tie.Need-returns-2
 returns-2 c =
-    let s = c .before .before .before .before .args in
-    (tally-higher (lowestVariable (s .labels) (s .y)) (s .y) (eqℤ (s .len) (s .wanted)) (sym (lengths (c .before .before .before)) ∙ not-false _ (c .before .before .if1 .left)) (λ e. c .if2 .taken (c .before .lowest-variable .ensures ∙ e)), omega arith)
+    let s = c .before .before .before .before .args in (
+      tally-higher (lowestVariable (s .labels) (s .y)) (s .y) (eqℤ (s .len) (s .wanted))
+          (sym (lengths (c .before .before .before)) ∙ not-false _ (c .before .before .if1 .left))
+          (λ e. c .if2 .taken (c .before .lowest-variable .ensures ∙ e)),
+      omega arith,
+    )
 
 returns-3 : tie.Need-returns-3
 returns-3 c =
-    let s = c .before .before .before .before .args in
-    (tally-one (lowestVariable (s .labels) (s .y)) (s .y) (eqℤ (s .len) (s .wanted)) (sym (lengths (c .before .before .before)) ∙ not-false _ (c .before .before .if1 .left)) (sym (c .before .lowest-variable .ensures) ∙ c .if2 .left), omega arith)
+    let s = c .before .before .before .before .args in (
+      tally-one (lowestVariable (s .labels) (s .y)) (s .y) (eqℤ (s .len) (s .wanted))
+          (sym (lengths (c .before .before .before)) ∙ not-false _ (c .before .before .if1 .left)) (sym (c .before .lowest-variable .ensures) ∙ c .if2 .left),
+      omega arith,
+    )
 
 pub tally-spec : {M : Type 1} → statement M
 tally-spec = tie.close (tie.spec equal-requires returns lowest-variable-requires returns-2 returns-3)

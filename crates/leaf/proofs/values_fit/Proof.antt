@@ -19,7 +19,8 @@ unfolding asked
 returns c =
     let s = c .before .before .before .args in
     let u = asked (now (s .ticket)) (s .s) in
-    sym (ap (λ (t : Bool). t && allBelow (s .s .p) (pairFits u (s .labels) (now (s .model)) (s .x))) (sym (c .before .var-fits .ensures) ∙ not-true _ (c .if1 .taken)))
+    sym (ap (λ (t : Bool). t && allBelow (s .s .p) (pairFits u (s .labels) (now (s .model)) (s .x)))
+    (sym (c .before .var-fits .ensures) ∙ not-true _ (c .if1 .taken)))
 
 pairs-fit-requires : tie.Need-pairs-fit-requires
 pairs-fit-requires c κs = search needs
@@ -31,7 +32,8 @@ returns-2 c =
     let u = asked (now (s .ticket)) (s .s) in
     c .pairs-fit .ensures
     ∙ pairs-any (now (s .ticket)) (s .s) (s .labels) (now (s .model)) (s .x)
-    ∙ sym (ap (λ (t : Bool). t && allBelow (s .s .p) (pairFits u (s .labels) (now (s .model)) (s .x))) (sym (c .before .before .var-fits .ensures) ∙ not-false _ (c .before .if1 .left)))
+    ∙ sym (ap (λ (t : Bool). t && allBelow (s .s .p) (pairFits u (s .labels) (now (s .model)) (s .x)))
+    (sym (c .before .before .var-fits .ensures) ∙ not-false _ (c .before .if1 .left)))
 
 pub values-fit-spec : {M : Type 1} → statement M
 values-fit-spec = tie.close (tie.spec var-fits-requires returns pairs-fit-requires returns-2)

@@ -71,7 +71,8 @@ put-digits-returns-2 : (t : ℕ) → put-digits-lts.Need-returns-2 (
   put-digits-below t,
   put-digits.Post,
 ) (put-digits-at t) put-digits.Post
-put-digits-returns-2 t c = (put-same (sym (digits-one _ _ (omega arith) (c .before .before .before .before .if2 .taken))) (c .before .before .put-byte .ensures .0), omega arith)
+put-digits-returns-2 t c =
+    (put-same (sym (digits-one _ _ (omega arith) (c .before .before .before .before .if2 .taken))) (c .before .before .put-byte .ensures .0), omega arith)
 
 put-digits-sub-put-digits : (t : ℕ) → put-digits-lts.Need-sub-put-digits (
   put-byte-reads.Asked,
@@ -127,7 +128,10 @@ put-digits-returns-3 : (t : ℕ) → put-digits-lts.Need-returns-3 (
   put-digits-below t,
   put-digits.Post,
 ) (put-digits-at t) put-digits.Post
-put-digits-returns-3 t c = (put-same (sym (digits-more _ _ (omega arith) (c .before .before .before .before .before .before .before .before .if2 .left))) (then (c .before .before .before .before .before .before .put-digits .ensures .0) (c .before .before .put-byte2 .ensures .0)), omega arith)
+put-digits-returns-3 t c =
+    let put-digits-call = c .before .before .before .before .before .before .put-digits in
+    let if2 = c .before .before .before .before .before .before .before .before .if2 in
+    (put-same (sym (digits-more _ _ (omega arith) (if2 .left))) (then (put-digits-call .ensures .0) (c .before .before .put-byte2 .ensures .0)), omega arith)
 
 pub +put-digits-spec : {M : Type 1} → statement M
 +put-digits-spec = close μ-put-digits λ t. put-digits-lts.spec (

@@ -28,7 +28,11 @@ same-length-2 : tie.Need-same-length-2
 same-length-2 c = search needs
 
 returns-2 : tie.Need-returns-2
-returns-2 c = (put-same (integer-negative _ (c .before .before .before .before .before .before .before .before .if1 .left) (c .before .before .before .before .before .before .before .before .before .before .pre .0)) (then (c .before .before .before .before .before .before .put-byte .ensures .0) (c .before .before .put-decimal2 .ensures .0)), omega arith)
+returns-2 c =
+    let put-byte = c .before .before .before .before .before .before .put-byte in
+    let if1 = c .before .before .before .before .before .before .before .before .if1 in
+    let pre = c .before .before .before .before .before .before .before .before .before .before .pre in
+    (put-same (integer-negative _ (if1 .left) (pre .0)) (then (put-byte .ensures .0) (c .before .before .put-decimal2 .ensures .0)), omega arith)
 
 pub put-integer-spec : {M : Type 1} → statement M
 put-integer-spec =

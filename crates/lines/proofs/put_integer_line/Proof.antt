@@ -24,7 +24,17 @@ same-length : tie.Need-same-length
 same-length c = search needs
 
 returns : tie.Need-returns
-returns c = (then (c .before .before .before .before .before .before .before .before .before .before .before .before .before .before .before .before .before .before .put-byte .ensures .0) (then (c .before .before .before .before .before .before .before .before .before .before .before .before .before .before .put-decimal .ensures .0) (then (c .before .before .before .before .before .before .before .before .before .before .put-byte2 .ensures .0) (then (c .before .before .before .before .before .before .put-integer .ensures .0) (c .before .before .put-byte3 .ensures .0)))), omega arith)
+returns c =
+    let put-integer = c .before .before .before .before .before .before .put-integer in
+    let put-byte2 = c .before .before .before .before .before .before .before .before .before .before .put-byte2 in
+    let put-decimal = c .before .before .before .before .before .before .before .before .before .before .before .before .before .before .put-decimal in
+    let put-byte =
+    c .before .before .before .before .before .before .before .before .before .before .before .before .before .before .before .before .before .before
+    .put-byte in (
+      then (put-byte .ensures .0)
+          (then (put-decimal .ensures .0) (then (put-byte2 .ensures .0) (then (put-integer .ensures .0) (c .before .before .put-byte3 .ensures .0)))),
+      omega arith,
+    )
 
 pub put-integer-line-spec : {M : Type 1} → statement M
 put-integer-line-spec =

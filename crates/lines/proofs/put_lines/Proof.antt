@@ -40,21 +40,34 @@ same-length c = search needs
 
 returns : tie.Need-returns
 unfolding linesBy
-returns c = (put-same (ap (λ (x : Outcome). linesBy x (c .before .before .before .before .before .before .before .before .before .args .answer .now)) (sym (c .before .before .before .before .before .outcome .given .1))) (c .before .before .put-refused .ensures .0), omega arith)
+returns c =
+    let outcome = c .before .before .before .before .before .outcome in
+    let args = c .before .before .before .before .before .before .before .before .before .args in
+    (put-same (ap (λ (x : Outcome). linesBy x (args .answer .now)) (sym (outcome .given .1))) (c .before .before .put-refused .ensures .0), omega arith)
 
 same-length-2 : tie.Need-same-length-2
 same-length-2 c = search needs
 
 returns-2 : tie.Need-returns-2
 unfolding linesBy
-returns-2 c = (put-same (ap (λ (x : Outcome). linesBy x (c .before .before .before .before .before .before .before .before .before .args .answer .now)) (sym (c .before .before .before .before .before .enum-told .given .1))) (c .before .before .put-text .ensures .0), omega arith)
+returns-2 c =
+    let enum-told-read = c .before .before .before .before .before .enum-told in
+    let args = c .before .before .before .before .before .before .before .before .before .args in
+    (put-same (ap (λ (x : Outcome). linesBy x (args .answer .now)) (sym (enum-told-read .given .1))) (c .before .before .put-text .ensures .0), omega arith)
 
 same-length-3 : tie.Need-same-length-3
 same-length-3 c = search needs
 
 returns-3 : tie.Need-returns-3
 unfolding linesBy
-returns-3 c = (put-same (ap (λ (x : Outcome). linesBy x (c .before .before .before .before .before .before .before .before .before .before .before .before .before .args .answer .now)) (sym (c .before .before .before .before .before .before .before .before .before .enum-told2 .given .1))) (then (c .before .before .before .before .before .before .put-text2 .ensures .0) (c .before .before .put-records .ensures .0)), omega arith)
+returns-3 c =
+    let put-text2 = c .before .before .before .before .before .before .put-text2 in
+    let enum-told2 = c .before .before .before .before .before .before .before .before .before .enum-told2 in
+    let args = c .before .before .before .before .before .before .before .before .before .before .before .before .before .args in (
+      put-same (ap (λ (x : Outcome). linesBy x (args .answer .now)) (sym (enum-told2 .given .1)))
+          (then (put-text2 .ensures .0) (c .before .before .put-records .ensures .0)),
+      omega arith,
+    )
 
 pub put-lines-spec : {M : Type 1} → statement M
 put-lines-spec =

@@ -42,17 +42,26 @@ same-length c = search needs
 
 returns : tie.Need-returns Inv-loop μ-loop
 returns c =
+    let match = c .before .before .before .before .before .match in
+    let read-at = c .before .before .before .before .before .before .read-at in
     let b = c .before .before .before .before .before .before .before .before .before .before .args .answer .now in
     let l = c .before .before .before .before .before .before .before .loop in
-    let none = not-whole b (l .j) _ (c .before .before .before .before .before .before .read-at .ensures) (c .before .before .before .before .before .match .keys2) in
+    let none = not-whole b (l .j) _ (read-at .ensures) (match .keys2) in
     (l .inv .4 _ _ (put-same (lines-end b (l .variable) (l .j) none) (c .before .before .put-text .ensures .0)), omega arith)
 
 add-put-tail : tie.Need-add-put-tail Inv-loop μ-loop
-add-put-tail c = omega (arith, found-whole (c .before .before .before .before .before .before .before .before .before .args .answer .now) (c .before .before .before .before .before .before .loop .j) _ _ (sym (c .before .before .before .before .before .read-at .ensures) ∙ c .before .before .before .kind .given .1) .2)
+add-put-tail c =
+    let read-at = c .before .before .before .before .before .read-at in
+    let loop = c .before .before .before .before .before .before .loop in
+    let args = c .before .before .before .before .before .before .before .before .before .args in
+    omega (arith, found-whole (args .answer .now) (loop .j) _ _ (sym (read-at .ensures) ∙ c .before .before .before .kind .given .1) .2)
 
 put-tail-requires : tie.Need-put-tail-requires Inv-loop μ-loop
 put-tail-requires c κs =
-    let w = found-whole (c .before .before .before .before .before .before .before .before .before .args .answer .now) (c .before .before .before .before .before .before .loop .j) _ _ (sym (c .before .before .before .before .before .read-at .ensures) ∙ c .before .before .before .kind .given .1) in
+    let read-at = c .before .before .before .before .before .read-at in
+    let loop = c .before .before .before .before .before .before .loop in
+    let args = c .before .before .before .before .before .before .before .before .before .args in
+    let w = found-whole (args .answer .now) (loop .j) _ _ (sym (read-at .ensures) ∙ c .before .before .before .kind .given .1) in
     (omega (arith, w .2), omega (arith, w .2))
 
 same-length-2 : tie.Need-same-length-2 Inv-loop μ-loop
@@ -60,41 +69,76 @@ same-length-2 c = search needs
 
 returns-2 : tie.Need-returns-2 Inv-loop μ-loop
 returns-2 c =
+    let kind = c .before .before .before .before .before .before .kind in
+    let read-at = c .before .before .before .before .before .before .before .before .read-at in
     let b = c .before .before .before .before .before .before .before .before .before .before .before .before .args .answer .now in
     let l = c .before .before .before .before .before .before .before .before .before .loop in
-    let w = found-whole (c .before .before .before .before .before .before .before .before .before .before .before .before .args .answer .now) (c .before .before .before .before .before .before .before .before .before .loop .j) _ _ (sym (c .before .before .before .before .before .before .before .before .read-at .ensures) ∙ c .before .before .before .before .before .before .kind .given .1) in
-    (l .inv .4 _ _ (put-same (lines-integers b (l .variable) (l .j) _ _ w (c .before .before .before .before .if1 .taken)) (c .before .before .put-tail .ensures .0)), omega (arith, w .2))
+    let w = found-whole b (l .j) _ _ (sym (read-at .ensures) ∙ kind .given .1) in (
+      l .inv .4 _ _
+          (put-same (lines-integers b (l .variable) (l .j) _ _ w (c .before .before .before .before .if1 .taken)) (c .before .before .put-tail .ensures .0)),
+      omega (arith, w .2),
+    )
 
 add-put-string : tie.Need-add-put-string Inv-loop μ-loop
-add-put-string c = omega (arith, found-whole (c .before .before .before .before .before .before .before .before .before .args .answer .now) (c .before .before .before .before .before .before .loop .j) _ _ (sym (c .before .before .before .before .before .read-at .ensures) ∙ c .before .before .before .kind .given .1) .2)
+add-put-string c =
+    let read-at = c .before .before .before .before .before .read-at in
+    let loop = c .before .before .before .before .before .before .loop in
+    let args = c .before .before .before .before .before .before .before .before .before .args in
+    omega (arith, found-whole (args .answer .now) (loop .j) _ _ (sym (read-at .ensures) ∙ c .before .before .before .kind .given .1) .2)
 
 put-string-requires : tie.Need-put-string-requires Inv-loop μ-loop
 put-string-requires c κs =
-    let w = found-whole (c .before .before .before .before .before .before .before .before .before .args .answer .now) (c .before .before .before .before .before .before .loop .j) _ _ (sym (c .before .before .before .before .before .read-at .ensures) ∙ c .before .before .before .kind .given .1) in
+    let read-at = c .before .before .before .before .before .read-at in
+    let loop = c .before .before .before .before .before .before .loop in
+    let args = c .before .before .before .before .before .before .before .before .before .args in
+    let w = found-whole (args .answer .now) (loop .j) _ _ (sym (read-at .ensures) ∙ c .before .before .before .kind .given .1) in
     (omega (arith, w .2), omega (arith, w .2))
 
 add-j : tie.Need-add-j Inv-loop μ-loop
-add-j c = omega (arith, found-whole (c .before .before .before .before .before .before .before .before .before .before .before .before .args .answer .now) (c .before .before .before .before .before .before .before .before .before .loop .j) _ _ (sym (c .before .before .before .before .before .before .before .before .read-at .ensures) ∙ c .before .before .before .before .before .before .kind .given .1) .2)
+add-j c =
+    let kind = c .before .before .before .before .before .before .kind in
+    let read-at = c .before .before .before .before .before .before .before .before .read-at in
+    let loop = c .before .before .before .before .before .before .before .before .before .loop in
+    let args = c .before .before .before .before .before .before .before .before .before .before .before .before .args in
+    omega (arith, found-whole (args .answer .now) (loop .j) _ _ (sym (read-at .ensures) ∙ kind .given .1) .2)
 
 add-j-2 : tie.Need-add-j-2 Inv-loop μ-loop
-add-j-2 c = omega (arith, found-whole (c .before .before .before .before .before .before .before .before .before .before .before .before .args .answer .now) (c .before .before .before .before .before .before .before .before .before .loop .j) _ _ (sym (c .before .before .before .before .before .before .before .before .read-at .ensures) ∙ c .before .before .before .before .before .before .kind .given .1) .2)
+add-j-2 c =
+    let kind = c .before .before .before .before .before .before .kind in
+    let read-at = c .before .before .before .before .before .before .before .before .read-at in
+    let loop = c .before .before .before .before .before .before .before .before .before .loop in
+    let args = c .before .before .before .before .before .before .before .before .before .before .before .before .args in
+    omega (arith, found-whole (args .answer .now) (loop .j) _ _ (sym (read-at .ensures) ∙ kind .given .1) .2)
 
 add-variable : tie.Need-add-variable Inv-loop μ-loop
-add-variable c = omega (arith, found-whole (c .before .before .before .before .before .before .before .before .before .before .before .before .args .answer .now) (c .before .before .before .before .before .before .before .before .before .loop .j) _ _ (sym (c .before .before .before .before .before .before .before .before .read-at .ensures) ∙ c .before .before .before .before .before .before .kind .given .1) .2)
+add-variable c =
+    let kind = c .before .before .before .before .before .before .kind in
+    let read-at = c .before .before .before .before .before .before .before .before .read-at in
+    let loop = c .before .before .before .before .before .before .before .before .before .loop in
+    let args = c .before .before .before .before .before .before .before .before .before .before .before .before .args in
+    omega (arith, found-whole (args .answer .now) (loop .j) _ _ (sym (read-at .ensures) ∙ kind .given .1) .2)
 
 loop-less : tie.Need-loop-less Inv-loop μ-loop
-loop-less c = omega (arith, found-whole (c .before .before .before .before .before .before .before .before .before .before .before .before .args .answer .now) (c .before .before .before .before .before .before .before .before .before .loop .j) _ _ (sym (c .before .before .before .before .before .before .before .before .read-at .ensures) ∙ c .before .before .before .before .before .before .kind .given .1) .2)
+loop-less c =
+    let kind = c .before .before .before .before .before .before .kind in
+    let read-at = c .before .before .before .before .before .before .before .before .read-at in
+    let loop = c .before .before .before .before .before .before .before .before .before .loop in
+    let args = c .before .before .before .before .before .before .before .before .before .before .before .before .args in
+    omega (arith, found-whole (args .answer .now) (loop .j) _ _ (sym (read-at .ensures) ∙ kind .given .1) .2)
 
 loop-again : tie.Need-loop-again Inv-loop μ-loop
 loop-again c =
+    let kind = c .before .before .before .before .before .before .kind in
+    let read-at = c .before .before .before .before .before .before .before .before .read-at in
     let b = c .before .before .before .before .before .before .before .before .before .before .before .before .args .answer .now in
     let l = c .before .before .before .before .before .before .before .before .before .loop in
-    let w = found-whole (c .before .before .before .before .before .before .before .before .before .before .before .before .args .answer .now) (c .before .before .before .before .before .before .before .before .before .loop .j) _ _ (sym (c .before .before .before .before .before .before .before .before .read-at .ensures) ∙ c .before .before .before .before .before .before .kind .given .1) in (
+    let w = found-whole b (l .j) _ _ (sym (read-at .ensures) ∙ kind .given .1) in (
       omega (arith, w .2),
       omega (arith, w .2),
       omega (arith, w .2),
       search needs,
-      λ o r p. l .inv .4 o r (put-same (lines-string b (l .variable) (l .j) _ _ w (c .before .before .before .before .if1 .left)) (then (c .before .before .put-string .ensures .0) p)),
+      λ o r p. l .inv .4 o r (put-same (lines-string b (l .variable) (l .j) _ _ w (c .before .before .before .before .if1 .left))
+          (then (c .before .before .put-string .ensures .0) p)),
     )
 
 pub put-records-spec : {M : Type 1} → statement M

@@ -30,7 +30,17 @@ same-length : tie.Need-same-length
 same-length c = search needs
 
 returns : tie.Need-returns
-returns c = (then (c .before .before .before .before .before .before .before .before .before .before .before .before .before .before .before .before .before .before .before .put-text .ensures .0) (then (c .before .before .before .before .before .before .before .before .before .before .before .before .before .before .before .put-decimal .ensures .0) (then (c .before .before .before .before .before .before .before .before .before .before .put-text2 .ensures .0) (then (c .before .before .before .before .before .before .put-decimal2 .ensures .0) (c .before .before .put-byte .ensures .0)))), omega arith)
+returns c =
+    let put-decimal2 = c .before .before .before .before .before .before .put-decimal2 in
+    let put-text2 = c .before .before .before .before .before .before .before .before .before .before .put-text2 in
+    let put-decimal = c .before .before .before .before .before .before .before .before .before .before .before .before .before .before .before .put-decimal in
+    let put-text =
+    c .before .before .before .before .before .before .before .before .before .before .before .before .before .before .before .before .before .before
+    .before .put-text in (
+      then (put-text .ensures .0)
+          (then (put-decimal .ensures .0) (then (put-text2 .ensures .0) (then (put-decimal2 .ensures .0) (c .before .before .put-byte .ensures .0)))),
+      omega arith,
+    )
 
 pub put-refused-spec : {M : Type 1} → statement M
 put-refused-spec =

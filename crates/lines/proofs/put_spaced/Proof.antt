@@ -15,7 +15,9 @@ same-length : tie.Need-same-length
 same-length c = search needs
 
 returns : tie.Need-returns
-returns c = (then (c .before .before .before .before .before .before .put-byte .ensures .0) (c .before .before .put-decimal .ensures .0), omega arith)
+returns c =
+    let put-byte = c .before .before .before .before .before .before .put-byte in
+    (then (put-byte .ensures .0) (c .before .before .put-decimal .ensures .0), omega arith)
 
 pub put-spaced-spec : {M : Type 1} → statement M
 put-spaced-spec = tie.close (tie.spec put-byte-requires put-decimal-requires same-length returns)

@@ -26,9 +26,18 @@ same-length c = search needs
 
 returns : tie.Need-returns
 returns c =
-    let s = c .before .before .before .before .before .before .before .before .before .before .before .before .before .before .before .before .before .before .before .before .before .before .args in (
+    let put-characters = c .before .before .before .before .before .before .put-characters in
+    let put-spaced = c .before .before .before .before .before .before .before .before .before .before .put-spaced in
+    let put-decimal = c .before .before .before .before .before .before .before .before .before .before .before .before .before .before .put-decimal in
+    let put-byte =
+    c .before .before .before .before .before .before .before .before .before .before .before .before .before .before .before .before .before .before
+    .put-byte in
+    let s =
+    c .before .before .before .before .before .before .before .before .before .before .before .before .before .before .before .before .before .before
+    .before .before .before .before .args in (
       put-same (string-line (s .variable) (s .answer .now) (s .from) (s .count))
-          (then (c .before .before .before .before .before .before .before .before .before .before .before .before .before .before .before .before .before .before .put-byte .ensures .0) (then (c .before .before .before .before .before .before .before .before .before .before .before .before .before .before .put-decimal .ensures .0) (then (then (c .before .before .before .before .before .before .before .before .before .before .put-spaced .ensures .0) (c .before .before .before .before .before .before .put-characters .ensures .0)) (c .before .before .put-byte2 .ensures .0)))),
+          (then (put-byte .ensures .0)
+          (then (put-decimal .ensures .0) (then (then (put-spaced .ensures .0) (put-characters .ensures .0)) (c .before .before .put-byte2 .ensures .0)))),
       omega arith,
     )
 

@@ -18,7 +18,9 @@ same-length : tie.Need-same-length
 same-length c = search needs
 
 returns : tie.Need-returns
-returns c = (then (c .before .before .before .before .before .before .before .put-integers .ensures .0) (c .before .before .put-text .ensures .0), omega arith)
+returns c =
+    let put-integers = c .before .before .before .before .before .before .before .put-integers in
+    (then (put-integers .ensures .0) (c .before .before .put-text .ensures .0), omega arith)
 
 pub put-tail-spec : {M : Type 1} → statement M
 put-tail-spec =

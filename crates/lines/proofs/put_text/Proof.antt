@@ -36,11 +36,12 @@ loop-less c = omega arith
 
 loop-again : tie.Need-loop-again Inv-loop μ-loop
 loop-again c =
+    let loop = c .before .before .before .before .before .before .loop in
     let text = c .before .before .before .before .before .before .before .before .before .args .text .now in
-    let j = c .before .before .before .before .before .before .loop .j in
+    let j = loop .j in
     let h : j < length text = omega arith in
     let next : (getD text j 0 ∷ []) ++ drop (j + 1) text ≡ drop j text = rw add-one (sym (drop-cons text j 0 h)) in
-    (omega arith, omega arith, search needs, λ o r p. c .before .before .before .before .before .before .loop .inv .3 o r (put-same next (then (c .before .before .put-byte .ensures .0) p)))
+    (omega arith, omega arith, search needs, λ o r p. loop .inv .3 o r (put-same next (then (c .before .before .put-byte .ensures .0) p)))
 
 same-length : tie.Need-same-length Inv-loop μ-loop
 same-length c = search needs

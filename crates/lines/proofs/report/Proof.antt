@@ -26,7 +26,8 @@ put-lines-requires c κs = search needs
 
 returns : tie.Need-returns
 returns c =
-    reported (c .before .before .before .before .before .check-ticket .ensures) (length-replicate workNumbers (pos 0)) (length-replicate {A = ℕ} answerBytes 0) (c .put-lines .ensures .0) (omega arith)
+    let check-ticket = c .before .before .before .before .before .check-ticket in
+    reported (check-ticket .ensures) (length-replicate workNumbers (pos 0)) (length-replicate {A = ℕ} answerBytes 0) (c .put-lines .ensures .0) (omega arith)
 
 pub report-spec : {M : Type 1} → statement M
 report-spec =

@@ -52,7 +52,8 @@ loop-again : tie.Need-loop-again Inv-loop μ-loop
 loop-again c =
     let l = c .before .before .loop in
     let s = c .before .before .before .before .args in
-    let z : toZ w64 (ofZ w64 (c .i32-at .result)) ≡ i32 (now (s .ticket)) (s .at + 4 * l .j) = toZ-ofZ (record { sfits = c .i32-at .ok }) ∙ c .i32-at .ensures .0 in
+    let z : toZ w64 (ofZ w64 (c .i32-at .result)) ≡ i32 (now (s .ticket)) (s .at + 4 * l .j) =
+    toZ-ofZ (record { sfits = c .i32-at .ok }) ∙ c .i32-at .ensures .0 in
     (omega arith, ap₂ (λ (zs : List ℤ) (x : ℤ). set zs (l .j) x) (l .inv .1) z ∙ number-more (now (s .ticket)) (s .at) (l .j) (omega arith))
 
 returns : tie.Need-returns Inv-loop μ-loop

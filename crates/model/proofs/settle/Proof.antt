@@ -34,14 +34,18 @@ unfolding asked
 returns c =
     let s = c .before .before .before .before .before .args in
     let b = now (s .ticket) in
-    let u = asked b (s .s) in
-    (model-tests b u (leafFault u (branchOf (now (s .work)) (s .count)) (modelAt b u (s .at))) (s .at) (s .size) false _ (ne-eqb _ _ (c .if1 .taken)) refl, λ z. absurd (omega arith))
+    let u = asked b (s .s) in (
+      model-tests b u (leafFault u (branchOf (now (s .work)) (s .count)) (modelAt b u (s .at))) (s .at) (s .size) false _ (ne-eqb _ _ (c .if1 .taken)) refl,
+      λ z. absurd (omega arith),
+    )
 
 integers-within-requires : tie.Need-integers-within-requires
 integers-within-requires c κs = search needs
 
 -- the body has a number for each column
-fits : (c : tie.Else1) → c .before .before .before .before .before .args .size ≡ 4 * (c .before .before .before .before .before .args .s .q + (c .before .before .before .before .before .args .s .p + c .before .before .before .before .before .args .s .p))
+fits : (c : tie.Else1) →
+    let args = c .before .before .before .before .before .args in
+    args .size ≡ 4 * (args .s .q + (args .s .p + args .s .p))
 fits c = omega arith
 
 returns-2 : tie.Need-returns-2
@@ -49,8 +53,11 @@ unfolding asked
 returns-2 c =
     let s = c .before .before .before .before .before .before .before .args in
     let b = now (s .ticket) in
-    let u = asked b (s .s) in
-    (model-tests b u (leafFault u (branchOf (now (s .work)) (s .count)) (modelAt b u (s .at))) (s .at) (s .size) true false (eq-eqb _ _ (fits (c .before .before))) (sym (c .before .integers-within .ensures) ∙ not-true _ (c .if2 .taken)), λ z. absurd (omega arith))
+    let u = asked b (s .s) in (
+      model-tests b u (leafFault u (branchOf (now (s .work)) (s .count)) (modelAt b u (s .at))) (s .at) (s .size) true false
+          (eq-eqb _ _ (fits (c .before .before))) (sym (c .before .integers-within .ensures) ∙ not-true _ (c .if2 .taken)),
+      λ z. absurd (omega arith),
+    )
 
 read-model-requires : tie.Need-read-model-requires
 read-model-requires c κs = search needs
@@ -59,27 +66,39 @@ slice-aggregate-leaf-fault : tie.Need-slice-aggregate-leaf-fault
 slice-aggregate-leaf-fault c = search needs
 
 -- the model's numbers are small
-small : (c : tie.Else2) → allWithin valueLimit (i32s (now (c .before .before .before .before .before .before .before .args .ticket)) (c .before .before .before .before .before .before .before .args .at) (c .before .before .before .before .before .before .before .args .s .q + (c .before .before .before .before .before .before .before .args .s .p + c .before .before .before .before .before .before .before .args .s .p))) ≡ true
+small : (c : tie.Else2) →
+    let args = c .before .before .before .before .before .before .before .args in
+    allWithin valueLimit (i32s (now (args .ticket)) (args .at) (args .s .q + (args .s .p + args .s .p))) ≡ true
 small c = sym (c .before .integers-within .ensures) ∙ not-false _ (c .if2 .left)
 
 leaf-fault-requires : tie.Need-leaf-fault-requires
 leaf-fault-requires c κs =
     let s = c .before .before .before .before .before .before .before .before .before in
-    let ls = c .before .before .before .before .before .before .before .labels in
-    ((s .pre .0, held-filled (now (s .args .ticket)) (s .args .s) (s .pre .0) (s .args .at) (ls .result) (c .before .read-model .result) (small (c .before .before)) (c .before .read-model .ensures)), (s .pre .2, ls .ensures))
+    let ls = c .before .before .before .before .before .before .before .labels in (
+      (
+        s .pre .0,
+        held-filled (now (s .args .ticket)) (s .args .s) (s .pre .0) (s .args .at) (ls .result) (c .before .read-model .result) (small (c .before .before))
+            (c .before .read-model .ensures),
+      ),
+      (s .pre .2, ls .ensures),
+    )
 
 returns-3 : tie.Need-returns-3
 returns-3 c =
+    let else1 = c .before .before .before .before .before in
+    let labels = else1 .before .before .before .labels in
     let s = c .before .before .before .before .before .before .before .before .before .before in
     let b = now (s .args .ticket) in
     let br = branchOf (now (s .args .work)) (s .args .count) in
-    let ls = c .before .before .before .before .before .before .before .before .labels .result in
+    let ls = labels .result in
     let held = c .before .before .read-model .result in
     let e = c .before .before .read-model .ensures in
     let i = small (c .before .before .before) in
-    let n : s .args .size ≡ 4 * (s .args .s .q + (s .args .s .p + s .args .s .p)) = fits (c .before .before .before .before .before) in (
-      settled-fault b (s .args .s) (s .pre .0) (s .args .at) ls held i e br (s .args .size) (c .leaf-fault .result) n (c .before .before .before .before .before .before .before .before .labels .ensures) (c .leaf-fault .ensures),
-      settled-answers b (s .args .s) (s .pre .0) (s .args .at) ls held i e br (s .args .size) (c .leaf-fault .result) n (c .before .before .before .before .before .before .before .before .labels .ensures) (c .leaf-fault .ensures),
+    let n : s .args .size ≡ 4 * (s .args .s .q + (s .args .s .p + s .args .s .p)) = fits else1 in (
+      settled-fault b (s .args .s) (s .pre .0) (s .args .at) ls held i e br (s .args .size) (c .leaf-fault .result) n (labels .ensures)
+          (c .leaf-fault .ensures),
+      settled-answers b (s .args .s) (s .pre .0) (s .args .at) ls held i e br (s .args .size) (c .leaf-fault .result) n (labels .ensures)
+          (c .leaf-fault .ensures),
     )
 
 pub settle-spec : {M : Type 1} → statement M

@@ -48,7 +48,12 @@ returns : tie.Need-returns
 returns c =
     let start = c .before .before .before .before .before .before in
     let rank = c .before .before .before .before in
-    ap (progressOf (now (start .args .b))) (simp (eq-eqb _ _ (sym (ranked rank) ∙ c .before .before .before .if1 .taken), c .before .before .u32-at .ensures .0, c .before .u16-at .ensures .0, c .u16-at2 .ensures .0))
+    ap (progressOf (now (start .args .b))) (simp (
+      eq-eqb _ _ (sym (ranked rank) ∙ c .before .before .before .if1 .taken),
+      c .before .before .u32-at .ensures .0,
+      c .before .u16-at .ensures .0,
+      c .u16-at2 .ensures .0,
+    ))
     ∙ after-advanced _ _ _ (start .pre .0)
 
 add-t12 : tie.Need-add-t12

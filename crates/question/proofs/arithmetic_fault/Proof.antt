@@ -24,8 +24,14 @@ u16-at-requires c κs = search needs
 
 returns-4 : tie.Need-returns-4
 returns-4 c =
-    let h : 2 < u16 (now (c .before .before .before .before .before .before .args .b)) (c .before .before .before .before .before .before .args .at) = omega arith in
-    sym (simp (le-leb _ _ (c .before .before .before .before .if1 .left), eq-eqb _ _ (c .before .before .before .if2 .left), le-leb _ _ (c .before .before .if3 .left), lt-leb _ _ h))
+    let args = c .before .before .before .before .before .before .args in
+    let h : 2 < u16 (now (args .b)) (args .at) = omega arith in
+    sym (simp (
+      le-leb _ _ (c .before .before .before .before .if1 .left),
+      eq-eqb _ _ (c .before .before .before .if2 .left),
+      le-leb _ _ (c .before .before .if3 .left),
+      lt-leb _ _ h,
+    ))
 
 add-form-in-range : tie.Need-add-form-in-range
 add-form-in-range c = search needs
@@ -38,13 +44,31 @@ form-in-range-requires c κs = search needs
 
 returns-5 : tie.Need-returns-5
 returns-5 c =
-    let h : u16 (now (c .before .before .before .before .before .before .before .before .args .b)) (c .before .before .before .before .before .before .before .before .args .at) ≤ 2 = omega arith in
-    sym (simp (le-leb _ _ (c .before .before .before .before .before .before .if1 .left), eq-eqb _ _ (c .before .before .before .before .before .if2 .left), le-leb _ _ (c .before .before .before .before .if3 .left), le-leb _ _ h, sym (c .before .form-in-range .ensures) ∙ c .if5 .taken))
+    let if2 = c .before .before .before .before .before .if2 in
+    let if1 = c .before .before .before .before .before .before .if1 in
+    let args = c .before .before .before .before .before .before .before .before .args in
+    let h : u16 (now (args .b)) (args .at) ≤ 2 = omega arith in
+    sym (simp (
+      le-leb _ _ (if1 .left),
+      eq-eqb _ _ (if2 .left),
+      le-leb _ _ (c .before .before .before .before .if3 .left),
+      le-leb _ _ h,
+      sym (c .before .form-in-range .ensures) ∙ c .if5 .taken,
+    ))
 
 returns-6 : tie.Need-returns-6
 returns-6 c =
-    let h : u16 (now (c .before .before .before .before .before .before .before .before .args .b)) (c .before .before .before .before .before .before .before .before .args .at) ≤ 2 = omega arith in
-    sym (simp (le-leb _ _ (c .before .before .before .before .before .before .if1 .left), eq-eqb _ _ (c .before .before .before .before .before .if2 .left), le-leb _ _ (c .before .before .before .before .if3 .left), le-leb _ _ h, sym (c .before .form-in-range .ensures) ∙ c .if5 .left))
+    let if2 = c .before .before .before .before .before .if2 in
+    let if1 = c .before .before .before .before .before .before .if1 in
+    let args = c .before .before .before .before .before .before .before .before .args in
+    let h : u16 (now (args .b)) (args .at) ≤ 2 = omega arith in
+    sym (simp (
+      le-leb _ _ (if1 .left),
+      eq-eqb _ _ (if2 .left),
+      le-leb _ _ (c .before .before .before .before .if3 .left),
+      le-leb _ _ h,
+      sym (c .before .form-in-range .ensures) ∙ c .if5 .left,
+    ))
 
 pub arithmetic-fault-spec : {M : Type 1} → statement M
 arithmetic-fault-spec =

@@ -37,7 +37,9 @@ loop-less c = omega arith
 loop-again : tie.Need-loop-again Inv-loop μ-loop
 loop-again c =
     rw (c .u32-at .ensures .0)
-    (let e = skip-one (now (c .before .before .before .before .args .b)) (c .before .before .loop .left) (c .before .before .loop .j) (c .before .loop-test .taken) in
+    (let e =
+    skip-one (now (c .before .before .before .before .args .b)) (c .before .before .loop .left) (c .before .before .loop .j)
+    (c .before .loop-test .taken) in
     (sym e ∙ c .before .before .loop .inv .0, rw e at (c .before .before .loop .inv .1)))
 
 returns : tie.Need-returns Inv-loop μ-loop

@@ -21,7 +21,9 @@ pairs-rise-requires : tie.Need-pairs-rise-requires
 pairs-rise-requires c κs = search needs
 
 returns-2 : tie.Need-returns-2
-returns-2 c = c .pairs-rise .ensures ∙ sym (simp (rw (c .before .before .before .u32-at .ensures .0) at (sym (c .before .before .bits-within .ensures) ∙ not-false _ (c .before .if1 .left))))
+returns-2 c =
+    c .pairs-rise .ensures
+    ∙ sym (simp (rw (c .before .before .before .u32-at .ensures .0) at (sym (c .before .before .bits-within .ensures) ∙ not-false _ (c .before .if1 .left))))
 
 pub form-in-range-spec : {M : Type 1} → statement M
 form-in-range-spec =

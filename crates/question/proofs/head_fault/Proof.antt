@@ -29,26 +29,29 @@ u16-at-requires-2 c κs = search needs
 
 returns-2 : tie.Need-returns-2
 returns-2 c =
-    let b = now (c .before .before .before .before .before .before .args .b) in
-    let at = c .before .before .before .before .before .before .args .at in
-    let h : c .before .before .before .before .before .before .args .size ≡ 8 = omega arith in
+    let args = c .before .before .before .before .before .before .args in
+    let b = now (args .b) in
+    let at = args .at in
+    let h : args .size ≡ 8 = omega arith in
     let h0 : u32 b at < 1 = omega arith in
     simp tests
 
 returns-3 : tie.Need-returns-3
 returns-3 c =
-    let b = now (c .before .before .before .before .before .before .before .args .b) in
-    let at = c .before .before .before .before .before .before .before .args .at in
-    let h : c .before .before .before .before .before .before .before .args .size ≡ 8 = omega arith in
+    let args = c .before .before .before .before .before .before .before .args in
+    let b = now (args .b) in
+    let at = args .at in
+    let h : args .size ≡ 8 = omega arith in
     let h0 : 1 ≤ u32 b at = omega arith in
     let h1 : 196608 < u32 b at = omega arith in
     simp tests
 
 returns-4 : tie.Need-returns-4
 returns-4 c =
-    let b = now (c .before .before .before .before .before .before .before .before .args .b) in
-    let at = c .before .before .before .before .before .before .before .before .args .at in
-    let h : c .before .before .before .before .before .before .before .before .args .size ≡ 8 = omega arith in
+    let args = c .before .before .before .before .before .before .before .before .args in
+    let b = now (args .b) in
+    let at = args .at in
+    let h : args .size ≡ 8 = omega arith in
     let h0 : 1 ≤ u32 b at = omega arith in
     let h1 : u32 b at ≤ 196608 = omega arith in
     let h2 : 16 < u16 b (at + 4) = omega arith in
@@ -56,9 +59,10 @@ returns-4 c =
 
 returns-5 : tie.Need-returns-5
 returns-5 c =
-    let b = now (c .before .before .before .before .before .before .before .before .before .args .b) in
-    let at = c .before .before .before .before .before .before .before .before .before .args .at in
-    let h : c .before .before .before .before .before .before .before .before .before .args .size ≡ 8 = omega arith in
+    let args = c .before .before .before .before .before .before .before .before .before .args in
+    let b = now (args .b) in
+    let at = args .at in
+    let h : args .size ≡ 8 = omega arith in
     let h0 : 1 ≤ u32 b at = omega arith in
     let h1 : u32 b at ≤ 196608 = omega arith in
     let h2 : u16 b (at + 4) ≤ 16 = omega arith in
@@ -67,9 +71,10 @@ returns-5 c =
 
 returns-6 : tie.Need-returns-6
 returns-6 c =
-    let b = now (c .before .before .before .before .before .before .before .before .before .args .b) in
-    let at = c .before .before .before .before .before .before .before .before .before .args .at in
-    let h : c .before .before .before .before .before .before .before .before .before .args .size ≡ 8 = omega arith in
+    let args = c .before .before .before .before .before .before .before .before .before .args in
+    let b = now (args .b) in
+    let at = args .at in
+    let h : args .size ≡ 8 = omega arith in
     let h0 : 1 ≤ u32 b at = omega arith in
     let h1 : u32 b at ≤ 196608 = omega arith in
     let h2 : u16 b (at + 4) ≤ 16 = omega arith in

@@ -22,9 +22,10 @@ all-characters-requires c κs = search needs
 
 returns-4 : tie.Need-returns-4
 returns-4 c =
-    let h1 : c .before .before .before .before .before .before .args .size % 4 ≡ 0 = omega arith in
-    let h2 : 4 ≤ c .before .before .before .before .before .before .args .size = omega arith in
-    let h3 : c .before .before .before .before .before .before .args .size ≤ 256 = omega arith in
+    let args = c .before .before .before .before .before .before .args in
+    let h1 : args .size % 4 ≡ 0 = omega arith in
+    let h2 : 4 ≤ args .size = omega arith in
+    let h3 : args .size ≤ 256 = omega arith in
     simp (tests, sym (c .before .all-characters .ensures) ∙ not-true _ (c .if4 .taken))
 
 repeats-requires : tie.Need-repeats-requires
@@ -32,17 +33,27 @@ repeats-requires c κs = search needs
 
 returns-5 : tie.Need-returns-5
 returns-5 c =
-    let h1 : c .before .before .before .before .before .before .before .before .args .size % 4 ≡ 0 = omega arith in
-    let h2 : 4 ≤ c .before .before .before .before .before .before .before .before .args .size = omega arith in
-    let h3 : c .before .before .before .before .before .before .before .before .args .size ≤ 256 = omega arith in
-    simp (tests, sym (c .before .before .before .all-characters .ensures) ∙ not-false _ (c .before .before .if4 .left), sym (c .before .repeats .ensures) ∙ c .if5 .taken)
+    let args = c .before .before .before .before .before .before .before .before .args in
+    let h1 : args .size % 4 ≡ 0 = omega arith in
+    let h2 : 4 ≤ args .size = omega arith in
+    let h3 : args .size ≤ 256 = omega arith in
+    simp (
+      tests,
+      sym (c .before .before .before .all-characters .ensures) ∙ not-false _ (c .before .before .if4 .left),
+      sym (c .before .repeats .ensures) ∙ c .if5 .taken,
+    )
 
 returns-6 : tie.Need-returns-6
 returns-6 c =
-    let h1 : c .before .before .before .before .before .before .before .before .args .size % 4 ≡ 0 = omega arith in
-    let h2 : 4 ≤ c .before .before .before .before .before .before .before .before .args .size = omega arith in
-    let h3 : c .before .before .before .before .before .before .before .before .args .size ≤ 256 = omega arith in
-    simp (tests, sym (c .before .before .before .all-characters .ensures) ∙ not-false _ (c .before .before .if4 .left), sym (c .before .repeats .ensures) ∙ c .if5 .left)
+    let args = c .before .before .before .before .before .before .before .before .args in
+    let h1 : args .size % 4 ≡ 0 = omega arith in
+    let h2 : 4 ≤ args .size = omega arith in
+    let h3 : args .size ≤ 256 = omega arith in
+    simp (
+      tests,
+      sym (c .before .before .before .all-characters .ensures) ∙ not-false _ (c .before .before .if4 .left),
+      sym (c .before .repeats .ensures) ∙ c .if5 .left,
+    )
 
 pub literal-fault-spec : {M : Type 1} → statement M
 literal-fault-spec =

@@ -34,9 +34,11 @@ pair-in-range-requires c κs = search needs
 
 returns : tie.Need-returns Inv-loop μ-loop
 returns c =
+    let loop = c .before .before .before .before .before .loop in
     sym (pairs-no _ _ _ _ _ (omega arith)
-    (rw (c .before .before .before .u16-at .ensures .0, c .before .before .u32-at .ensures .0) at (sym (c .before .pair-in-range .ensures) ∙ not-true _ (c .if1 .taken))))
-    ∙ c .before .before .before .before .before .loop .inv .1
+    (rw (c .before .before .before .u16-at .ensures .0, c .before .before .u32-at .ensures .0) at
+    (sym (c .before .pair-in-range .ensures) ∙ not-true _ (c .if1 .taken))))
+    ∙ loop .inv .1
 
 add-low : tie.Need-add-low Inv-loop μ-loop
 add-low c = omega arith
@@ -52,11 +54,13 @@ loop-less c = omega arith
 
 loop-again : tie.Need-loop-again Inv-loop μ-loop
 loop-again c =
+    let loop = c .before .before .before .before .before .loop in
     rw (c .before .before .before .u16-at .ensures .0) (
       omega arith,
       sym (pairs-yes _ _ _ _ _ (omega arith)
-          (rw (c .before .before .before .u16-at .ensures .0, c .before .before .u32-at .ensures .0) at (sym (c .before .pair-in-range .ensures) ∙ not-false _ (c .if1 .left))))
-          ∙ c .before .before .before .before .before .loop .inv .1,
+          (rw (c .before .before .before .u16-at .ensures .0, c .before .before .u32-at .ensures .0) at
+          (sym (c .before .pair-in-range .ensures) ∙ not-false _ (c .if1 .left))))
+          ∙ loop .inv .1,
     )
 
 returns-2 : tie.Need-returns-2 Inv-loop μ-loop

@@ -46,13 +46,21 @@ module _ (m : Manner) (b : List ℕ) (s : Progress) (r at : ℕ) (short : length
   unfolding readingOf
   at-ending k e h g = outcome (format.Ended (progressOf b s) at r) (read-ended test b (progressOf b s) r at h (rw e at g))
 
-  at-fault : (k f : ℕ) → k ≡ kind b at → at + 6 ≤ length b → ending k ≡ false → f ≡ test b (progressOf b s) at → (f ≡ 0 → ⊥) → readingOf b (Stopped f r) ≡ readBy test b
+  at-fault : (k f : ℕ)
+      → k ≡ kind b at
+      → at + 6 ≤ length b
+      → ending k ≡ false
+      → f ≡ test b (progressOf b s) at
+      → (f ≡ 0 → ⊥)
+      → readingOf b (Stopped f r) ≡ readBy test b
   unfolding readingOf
   at-fault k zero e h g ef z = absurd (z refl)
   at-fault k (suc c) e h g ef z = outcome (format.Stopped (suc c) r) (read-stopped test b (progressOf b s) r at c h (rw e at g) (sym ef))
 
   goes-on : (k n : ℕ) (t : Progress) → (k ≡ kind b at) × (n ≡ size b at) × (at + 6 + n ≤ length b) → ending k ≡ false → test b (progressOf b s) at ≡ 0
-      → progressOf b t ≡ questionAdvanced b (progressOf b s) at → StandsTo (m .greatest) b s at → StandsTo (m .greatest) b t (at + 6 + n) × Left m b t (r + 1) (at + 6 + n)
+      → progressOf b t ≡ questionAdvanced b (progressOf b s) at
+      → StandsTo (m .greatest) b s at
+      → StandsTo (m .greatest) b t (at + 6 + n) × Left m b t (r + 1) (at + 6 + n)
   goes-on k n t w g ef e h =
       rw (w .1) (
         advanced-stands b s at (next-at (mannerOf m) h ef) t e,
@@ -84,7 +92,8 @@ returns-2 : tie.Need-returns-2 Inv-loop μ-loop
 returns-2 c =
     let a = c .before .before .before .before .before .before .args in
     let l = c .before .before .before .loop in
-    at-nothing (a .m) (now (a .b)) (l .s) (l .r) (l .at) (c .before .before .before .before .if1 .left) (l .inv .2) (sym (c .before .before .read-at .ensures) ∙ c .enum-told .given .1)
+    at-nothing (a .m) (now (a .b)) (l .s) (l .r) (l .at) (c .before .before .before .before .if1 .left) (l .inv .2)
+    (sym (c .before .before .read-at .ensures) ∙ c .enum-told .given .1)
 
 enum-known-k : tie.Need-enum-known-k Inv-loop μ-loop
 enum-known-k c = search needs
@@ -94,17 +103,21 @@ ends-question-requires c κs = search needs
 
 returns-3 : tie.Need-returns-3 Inv-loop μ-loop
 returns-3 c =
+    let read-at = c .before .before .before .before .before .read-at in
+    let if1 = c .before .before .before .before .before .before .before .if1 in
     let a = c .before .before .before .before .before .before .before .before .before .args in
     let l = c .before .before .before .before .before .before .loop in
-    let w = found-cut (now (a .b)) (l .at) _ (sym (c .before .before .before .before .before .read-at .ensures) ∙ c .before .before .before .k .given .1) in
-    at-ending (a .m) (now (a .b)) (l .s) (l .r) (l .at) (c .before .before .before .before .before .before .before .if1 .left) (l .inv .2) _ (w .0) (w .1) (sym (c .before .ends-question .ensures) ∙ c .if2 .taken)
+    let w = found-cut (now (a .b)) (l .at) _ (sym (read-at .ensures) ∙ c .before .before .before .k .given .1) in
+    at-ending (a .m) (now (a .b)) (l .s) (l .r) (l .at) (if1 .left) (l .inv .2) _ (w .0) (w .1) (sym (c .before .ends-question .ensures) ∙ c .if2 .taken)
 
 returns-4 : tie.Need-returns-4 Inv-loop μ-loop
 returns-4 c =
+    let read-at = c .before .before .before .before .before .read-at in
+    let if1 = c .before .before .before .before .before .before .before .if1 in
     let a = c .before .before .before .before .before .before .before .before .before .args in
     let l = c .before .before .before .before .before .before .loop in
-    let w = found-cut (now (a .b)) (l .at) _ (sym (c .before .before .before .before .before .read-at .ensures) ∙ c .before .before .before .k .given .1) in
-    at-fault (a .m) (now (a .b)) (l .s) (l .r) (l .at) (c .before .before .before .before .before .before .before .if1 .left) (l .inv .2) _ 3 (w .0) (w .1) (sym (c .before .ends-question .ensures) ∙ c .if2 .left)
+    let w = found-cut (now (a .b)) (l .at) _ (sym (read-at .ensures) ∙ c .before .before .before .k .given .1) in
+    at-fault (a .m) (now (a .b)) (l .s) (l .r) (l .at) (if1 .left) (l .inv .2) _ 3 (w .0) (w .1) (sym (c .before .ends-question .ensures) ∙ c .if2 .left)
     (sym (cut-short (mannerOf (a .m)) (now (a .b)) (progressOf (now (a .b)) (l .s)) (l .at) (w .2))) (λ z. omega arith)
 
 enum-known-k-2 : tie.Need-enum-known-k-2 Inv-loop μ-loop
@@ -115,59 +128,82 @@ ends-question-requires-2 c κs = search needs
 
 returns-5 : tie.Need-returns-5 Inv-loop μ-loop
 returns-5 c =
+    let read-at = c .before .before .before .before .before .read-at in
+    let if1 = c .before .before .before .before .before .before .before .if1 in
     let a = c .before .before .before .before .before .before .before .before .before .args in
     let l = c .before .before .before .before .before .before .loop in
-    let w = found-whole (now (a .b)) (l .at) _ _ (sym (c .before .before .before .before .before .read-at .ensures) ∙ c .before .before .before .k2 .given .1) in
-    at-ending (a .m) (now (a .b)) (l .s) (l .r) (l .at) (c .before .before .before .before .before .before .before .if1 .left) (l .inv .2) _ (w .0) (omega (arith, w .2)) (sym (c .before .ends-question2 .ensures) ∙ c .if3 .taken)
+    let w = found-whole (now (a .b)) (l .at) _ _ (sym (read-at .ensures) ∙ c .before .before .before .k2 .given .1) in
+    at-ending (a .m) (now (a .b)) (l .s) (l .r) (l .at) (if1 .left) (l .inv .2) _ (w .0) (omega (arith, w .2))
+    (sym (c .before .ends-question2 .ensures) ∙ c .if3 .taken)
 
 record-fault-requires : tie.Need-record-fault-requires Inv-loop μ-loop
 record-fault-requires c κs =
+    let read-at = c .before .before .before .before .before .read-at in
     let a = c .before .before .before .before .before .before .before .before .before .args in
     let l = c .before .before .before .before .before .before .loop in
-    (l .inv .1, found-whole (now (a .b)) (l .at) _ _ (sym (c .before .before .before .before .before .read-at .ensures) ∙ c .before .before .before .k2 .given .1))
+    (l .inv .1, found-whole (now (a .b)) (l .at) _ _ (sym (read-at .ensures) ∙ c .before .before .before .k2 .given .1))
 
 returns-6 : tie.Need-returns-6 Inv-loop μ-loop
 returns-6 c =
+    let k2 = c .before .before .before .before .before .k2 in
+    let read-at = c .before .before .before .before .before .before .before .read-at in
+    let if1 = c .before .before .before .before .before .before .before .before .before .if1 in
     let a = c .before .before .before .before .before .before .before .before .before .before .before .args in
     let l = c .before .before .before .before .before .before .before .before .loop in
-    let w = found-whole (now (a .b)) (l .at) _ _ (sym (c .before .before .before .before .before .before .before .read-at .ensures) ∙ c .before .before .before .before .before .k2 .given .1) in
-    at-fault (a .m) (now (a .b)) (l .s) (l .r) (l .at) (c .before .before .before .before .before .before .before .before .before .if1 .left) (l .inv .2) _ _ (w .0) (omega (arith, w .2)) (sym (c .before .before .before .ends-question2 .ensures) ∙ c .before .before .if3 .left)
+    let w = found-whole (now (a .b)) (l .at) _ _ (sym (read-at .ensures) ∙ k2 .given .1) in
+    at-fault (a .m) (now (a .b)) (l .s) (l .r) (l .at) (if1 .left) (l .inv .2) _ _ (w .0) (omega (arith, w .2))
+    (sym (c .before .before .before .ends-question2 .ensures) ∙ c .before .before .if3 .left)
     (c .before .record-fault .ensures) (c .if4 .taken)
 
 advance-requires : tie.Need-advance-requires Inv-loop μ-loop
 advance-requires c κs =
+    let k2 = c .before .before .before .before .before .k2 in
+    let read-at = c .before .before .before .before .before .before .before .read-at in
     let a = c .before .before .before .before .before .before .before .before .before .before .before .args in
     let l = c .before .before .before .before .before .before .before .before .loop in
-    let w = found-whole (now (a .b)) (l .at) _ _ (sym (c .before .before .before .before .before .before .before .read-at .ensures) ∙ c .before .before .before .before .before .k2 .given .1) in
+    let w = found-whole (now (a .b)) (l .at) _ _ (sym (read-at .ensures) ∙ k2 .given .1) in
     (next-at (mannerOf (a .m)) (l .inv .1) (sym (c .before .record-fault .ensures) ∙ c .if4 .left), w .0)
 
 add-at : tie.Need-add-at Inv-loop μ-loop
 add-at c =
+    let k2 = c .before .before .before .before .before .before .k2 in
+    let read-at = c .before .before .before .before .before .before .before .before .read-at in
     let a = c .before .before .before .before .before .before .before .before .before .before .before .before .args in
     let l = c .before .before .before .before .before .before .before .before .before .loop in
-    omega (arith, found-whole (now (a .b)) (l .at) _ _ (sym (c .before .before .before .before .before .before .before .before .read-at .ensures) ∙ c .before .before .before .before .before .before .k2 .given .1) .2)
+    omega (arith, found-whole (now (a .b)) (l .at) _ _ (sym (read-at .ensures) ∙ k2 .given .1) .2)
 
 add-at-2 : tie.Need-add-at-2 Inv-loop μ-loop
 add-at-2 c =
+    let k2 = c .before .before .before .before .before .before .k2 in
+    let read-at = c .before .before .before .before .before .before .before .before .read-at in
     let a = c .before .before .before .before .before .before .before .before .before .before .before .before .args in
     let l = c .before .before .before .before .before .before .before .before .before .loop in
-    omega (arith, found-whole (now (a .b)) (l .at) _ _ (sym (c .before .before .before .before .before .before .before .before .read-at .ensures) ∙ c .before .before .before .before .before .before .k2 .given .1) .2)
+    omega (arith, found-whole (now (a .b)) (l .at) _ _ (sym (read-at .ensures) ∙ k2 .given .1) .2)
 
 add-r : tie.Need-add-r Inv-loop μ-loop
-add-r c = omega (arith, c .before .before .before .before .before .before .before .before .before .loop .inv .1 .within)
+add-r c =
+    let loop = c .before .before .before .before .before .before .before .before .before .loop in
+    omega (arith, loop .inv .1 .within)
 
 loop-less : tie.Need-loop-less Inv-loop μ-loop
 loop-less c =
+    let k2 = c .before .before .before .before .before .before .k2 in
+    let read-at = c .before .before .before .before .before .before .before .before .read-at in
     let a = c .before .before .before .before .before .before .before .before .before .before .before .before .args in
     let l = c .before .before .before .before .before .before .before .before .before .loop in
-    omega (arith, found-whole (now (a .b)) (l .at) _ _ (sym (c .before .before .before .before .before .before .before .before .read-at .ensures) ∙ c .before .before .before .before .before .before .k2 .given .1) .2)
+    omega (arith, found-whole (now (a .b)) (l .at) _ _ (sym (read-at .ensures) ∙ k2 .given .1) .2)
 
 loop-again : tie.Need-loop-again Inv-loop μ-loop
 loop-again c =
+    let k2 = c .before .before .before .before .before .before .k2 in
+    let read-at = c .before .before .before .before .before .before .before .before .read-at in
+    let if1 = c .before .before .before .before .before .before .before .before .before .before .if1 in
     let a = c .before .before .before .before .before .before .before .before .before .before .before .before .args in
     let l = c .before .before .before .before .before .before .before .before .before .loop in
-    let w = found-whole (now (a .b)) (l .at) _ _ (sym (c .before .before .before .before .before .before .before .before .read-at .ensures) ∙ c .before .before .before .before .before .before .k2 .given .1) in
-    let on = goes-on (a .m) (now (a .b)) (l .s) (l .r) (l .at) (c .before .before .before .before .before .before .before .before .before .before .if1 .left) (l .inv .2) _ _ _ w (sym (c .before .before .before .before .ends-question2 .ensures) ∙ c .before .before .before .if3 .left)
+    let w = found-whole (now (a .b)) (l .at) _ _ (sym (read-at .ensures) ∙ k2 .given .1) in
+    let on =
+    goes-on (a .m) (now (a .b)) (l .s) (l .r) (l .at) (if1 .left) (l .inv .2) _ _ _ w
+    (sym (c .before .before .before .before .ends-question2 .ensures) ∙ c .before .before .before .if3 .left)
     (sym (c .before .before .record-fault .ensures) ∙ c .before .if4 .left) (c .advance .ensures) (l .inv .1) in
     (omega arith, on .0, on .1)
 

@@ -36,13 +36,18 @@ module _ (m : Manner) (b : List ℕ) (s : Progress) (at k n : ℕ) (w : (k ≡ k
   literals-there : StandsTo (m .greatest) b s at → t ≡ true → rankOf k ≡ literalRank → skip b (s .literals) literalsFrom ≤ length b
   literals-there h e z =
       let rank : r ≡ literalRank = er ∙ z in
-      literals-within b s at (s .literals) h (behind-head (m .greatest) (s .last) (s .literals) r (sym et ∙ e) (λ y. absurd (omega arith)) .head-read) (omega arith)
+      literals-within b s at (s .literals) h (behind-head (m .greatest) (s .last) (s .literals) r (sym et ∙ e) (λ y. absurd (omega arith)) .head-read)
+      (omega arith)
 
   module _ (e : t ≡ true) (f : ℕ) (ef : f ≡ questionBodyFault b (progressOf b s .question) k (at + 6) n) where
     misformed : (f ≡ 0 → ⊥) → f ≡ questionFault (mannerOf m) b (progressOf b s) at
     misformed z = ill-formed (mannerOf m) b (progressOf b s) at k n (w .0) (w .1) (w .2) f (same-place true e) ef z
 
-    by-rank : (room x : Bool) → f ≡ 0 → room ≡ roomFor (m .limited) r (s .constraints) → room ≡ x → need 10 x 0 ≡ questionFault (mannerOf m) b (progressOf b s) at
+    by-rank : (room x : Bool)
+        → f ≡ 0
+        → room ≡ roomFor (m .limited) r (s .constraints)
+        → room ≡ x
+        → need 10 x 0 ≡ questionFault (mannerOf m) b (progressOf b s) at
     by-rank room x z g h = by-room (mannerOf m) b (progressOf b s) at k n (w .0) (w .1) (w .2) f (same-place true e) ef x z
         (ap (roomFor (m .limited) (rankOf k)) (length-constraints b (s .constraints) (skip b (s .literals) literalsFrom))
         ∙ ap (λ y. roomFor (m .limited) y (s .constraints)) (sym er) ∙ sym g ∙ h)
@@ -56,7 +61,8 @@ in-place-requires c κs = search needs
 returns : tie.Need-returns
 returns c =
     let s = c .before .before .before .before in
-    misplaced (s .args .m) (now (s .args .b)) (s .args .s) _ _ _ (s .pre .1) _ (c .before .before .rank-of .ensures) _ (c .before .in-place .ensures) (not-true _ (c .if1 .taken))
+    misplaced (s .args .m) (now (s .args .b)) (s .args .s) _ _ _ (s .pre .1) _ (c .before .before .rank-of .ensures) _ (c .before .in-place .ensures)
+    (not-true _ (c .if1 .taken))
 
 add-body-fault : tie.Need-add-body-fault
 add-body-fault c = search needs
@@ -65,7 +71,8 @@ body-fault-requires : tie.Need-body-fault-requires
 body-fault-requires c κs =
     let s = c .before .before .before .before in (
       omega arith,
-      literals-there (s .args .m) (now (s .args .b)) (s .args .s) _ _ _ (s .pre .1) _ (c .before .before .rank-of .ensures) _ (c .before .in-place .ensures) (s .pre .0) (not-false _ (c .if1 .left)),
+      literals-there (s .args .m) (now (s .args .b)) (s .args .s) _ _ _ (s .pre .1) _ (c .before .before .rank-of .ensures) _ (c .before .in-place .ensures)
+          (s .pre .0) (not-false _ (c .if1 .left)),
       s .pre .0 .few-strings,
       s .pre .0 .few-integers,
     )
@@ -74,7 +81,8 @@ returns-2 : tie.Need-returns-2
 returns-2 c =
     let place = c .before .before .before in
     let s = place .before .before .before in
-    misformed (s .args .m) (now (s .args .b)) (s .args .s) _ _ _ (s .pre .1) _ (place .before .rank-of .ensures) _ (place .in-place .ensures) (not-false _ (c .before .before .if1 .left))
+    misformed (s .args .m) (now (s .args .b)) (s .args .s) _ _ _ (s .pre .1) _ (place .before .rank-of .ensures) _ (place .in-place .ensures)
+    (not-false _ (c .before .before .if1 .left))
     _ (c .before .body-fault .ensures) (c .if2 .taken)
 
 has-room-requires : tie.Need-has-room-requires
@@ -87,7 +95,8 @@ roomy : (c : tie.After-has-room) (x : Bool) → c .has-room .result ≡ x
 roomy c x e =
     let place = c .before .before .before .before in
     let s = place .before .before .before in
-    by-rank (s .args .m) (now (s .args .b)) (s .args .s) _ _ _ (s .pre .1) _ (place .before .rank-of .ensures) _ (place .in-place .ensures) (not-false _ (c .before .before .before .if1 .left))
+    by-rank (s .args .m) (now (s .args .b)) (s .args .s) _ _ _ (s .pre .1) _ (place .before .rank-of .ensures) _ (place .in-place .ensures)
+    (not-false _ (c .before .before .before .if1 .left))
     _ (c .before .before .body-fault .ensures) (c .has-room .result) x (c .before .if2 .left) (c .has-room .ensures) e
 
 returns-3 : tie.Need-returns-3

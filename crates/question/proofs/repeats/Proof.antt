@@ -38,7 +38,10 @@ text s = textOf (now (s .args .b)) (s .args .at) (s .args .size)
 
 returns : tie.Need-returns Inv-loop μ-loop
 returns c =
-    sym (given-yes _ (text (c .before .before .before .before .before .before)) _ _ (c .before .before .before .loop-test .taken) (rw (c .before .before .u32-at .ensures .0) at (sym (c .before .same-text .ensures) ∙ c .if1 .taken))) ∙ c .before .before .before .before .loop .inv .1
+    let start = c .before .before .before .before .before .before in
+    sym (given-yes _ (text start) _ _ (c .before .before .before .loop-test .taken)
+    (rw (c .before .before .u32-at .ensures .0) at (sym (c .before .same-text .ensures) ∙ c .if1 .taken)))
+    ∙ c .before .before .before .before .loop .inv .1
 
 add-j : tie.Need-add-j Inv-loop μ-loop
 add-j c = omega (arith, skip-within _ _ _ (c .before .before .before .loop-test .taken) (c .before .before .before .before .loop .inv .0))
@@ -54,9 +57,16 @@ loop-less c = omega arith
 
 loop-again : tie.Need-loop-again Inv-loop μ-loop
 loop-again c =
+    let start = c .before .before .before .before .before .before in
     rw (c .before .before .u32-at .ensures .0) (
-      omega (arith, skip-one (now (c .before .before .before .before .before .before .args .b)) (c .before .before .before .before .loop .left) (c .before .before .before .before .loop .j) (c .before .before .before .loop-test .taken)),
-      sym (given-no _ (text (c .before .before .before .before .before .before)) _ _ (c .before .before .before .loop-test .taken) (rw (c .before .before .u32-at .ensures .0) at (sym (c .before .same-text .ensures) ∙ c .if1 .left))) ∙ c .before .before .before .before .loop .inv .1,
+      omega (
+        arith,
+        skip-one (now (start .args .b)) (c .before .before .before .before .loop .left) (c .before .before .before .before .loop .j)
+            (c .before .before .before .loop-test .taken),
+      ),
+      sym (given-no _ (text start) _ _ (c .before .before .before .loop-test .taken)
+          (rw (c .before .before .u32-at .ensures .0) at (sym (c .before .same-text .ensures) ∙ c .if1 .left)))
+          ∙ c .before .before .before .before .loop .inv .1,
     )
 
 returns-2 : tie.Need-returns-2 Inv-loop μ-loop

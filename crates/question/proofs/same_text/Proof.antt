@@ -23,7 +23,11 @@ returns : tie.Need-returns Inv-loop μ-loop
 returns c = sym (same-lengths _ _ _ _ _ _ (c .if1 .taken))
 
 -- texts of m characters each
-same-count : (c : tie.Else1 Inv-loop μ-loop) → eqString (u32s (now (c .before .before .before .args .a)) (c .before .before .before .args .x) (c .before .before .before .args .m)) (u32s (now (c .before .before .before .args .b)) (c .before .before .before .args .y) (c .before .before .before .args .m)) ≡ eqString (u32s (now (c .before .before .before .args .a)) (c .before .before .before .args .x) (c .before .before .before .args .m)) (u32s (now (c .before .before .before .args .b)) (c .before .before .before .args .y) (c .before .before .before .args .k))
+same-count : (c : tie.Else1 Inv-loop μ-loop)
+    → eqString (u32s (now (c .before .before .before .args .a)) (c .before .before .before .args .x) (c .before .before .before .args .m))
+    (u32s (now (c .before .before .before .args .b)) (c .before .before .before .args .y) (c .before .before .before .args .m))
+    ≡ eqString (u32s (now (c .before .before .before .args .a)) (c .before .before .before .args .x) (c .before .before .before .args .m))
+    (u32s (now (c .before .before .before .args .b)) (c .before .before .before .args .y) (c .before .before .before .args .k))
 same-count c =
     let s = c .before .before .before .args in
     ap (λ (n : ℕ). eqString (u32s (now (s .a)) (s .x) (s .m)) (u32s (now (s .b)) (s .y) n)) (c .if1 .left)
@@ -91,7 +95,8 @@ loop-again c =
       omega arith,
       omega arith,
       and-assoc (l .same) (eqb (c .before .u32-at3 .result) (c .u32-at4 .result)) rest
-          ∙ ap (λ (t : Bool). l .same && t) (ap₂ (λ (v w : ℕ). eqb v w && rest) (c .before .u32-at3 .ensures .0) (c .u32-at4 .ensures .0) ∙ sym (same-more a b (l .i) (l .j) (l .left) (omega arith)))
+          ∙ ap (λ (t : Bool). l .same && t) (ap₂ (λ (v w : ℕ). eqb v w && rest) (c .before .u32-at3 .ensures .0) (c .u32-at4 .ensures .0)
+          ∙ sym (same-more a b (l .i) (l .j) (l .left) (omega arith)))
           ∙ l .inv .2,
     )
 

@@ -29,14 +29,20 @@ string-in-range-requires c κs = search needs
 
 returns-2 : tie.Need-returns-2
 returns-2 c =
-    let h : c .before .before .before .before .before .before .before .args .size ≡ 6 = omega arith in
-    let e = rw (c .before .before .before .before .u16-at .ensures .0, c .before .before .before .u16-at2 .ensures .0, c .before .before .u16-at3 .ensures .0) at (sym (c .before .string-in-range .ensures) ∙ c .if2 .taken) in
+    let args = c .before .before .before .before .before .before .before .args in
+    let h : args .size ≡ 6 = omega arith in
+    let e =
+    rw (c .before .before .before .before .u16-at .ensures .0, c .before .before .before .u16-at2 .ensures .0, c .before .before .u16-at3 .ensures .0) at
+    (sym (c .before .string-in-range .ensures) ∙ c .if2 .taken) in
     simp (tests, e)
 
 returns-3 : tie.Need-returns-3
 returns-3 c =
-    let h : c .before .before .before .before .before .before .before .args .size ≡ 6 = omega arith in
-    let e = rw (c .before .before .before .before .u16-at .ensures .0, c .before .before .before .u16-at2 .ensures .0, c .before .before .u16-at3 .ensures .0) at (sym (c .before .string-in-range .ensures) ∙ c .if2 .left) in
+    let args = c .before .before .before .before .before .before .before .args in
+    let h : args .size ≡ 6 = omega arith in
+    let e =
+    rw (c .before .before .before .before .u16-at .ensures .0, c .before .before .before .u16-at2 .ensures .0, c .before .before .u16-at3 .ensures .0) at
+    (sym (c .before .string-in-range .ensures) ∙ c .if2 .left) in
     simp (tests, e)
 
 pub string-fault-spec : {M : Type 1} → statement M

@@ -32,7 +32,11 @@ returns : tie.Need-returns Inv-loop μ-loop
 returns c =
     let l = c .before .before .before .before .loop in
     let s = c .before .before .before .before .before .before .args in
-    sym (within-no (now (s .v)) (l .i) (l .left) (c .before .before .before .loop-test .taken) (ap (λ (z : ℕ). within valueLimit (signed z)) (sym (c .before .before .u32-at .ensures .0)) ∙ sym (c .before .bits-within .ensures) ∙ not-true _ (c .if1 .taken))) ∙ l .inv .1
+    sym (within-no (now (s .v)) (l .i) (l .left) (c .before .before .before .loop-test .taken)
+    (ap (λ (z : ℕ). within valueLimit (signed z)) (sym (c .before .before .u32-at .ensures .0))
+    ∙ sym (c .before .bits-within .ensures)
+    ∙ not-true _ (c .if1 .taken)))
+    ∙ l .inv .1
 
 add-i : tie.Need-add-i Inv-loop μ-loop
 add-i c = search needs
@@ -47,7 +51,11 @@ loop-again : tie.Need-loop-again Inv-loop μ-loop
 loop-again c =
     let l = c .before .before .before .before .loop in
     let s = c .before .before .before .before .before .before .args in
-    let e = within-yes (now (s .v)) (l .i) (l .left) (c .before .before .before .loop-test .taken) (ap (λ (z : ℕ). within valueLimit (signed z)) (sym (c .before .before .u32-at .ensures .0)) ∙ sym (c .before .bits-within .ensures) ∙ not-false _ (c .if1 .left)) in
+    let e =
+    within-yes (now (s .v)) (l .i) (l .left) (c .before .before .before .loop-test .taken)
+    (ap (λ (z : ℕ). within valueLimit (signed z)) (sym (c .before .before .u32-at .ensures .0))
+    ∙ sym (c .before .bits-within .ensures)
+    ∙ not-false _ (c .if1 .left)) in
     (omega arith, sym e ∙ l .inv .1)
 
 returns-2 : tie.Need-returns-2 Inv-loop μ-loop

@@ -43,8 +43,9 @@ sub-if3-2 c = search needs
 returns-3 : tie.Need-returns-3
 unfolding foundAt
 returns-3 c =
-    let b = now (c .before .before .before .before .before .before .args .b) in
-    let at = c .before .before .before .before .before .before .args .at in
+    let args = c .before .before .before .before .before .before .args in
+    let b = now (args .b) in
+    let at = args .at in
     let h : at + 6 ≤ length b = omega arith in
     let g : length b < at + 6 + u32 b at = omega (arith, c .before .before .u32-at .ensures .0) in
     simp (le-leb _ _ h, lt-leb _ _ g, c .before .u16-at .ensures .0)
@@ -52,8 +53,9 @@ returns-3 c =
 returns-4 : tie.Need-returns-4
 unfolding foundAt
 returns-4 c =
-    let b = now (c .before .before .before .before .before .before .args .b) in
-    let at = c .before .before .before .before .before .before .args .at in
+    let args = c .before .before .before .before .before .before .args in
+    let b = now (args .b) in
+    let at = args .at in
     let h : at + 6 ≤ length b = omega arith in
     let g : at + 6 + u32 b at ≤ length b = omega (arith, c .before .before .u32-at .ensures .0) in
     simp (le-leb _ _ h, le-leb _ _ g, c .before .u16-at .ensures .0, c .before .before .u32-at .ensures .0)

@@ -32,13 +32,28 @@ array-write-places : tie.Need-array-write-places Inv-loop μ-loop
 array-write-places c = search needs
 
 add-at : tie.Need-add-at Inv-loop μ-loop
-add-at c = omega (arith, skip-room (now (c .before .before .before .args .b)) (c .before .loop .x) (c .before .before .before .args .count) (c .before .before .before .args .from) (omega arith))
+add-at c =
+    omega (
+      arith,
+      skip-room (now (c .before .before .before .args .b)) (c .before .loop .x) (c .before .before .before .args .count) (c .before .before .before .args .from)
+          (omega arith),
+    )
 
 u32-at-requires : tie.Need-u32-at-requires Inv-loop μ-loop
-u32-at-requires c κs = omega (arith, skip-room (now (c .before .before .before .args .b)) (c .before .loop .x) (c .before .before .before .args .count) (c .before .before .before .args .from) (omega arith))
+u32-at-requires c κs =
+    omega (
+      arith,
+      skip-room (now (c .before .before .before .args .b)) (c .before .loop .x) (c .before .before .before .args .count) (c .before .before .before .args .from)
+          (omega arith),
+    )
 
 add-at-2 : tie.Need-add-at-2 Inv-loop μ-loop
-add-at-2 c = omega (arith, skip-room (now (c .before .before .before .before .args .b)) (c .before .before .loop .x) (c .before .before .before .before .args .count) (c .before .before .before .before .args .from) (omega arith))
+add-at-2 c =
+    omega (
+      arith,
+      skip-room (now (c .before .before .before .before .args .b)) (c .before .before .loop .x) (c .before .before .before .before .args .count)
+          (c .before .before .before .before .args .from) (omega arith),
+    )
 
 add-x : tie.Need-add-x Inv-loop μ-loop
 add-x c = search needs
@@ -50,11 +65,13 @@ loop-again : tie.Need-loop-again Inv-loop μ-loop
 loop-again c =
     let l = c .before .before .loop in
     let s = c .before .before .before .before .args in
-    let here : next (now (s .b)) (l .at) ≡ skip (now (s .b)) (suc (l .x)) (s .from) = ap (next (now (s .b))) (l .inv .1) ∙ sym (skip-snoc (now (s .b)) (l .x) (s .from)) in (
+    let here : next (now (s .b)) (l .at) ≡ skip (now (s .b)) (suc (l .x)) (s .from) =
+    ap (next (now (s .b))) (l .inv .1) ∙ sym (skip-snoc (now (s .b)) (l .x) (s .from)) in (
       omega arith,
       rw (c .u32-at .ensures .0, add-one (l .x)) here,
       simp length-set (l .inv .2),
-      λ k h. placed-more (l .places) (l .at) (λ (j : ℕ). skip (now (s .b)) j (s .from)) (l .x) (l .inv .2) (omega arith) (l .inv .1) (l .inv .3) k (omega arith),
+      λ k h. placed-more (l .places) (l .at) (λ (j : ℕ). skip (now (s .b)) j (s .from)) (l .x) (l .inv .2) (omega arith) (l .inv .1) (l .inv .3) k
+          (omega arith),
     )
 
 mul-places-2 : tie.Need-mul-places-2 Inv-loop μ-loop

@@ -34,8 +34,11 @@ loop-less c = search needs
 
 loop-again : tie.Need-loop-again Inv-loop μ-loop
 loop-again c =
-    let l = c .before .loop in
-    (omega arith, simp length-set (l .inv .1), filled-more (l .row) (zeros 50) (l .j) _ (pos 0) (omega arith) (omega arith) (l .inv .2) (sym (entry-zeros 50 (l .j))))
+    let l = c .before .loop in (
+      omega arith,
+      simp length-set (l .inv .1),
+      filled-more (l .row) (zeros 50) (l .j) _ (pos 0) (omega arith) (omega arith) (l .inv .2) (sym (entry-zeros 50 (l .j))),
+    )
 
 same-length : tie.Need-same-length Inv-loop μ-loop
 same-length c = c .before .loop .inv .1 ∙ sym (c .before .before .pre)

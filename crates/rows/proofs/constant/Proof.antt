@@ -46,8 +46,11 @@ loop-again : tie.Need-loop-again Inv-loop μ-loop
 loop-again c =
     let l = c .before .before .before .loop in
     let z = getD (now (c .before .before .before .before .args .row)) (l .j) (pos 0) in
-    let f : SFits w64 z = record { sfits = c .before .x .given } in
-    (omega arith, omega arith, every-on isZero (now (c .before .before .before .before .args .row)) (l .j) (pos 0) (omega arith) (zero-yes z f (c .if1 .left)) ∙ l .inv .2)
+    let f : SFits w64 z = record { sfits = c .before .x .given } in (
+      omega arith,
+      omega arith,
+      every-on isZero (now (c .before .before .before .before .args .row)) (l .j) (pos 0) (omega arith) (zero-yes z f (c .if1 .left)) ∙ l .inv .2,
+    )
 
 returns-2 : tie.Need-returns-2 Inv-loop μ-loop
 returns-2 c =

@@ -21,7 +21,9 @@ form-within-requires c κs = search needs
 returns-2 : tie.Need-returns-2
 returns-2 c =
     let s = c .before .before .before in
-    c .form-within .ensures ∙ sym (ap factWithin (row-relation (now (s .args .row)) (c .before .before .tag-of .result) (c .before .before .tag-of .ensures) (c .before .if1 .left)))
+    c .form-within .ensures
+    ∙ sym
+    (ap factWithin (row-relation (now (s .args .row)) (c .before .before .tag-of .result) (c .before .before .tag-of .ensures) (c .before .if1 .left)))
 
 pub fact-within-spec : {M : Type 1} → statement M
 fact-within-spec = tie.close (tie.spec tag-of-requires returns form-within-requires returns-2)

@@ -27,7 +27,9 @@ slice-set-from-out : tie.Need-slice-set-from-out
 slice-set-from-out c = search needs
 
 sub-out : tie.Need-sub-out
-sub-out c = above-fits (getD (now (c .before .before .before .before .args .row)) 1 (pos 0)) 1000000000 (behind-tag (now (c .before .before .before .before .args .row)) 1 (c .before .before .before .before .pre .1) (omega arith)) (omega arith)
+sub-out c =
+    above-fits (getD (now (c .before .before .before .before .args .row)) 1 (pos 0)) 1000000000
+    (behind-tag (now (c .before .before .before .before .args .row)) 1 (c .before .before .before .before .pre .1) (omega arith)) (omega arith)
 
 slice-set-from-out-2 : tie.Need-slice-set-from-out-2
 slice-set-from-out-2 c = search needs

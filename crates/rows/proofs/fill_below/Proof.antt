@@ -15,7 +15,8 @@ fill-row-requires : tie.Need-fill-row-requires
 fill-row-requires c κs = search needs
 
 turn-below-requires : tie.Need-turn-below-requires
-turn-below-requires c κs = (search needs, ap (λ (l : List ℤ). allWithin numberLimit (drop 1 l)) (c .before .before .fill-row .ensures) ∙ c .before .before .before .before .pre .1)
+turn-below-requires c κs =
+    (search needs, ap (λ (l : List ℤ). allWithin numberLimit (drop 1 l)) (c .before .before .fill-row .ensures) ∙ c .before .before .before .before .pre .1)
 
 same-length : tie.Need-same-length
 same-length c = search needs

@@ -23,7 +23,9 @@ same-length : tie.Need-same-length
 same-length c = search needs
 
 returns : tie.Need-returns
-returns c = ap (λ (l : List ℤ). factOf (set l 0 (pos 1))) (c .before .fill-row .ensures) ∙ equation-fact (now (c .before .before .before .args .row)) (c .before .before .before .pre .1)
+returns c =
+    ap (λ (l : List ℤ). factOf (set l 0 (pos 1))) (c .before .fill-row .ensures)
+    ∙ equation-fact (now (c .before .before .before .args .row)) (c .before .before .before .pre .1)
 
 pub fill-equation-spec : {M : Type 1} → statement M
 fill-equation-spec = tie.close (tie.spec fill-row-requires cast-out slice-set-from-out same-length returns)

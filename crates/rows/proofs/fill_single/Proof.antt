@@ -44,7 +44,9 @@ returns : tie.Need-returns
 returns c =
     let s = c .before .before .before in
     let a = s .args in
-    ap (λ (l : List ℤ). factOf (set (set (set l 0 (toZ w64 (a .relation))) 1 (toZ w64 (ofZ w64 (a .constant)))) (a .column + 2) (toZ w64 (ofZ w64 (a .coefficient))))) (c .before .clear-row .ensures)
+    ap (λ (l : List ℤ). factOf
+    (set (set (set l 0 (toZ w64 (a .relation))) 1 (toZ w64 (ofZ w64 (a .constant)))) (a .column + 2) (toZ w64 (ofZ w64 (a .coefficient)))))
+    (c .before .clear-row .ensures)
     ∙ rw (toZ-pos w64 {n = a .relation} (omega arith), toZ-ofZ (s .fits .constant), toZ-ofZ (s .fits .coefficient))
     (single-fact (a .relation) (a .constant) (a .column) (a .coefficient) (s .pre .1 .0))
 

@@ -43,7 +43,12 @@ returns : tie.Need-returns
 returns c =
     let s = c .before .before .before in
     let a = s .args in
-    rw (c .before .clear-row .ensures, toZ-pos w64 {n = a .relation + 3} (omega arith), toZ-pos w64 {n = a .a} (omega arith), toZ-pos w64 {n = a .b} (omega arith))
+    rw (
+      c .before .clear-row .ensures,
+      toZ-pos w64 {n = a .relation + 3} (omega arith),
+      toZ-pos w64 {n = a .a} (omega arith),
+      toZ-pos w64 {n = a .b} (omega arith),
+    )
     (string-fact (a .relation) (a .a) (a .b) _ (s .pre .1 .0) (s .pre .1 .1) (s .pre .1 .2))
 
 pub fill-string-spec : {M : Type 1} → statement M

@@ -23,9 +23,11 @@ abbrev μ-loop : tie.MeasureT-loop
 μ-loop row j₀ j = 50 - j
 
 -- the test of the number read
-test : (c : tie.After-in-limit Inv-loop μ-loop) → c .in-limit .result ≡ within numberLimit (getD (now (c .before .before .before .before .args .row)) (c .before .before .before .loop .j) (pos 0))
+test : (c : tie.After-in-limit Inv-loop μ-loop)
+    → c .in-limit .result ≡ within numberLimit (getD (now (c .before .before .before .before .args .row)) (c .before .before .before .loop .j) (pos 0))
 test c =
-    let f : SFits w64 (getD (now (c .before .before .before .before .args .row)) (c .before .before .before .loop .j) (pos 0)) = record { sfits = c .before .x .given } in
+    let f : SFits w64 (getD (now (c .before .before .before .before .args .row)) (c .before .before .before .loop .j) (pos 0)) =
+    record { sfits = c .before .x .given } in
     rw (toZ-ofZ f) at (c .in-limit .ensures)
 
 loop-holds : tie.Need-loop-holds Inv-loop μ-loop
@@ -43,8 +45,9 @@ in-limit-requires c κs = search needs
 returns : tie.Need-returns Inv-loop μ-loop
 unfolding allWithin
 returns c =
+    let args = c .before .before .before .before .before .args in
     let l = c .before .before .before .before .loop in
-    sym (every-fails (within numberLimit) (now (c .before .before .before .before .before .args .row)) (l .j) (pos 0) (omega arith) (sym (test (c .before)) ∙ not-true _ (c .if1 .taken))) ∙ l .inv .2
+    sym (every-fails (within numberLimit) (now (args .row)) (l .j) (pos 0) (omega arith) (sym (test (c .before)) ∙ not-true _ (c .if1 .taken))) ∙ l .inv .2
 
 add-j : tie.Need-add-j Inv-loop μ-loop
 add-j c = search needs
@@ -55,10 +58,11 @@ loop-less c = search needs
 loop-again : tie.Need-loop-again Inv-loop μ-loop
 unfolding allWithin
 loop-again c =
+    let args = c .before .before .before .before .before .args in
     let l = c .before .before .before .before .loop in (
       omega arith,
       omega arith,
-      every-on (within numberLimit) (now (c .before .before .before .before .before .args .row)) (l .j) (pos 0) (omega arith) (sym (test (c .before)) ∙ not-false _ (c .if1 .left)) ∙ l .inv .2,
+      every-on (within numberLimit) (now (args .row)) (l .j) (pos 0) (omega arith) (sym (test (c .before)) ∙ not-false _ (c .if1 .left)) ∙ l .inv .2,
     )
 
 returns-2 : tie.Need-returns-2 Inv-loop μ-loop

@@ -20,13 +20,19 @@ use Rattle.rows.proofs.is_false.Statement.{statement}
 use Rattle.rows.proofs.is_false.Tie as tie
 
 -- the fact, where it is arithmetic
-falsum-is : (c : tie.Else1) → isFalse (factOf (now (c .before .before .args .row))) ≡ (allZero (drop 2 (now (c .before .before .args .row))) && not (holds (relationOf (c .before .tag-of .result)) (getD (now (c .before .before .args .row)) 1 (pos 0))))
+falsum-is : (c : tie.Else1)
+    → isFalse (factOf (now (c .before .before .args .row)))
+    ≡ (allZero (drop 2 (now (c .before .before .args .row)))
+    && not (holds (relationOf (c .before .tag-of .result)) (getD (now (c .before .before .args .row)) 1 (pos 0))))
 falsum-is c =
     let row = now (c .before .before .args .row) in
-    ap isFalse (row-relation row (c .before .tag-of .result) (c .before .tag-of .ensures) (c .if1 .left)) ∙ falsum-row (relationOf (c .before .tag-of .result)) row (c .before .before .pre)
+    ap isFalse (row-relation row (c .before .tag-of .result) (c .before .tag-of .ensures) (c .if1 .left))
+    ∙ falsum-row (relationOf (c .before .tag-of .result)) row (c .before .before .pre)
 
 -- the constant's test
-held : (c : tie.After-relation-holds) → c .relation-holds .result ≡ holds (relationOf (c .before .before .before .tag-of .result)) (getD (now (c .before .before .before .before .args .row)) 1 (pos 0))
+held : (c : tie.After-relation-holds)
+    → c .relation-holds .result
+    ≡ holds (relationOf (c .before .before .before .tag-of .result)) (getD (now (c .before .before .before .before .args .row)) 1 (pos 0))
 held c =
     let f : SFits w64 (getD (now (c .before .before .before .before .args .row)) 1 (pos 0)) = record { sfits = c .before .c .given } in
     rw (toZ-ofZ f) at (c .relation-holds .ensures)
@@ -45,15 +51,21 @@ relation-holds-requires c κs = search needs
 
 returns-2 : tie.Need-returns-2
 returns-2 c =
-    sym (falsum-is (c .before .before .before) ∙ ap (λ (t : Bool). allZero (drop 2 (now (c .before .before .before .before .before .args .row))) && not t) (sym (held (c .before)) ∙ c .if2 .taken) ∙ and-false (allZero (drop 2 (now (c .before .before .before .before .before .args .row)))))
+    let args = c .before .before .before .before .before .args in
+    sym (falsum-is (c .before .before .before)
+    ∙ ap (λ (t : Bool). allZero (drop 2 (now (args .row))) && not t) (sym (held (c .before)) ∙ c .if2 .taken)
+    ∙ and-false (allZero (drop 2 (now (args .row)))))
 
 constant-requires : tie.Need-constant-requires
 constant-requires c κs = search needs
 
 returns-3 : tie.Need-returns-3
 returns-3 c =
+    let args = c .before .before .before .before .before .before .args in
     c .constant .ensures
-    ∙ sym (falsum-is (c .before .before .before .before) ∙ ap (λ (t : Bool). allZero (drop 2 (now (c .before .before .before .before .before .before .args .row))) && not t) (sym (held (c .before .before)) ∙ c .before .if2 .left) ∙ and-true (allZero (drop 2 (now (c .before .before .before .before .before .before .args .row)))))
+    ∙ sym (falsum-is (c .before .before .before .before)
+    ∙ ap (λ (t : Bool). allZero (drop 2 (now (args .row))) && not t) (sym (held (c .before .before)) ∙ c .before .if2 .left)
+    ∙ and-true (allZero (drop 2 (now (args .row)))))
 
 pub is-false-spec : {M : Type 1} → statement M
 is-false-spec =

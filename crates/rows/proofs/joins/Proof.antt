@@ -24,7 +24,8 @@ tag-of-requires c κs = search needs
 returns : tie.Need-returns
 returns c =
     let s = c .before .before in
-    sym (ap fits (joined-first (factOf (now (s .args .row))) (factOf (now (s .args .other))) (λ (e : tagOf (factOf (now (s .args .row))) ≡ 0). c .if1 .taken (c .before .tag-of .ensures ∙ e))))
+    sym (ap fits (joined-first (factOf (now (s .args .row))) (factOf (now (s .args .other)))
+    (λ (e : tagOf (factOf (now (s .args .row))) ≡ 0). c .if1 .taken (c .before .tag-of .ensures ∙ e))))
 
 tag-of-requires-2 : tie.Need-tag-of-requires-2
 tag-of-requires-2 c κs = search needs
@@ -33,7 +34,8 @@ returns-2 : tie.Need-returns-2
 returns-2 c =
     let s = c .before .before .before .before in
     sym (ap fits (ap (λ (f : Fact). joinOf f (factOf (now (s .args .other)))) (first (c .before .before))
-    ∙ joined-second (drop 1 (now (s .args .row))) (factOf (now (s .args .other))) (λ (e : tagOf (factOf (now (s .args .other))) ≡ 0). c .if2 .taken (c .before .tag-of2 .ensures ∙ e))))
+    ∙ joined-second (drop 1 (now (s .args .row))) (factOf (now (s .args .other)))
+    (λ (e : tagOf (factOf (now (s .args .other))) ≡ 0). c .if2 .taken (c .before .tag-of2 .ensures ∙ e))))
 
 negates-requires : tie.Need-negates-requires
 negates-requires c κs = (c .before .before .before .before .pre .0, sym (ap factWithin (first (c .before .before))) ∙ c .before .before .before .before .pre .1)

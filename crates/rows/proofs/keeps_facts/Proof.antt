@@ -23,10 +23,14 @@ abbrev μ-loop : tie.MeasureT-loop
 μ-loop work count model k₀ k = count - k
 
 -- the fact of the row lent
-fact-is : (c : tie.After-row-at Inv-loop μ-loop) → factOf (now (c .row-at .result)) ≡ factOf (rowAt (now (c .before .before .before .args .work)) (c .before .before .loop .k))
+fact-is : (c : tie.After-row-at Inv-loop μ-loop)
+    → factOf (now (c .row-at .result)) ≡ factOf (rowAt (now (c .before .before .before .args .work)) (c .before .before .loop .k))
 fact-is c = ap factOf (c .row-at .ensures)
 
-test : (c : tie.After-keeps-row Inv-loop μ-loop) → c .keeps-row .result ≡ keepsFact (now (c .before .before .before .before .args .model)) (factOf (rowAt (now (c .before .before .before .before .args .work)) (c .before .before .before .loop .k)))
+test : (c : tie.After-keeps-row Inv-loop μ-loop)
+    → c .keeps-row .result
+    ≡ keepsFact (now (c .before .before .before .before .args .model))
+    (factOf (rowAt (now (c .before .before .before .before .args .work)) (c .before .before .before .loop .k)))
 test c = c .keeps-row .ensures ∙ ap (λ (f : Fact). keepsFact (now (c .before .before .before .before .args .model)) f) (fact-is (c .before))
 
 loop-holds : tie.Need-loop-holds Inv-loop μ-loop

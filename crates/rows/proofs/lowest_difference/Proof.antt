@@ -28,7 +28,8 @@ abbrev μ-loop : tie.MeasureT-loop
 μ-loop work count i j one other k₀ k = count - k
 
 -- the rows that are looked for
-one-is : (c : tie.After-fill-difference Inv-loop μ-loop) → c .fill-difference .last .0 ≡ pos 1 ∷ minus (column (c .before .before .args .i)) (column (c .before .before .args .j))
+one-is : (c : tie.After-fill-difference Inv-loop μ-loop)
+    → c .fill-difference .last .0 ≡ pos 1 ∷ minus (column (c .before .before .args .i)) (column (c .before .before .args .j))
 one-is c =
     let s = c .before .before in
     let n : length (c .fill-difference .last .0) ≡ 50 = search needs in
@@ -36,7 +37,9 @@ one-is c =
     ∙ ap (λ (e : List ℤ). pos 1 ∷ e) (sym (columns-difference (s .args .i) (s .args .j) (s .pre .1 .0) (s .pre .1 .1) (s .pre .1 .2)))
 
 other-is : (c : tie.After-fill-difference2 Inv-loop μ-loop)
-    → c .fill-difference2 .last .0 ≡ pos 1 ∷ minus (column (c .before .before .before .before .before .args .j)) (column (c .before .before .before .before .before .args .i))
+    →
+    let args = c .before .before .before .before .before .args in
+    c .fill-difference2 .last .0 ≡ pos 1 ∷ minus (column (args .j)) (column (args .i))
 other-is c =
     let s = c .before .before .before .before .before in
     let n : length (c .fill-difference2 .last .0) ≡ 50 = search needs in
@@ -45,18 +48,21 @@ other-is c =
 
 -- a row is one of them where its fact states the difference
 test : (c : tie.After-one-of Inv-loop μ-loop)
-    → let s = c .before .before .before .before .before .before .before .before .before .before .before .before .args in
-    c .one-of .result ≡ statesDifference (s .i) (s .j) (factOf (rowAt (now (s .work)) (c .before .before .before .before .before .loop .k)))
+    →
+    let loop = c .before .before .before .before .before .loop in
+    let s = c .before .before .before .before .before .before .before .before .before .before .before .before .args in
+    c .one-of .result ≡ statesDifference (s .i) (s .j) (factOf (rowAt (now (s .work)) (loop .k)))
 unfolding statesDifference
 test c =
     let s = c .before .before .before .before .before .before .before .before .before .before .before .before in
     let loop = c .before .before .before .before .before in
+    let after-fill-difference = loop .before .before .before .before .before in
     let row = rowAt (now (s .args .work)) (loop .loop .k) in
     let whole : length row ≡ 50 = length-row (now (s .args .work)) (loop .loop .k) (omega arith) in
     let read = c .before .before .before .row-at .ensures in
     c .one-of .ensures
     ∙ ap₂ _||_
-    (ap₂ eqIntegers (one-is (loop .before .before .before .before .before)) read ∙ sym (states-by-row (minus (column (s .args .i)) (column (s .args .j))) row whole))
+    (ap₂ eqIntegers (one-is after-fill-difference) read ∙ sym (states-by-row (minus (column (s .args .i)) (column (s .args .j))) row whole))
     (ap₂ eqIntegers (other-is (loop .before .before)) read ∙ sym (states-by-row (minus (column (s .args .j)) (column (s .args .i))) row whole))
 
 slice-aggregate-fill-difference : tie.Need-slice-aggregate-fill-difference Inv-loop μ-loop
@@ -92,12 +98,13 @@ one-of-requires c κs =
 
 returns : tie.Need-returns Inv-loop μ-loop
 returns c =
+    let loop-test = c .before .before .before .before .before .loop-test in
     let loop = c .before .before .before .before .before .before in
     let s = loop .before .before .before .before .before .before .before .args in
     let w = now (s .work) in
     let k = loop .loop .k in
     let t = statesDifference (s .i) (s .j) in
-    let less : k + 1 ≤ s .count = omega (arith, c .before .before .before .before .before .loop-test .taken) in
+    let less : k + 1 ≤ s .count = omega (arith, loop-test .taken) in
     sym (lowest-taken t (branchOf w (s .count)) (k + 1) k
     (ap (lowestFact t) (branch-take w (s .count) (k + 1) less ∙ branch-more w k)
     ∙ lowest-next t (branchOf w k) (factOf (rowAt w k)) (loop .loop .inv .1) (sym (test (c .before)) ∙ c .if1 .taken)

@@ -44,7 +44,9 @@ module _ (c : tie.After-x Inv-loop μ-loop) where
   z = getD (c .before .before .loop .row) (c .before .before .loop .j) (pos 0)
 
   was : z ≡ getD (start row (c .before .before .before .pre .0)) (c .before .before .loop .j) (pos 0)
-  was = kept-at (c .before .before .loop .row) (start row (c .before .before .before .pre .0)) (c .before .before .loop .j) (pos 0) (c .before .before .loop .inv .4)
+  was =
+      kept-at (c .before .before .loop .row) (start row (c .before .before .before .pre .0)) (c .before .before .loop .j) (pos 0)
+      (c .before .before .loop .inv .4)
 
   small : natAbs z ≤ 1000000000
   small =
@@ -62,8 +64,13 @@ loop-holds : tie.Need-loop-holds Inv-loop μ-loop
 loop-holds c =
     let row = now (c .args .row) in
     let n = c .pre .0 in
-    let k = length-negative (start row n) (length-start row n) in
-    (omega arith, omega arith, length-start row n, filled-more row (pos 0 ∷ scale (negsuc 0) (drop 1 (start row n))) 0 (pos 0) (pos 0) (omega arith) (omega arith) refl refl, refl)
+    let k = length-negative (start row n) (length-start row n) in (
+      omega arith,
+      omega arith,
+      length-start row n,
+      filled-more row (pos 0 ∷ scale (negsuc 0) (drop 1 (start row n))) 0 (pos 0) (pos 0) (omega arith) (omega arith) refl refl,
+      refl,
+    )
 
 mul-x : tie.Need-mul-x Inv-loop μ-loop
 mul-x c = search needs

@@ -18,7 +18,8 @@ use Rattle.rows.proofs.negates.Statement.{statement}
 use Rattle.rows.proofs.negates.Tie as tie
 
 abbrev Inv-loop : tie.InvT-loop
-Inv-loop row other j₀ j = (1 ≤ j) × (j ≤ 50) × (eqIntegers (drop j (scale (negsuc 0) row)) (drop j other) ≡ eqIntegers (drop 1 (scale (negsuc 0) row)) (drop 1 other))
+Inv-loop row other j₀ j =
+    (1 ≤ j) × (j ≤ 50) × (eqIntegers (drop j (scale (negsuc 0) row)) (drop j other) ≡ eqIntegers (drop 1 (scale (negsuc 0) row)) (drop 1 other))
 
 abbrev μ-loop : tie.MeasureT-loop
 μ-loop row other j₀ j = 50 - j
@@ -32,7 +33,9 @@ module _ (c : tie.After-y Inv-loop μ-loop) where
   y = getD (now (c .before .before .before .before .args .other)) (c .before .before .before .loop .j) (pos 0)
 
   small : natAbs x ≤ 1000000000
-  small = behind-tag (now (c .before .before .before .before .args .row)) (c .before .before .before .loop .j) (c .before .before .before .before .pre .1) (omega arith)
+  small =
+      behind-tag (now (c .before .before .before .before .args .row)) (c .before .before .before .loop .j) (c .before .before .before .before .pre .1)
+      (omega arith)
 
   fy : SFits w64 y
   fy = record { sfits = c .y .given }
@@ -42,7 +45,10 @@ module _ (c : tie.After-y Inv-loop μ-loop) where
 
   -- the negative as the row of negatives has it
   is : pos 0 -ℤ toZ w64 (ofZ w64 x) ≡ getD (scale (negsuc 0) (now (c .before .before .before .before .args .row))) (c .before .before .before .loop .j) (pos 0)
-  is = sym (toZ-ofZ fx) ∙ neg-is x 1000000000 small (omega arith) ∙ sym (entry-scale (negsuc 0) (now (c .before .before .before .before .args .row)) (c .before .before .before .loop .j))
+  is =
+      sym (toZ-ofZ fx)
+      ∙ neg-is x 1000000000 small (omega arith)
+      ∙ sym (entry-scale (negsuc 0) (now (c .before .before .before .before .args .row)) (c .before .before .before .loop .j))
 
   long : length (scale (negsuc 0) (now (c .before .before .before .before .args .row))) ≡ 50
   long = length-scale (negsuc 0) (now (c .before .before .before .before .args .row)) ∙ c .before .before .before .before .pre .0 .0
@@ -67,12 +73,13 @@ sub-if1 c = fx c
 
 returns : tie.Need-returns Inv-loop μ-loop
 returns c =
+    let args = c .before .before .before .before .before .args in
     let l = c .before .before .before .before .loop in
     let n = long (c .before) in
     let e = eqℤ-no _ (y (c .before)) (λ e. c .if1 .taken (ap (ofZ w64) (is (c .before) ∙ e))) in
-    sym (eqIntegers-fails (scale (negsuc 0) (now (c .before .before .before .before .before .args .row))) (now (c .before .before .before .before .before .args .other)) (l .j) (omega arith) (omega arith) e)
+    sym (eqIntegers-fails (scale (negsuc 0) (now (args .row))) (now (args .other)) (l .j) (omega arith) (omega arith) e)
     ∙ l .inv .2
-    ∙ ap (λ (a : List ℤ). eqIntegers a (drop 1 (now (c .before .before .before .before .before .args .other)))) (scale-behind (negsuc 0) (now (c .before .before .before .before .before .args .row)))
+    ∙ ap (λ (a : List ℤ). eqIntegers a (drop 1 (now (args .other)))) (scale-behind (negsuc 0) (now (args .row)))
 
 add-j : tie.Need-add-j Inv-loop μ-loop
 add-j c = search needs
@@ -82,15 +89,17 @@ loop-less c = search needs
 
 loop-again : tie.Need-loop-again Inv-loop μ-loop
 loop-again c =
+    let args = c .before .before .before .before .before .args in
     let l = c .before .before .before .before .loop in
     let n = long (c .before) in
     let e = eqℤ-yes _ (y (c .before)) (sym (is (c .before)) ∙ same-bits _ (y (c .before)) (fx (c .before)) (fy (c .before)) (c .if1 .left)) in
-    (omega arith, omega arith, eqIntegers-on (scale (negsuc 0) (now (c .before .before .before .before .before .args .row))) (now (c .before .before .before .before .before .args .other)) (l .j) (omega arith) (omega arith) e ∙ l .inv .2)
+    (omega arith, omega arith, eqIntegers-on (scale (negsuc 0) (now (args .row))) (now (args .other)) (l .j) (omega arith) (omega arith) e ∙ l .inv .2)
 
 returns-2 : tie.Need-returns-2 Inv-loop μ-loop
 returns-2 c =
     let l = c .before .loop in
-    let n : length (scale (negsuc 0) (now (c .before .before .args .row))) ≡ 50 = length-scale (negsuc 0) (now (c .before .before .args .row)) ∙ c .before .before .pre .0 .0 in
+    let n : length (scale (negsuc 0) (now (c .before .before .args .row))) ≡ 50 =
+    length-scale (negsuc 0) (now (c .before .before .args .row)) ∙ c .before .before .pre .0 .0 in
     sym (eqIntegers-done (scale (negsuc 0) (now (c .before .before .args .row))) (now (c .before .before .args .other)) (l .j) (omega arith) (omega arith))
     ∙ l .inv .2
     ∙ ap (λ (a : List ℤ). eqIntegers a (drop 1 (now (c .before .before .args .other)))) (scale-behind (negsuc 0) (now (c .before .before .args .row)))

@@ -38,7 +38,8 @@ returns c =
     let s = c .before .before .before in
     let row = c .before .fill-single .last .0 in
     let n : length row ≡ 50 = search needs in
-    branch-filled (now (s .args .work)) row (s .args .k) _ (omega arith) n (rw (toZ-ofZ (s .fits .constant), toZ-ofZ (s .fits .coefficient)) at (c .before .fill-single .ensures))
+    branch-filled (now (s .args .work)) row (s .args .k) _ (omega arith) n
+    (rw (toZ-ofZ (s .fits .constant), toZ-ofZ (s .fits .coefficient)) at (c .before .fill-single .ensures))
 
 pub put-single-spec : {M : Type 1} → statement M
 put-single-spec =

@@ -21,7 +21,9 @@ other (suc (suc r)) h k = refl
 returns : tie.Need-returns
 returns c =
     let s = c .before in
-    ap (λ (z : ℤ). leZ (pos 0) z) (toZ-ofZ (s .fits .value)) ∙ nonneg-test (s .args .value) ∙ ap (λ (r : ℕ). holds (relationOf r) (s .args .value)) (sym (c .if1 .taken))
+    ap (λ (z : ℤ). leZ (pos 0) z) (toZ-ofZ (s .fits .value))
+    ∙ nonneg-test (s .args .value)
+    ∙ ap (λ (r : ℕ). holds (relationOf r) (s .args .value)) (sym (c .if1 .taken))
 
 returns-2 : tie.Need-returns-2
 returns-2 c =
@@ -31,7 +33,8 @@ returns-2 c =
 returns-3 : tie.Need-returns-3
 returns-3 c =
     let s = c .before .before in
-    ap not (zero-test (s .args .value) (s .fits .value)) ∙ ap (λ (r : Relation). holds r (s .args .value)) (sym (other (s .args .relation) (c .before .if1 .left) (c .if2 .left)))
+    ap not (zero-test (s .args .value) (s .fits .value))
+    ∙ ap (λ (r : Relation). holds r (s .args .value)) (sym (other (s .args .relation) (c .before .if1 .left) (c .if2 .left)))
 
 pub relation-holds-spec : {M : Type 1} → statement M
 relation-holds-spec = tie.close (tie.spec returns returns-2 returns-3)

@@ -34,10 +34,14 @@ module _ (c : tie.After-c Inv-loop μ-loop) where
   s = toZ w64 (c .before .before .before .loop .sum)
 
   abbrev row : List ℤ
-  row = now (c .before .before .before .before .before .args .row)
+  row =
+      let args = c .before .before .before .before .before .args in
+      now (args .row)
 
   abbrev model : List ℤ
-  model = now (c .before .before .before .before .before .args .model)
+  model =
+      let args = c .before .before .before .before .before .args in
+      now (args .model)
 
   abbrev m : ℤ
   m = getD row (i + 2) (pos 0)
@@ -52,10 +56,14 @@ module _ (c : tie.After-c Inv-loop μ-loop) where
   hs = c .before .before .before .loop .inv .1
 
   hm : natAbs m ≤ 1000000000
-  hm = behind-tag row (i + 2) (c .before .before .before .before .before .pre .1 .0) (omega arith)
+  hm =
+      let pre = c .before .before .before .before .before .pre in
+      behind-tag row (i + 2) (pre .1 .0) (omega arith)
 
   hx : natAbs x ≤ 100000000
-  hx = c .before .before .before .before .before .pre .1 .1 i
+  hx =
+      let pre = c .before .before .before .before .before .pre in
+      pre .1 .1 i
 
   fm : SFits w64 m
   fm = let h = hm in small-fits m (omega arith)

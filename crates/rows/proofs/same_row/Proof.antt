@@ -50,9 +50,10 @@ shared-slice-copy-out-y c = search needs
 
 returns : tie.Need-returns Inv-loop μ-loop
 returns c =
+    let args = c .before .before .before .before .before .args in
     let l = c .before .before .before .before .loop in
     let e = eqℤ-no (x (c .before)) (y (c .before)) (λ e. c .if1 .taken (ap (ofZ w64) e)) in
-    sym (eqIntegers-fails (now (c .before .before .before .before .before .args .row)) (now (c .before .before .before .before .before .args .other)) (l .j) (omega arith) (omega arith) e) ∙ l .inv .1
+    sym (eqIntegers-fails (now (args .row)) (now (args .other)) (l .j) (omega arith) (omega arith) e) ∙ l .inv .1
 
 add-j : tie.Need-add-j Inv-loop μ-loop
 add-j c = search needs
@@ -62,12 +63,15 @@ loop-less c = search needs
 
 loop-again : tie.Need-loop-again Inv-loop μ-loop
 loop-again c =
+    let args = c .before .before .before .before .before .args in
     let l = c .before .before .before .before .loop in
     let e = eqℤ-yes (x (c .before)) (y (c .before)) (same-bits (x (c .before)) (y (c .before)) (fx (c .before)) (fy (c .before)) (c .if1 .left)) in
-    (omega arith, eqIntegers-on (now (c .before .before .before .before .before .args .row)) (now (c .before .before .before .before .before .args .other)) (l .j) (omega arith) (omega arith) e ∙ l .inv .1)
+    (omega arith, eqIntegers-on (now (args .row)) (now (args .other)) (l .j) (omega arith) (omega arith) e ∙ l .inv .1)
 
 returns-2 : tie.Need-returns-2 Inv-loop μ-loop
-returns-2 c = let l = c .before .loop in sym (eqIntegers-done (now (c .before .before .args .row)) (now (c .before .before .args .other)) (l .j) (omega arith) (omega arith)) ∙ l .inv .1
+returns-2 c =
+    let l = c .before .loop in
+    sym (eqIntegers-done (now (c .before .before .args .row)) (now (c .before .before .args .other)) (l .j) (omega arith) (omega arith)) ∙ l .inv .1
 
 pub same-row-spec : {M : Type 1} → statement M
 same-row-spec =

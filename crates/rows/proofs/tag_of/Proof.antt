@@ -13,7 +13,10 @@ use Rattle.rows.proofs.tag_of.Statement.{statement}
 use Rattle.rows.proofs.tag_of.Tie as tie
 
 -- the tag that was read
-tag-is : (c : tie.After-tag) (n : ℕ) → ofZ w64 (getD (now (c .before .args .row)) 0 (pos 0)) ≡ n → n < 9223372036854775808 → getD (now (c .before .args .row)) 0 (pos 0) ≡ pos n
+tag-is : (c : tie.After-tag) (n : ℕ)
+    → ofZ w64 (getD (now (c .before .args .row)) 0 (pos 0)) ≡ n
+    → n < 9223372036854775808
+    → getD (now (c .before .args .row)) 0 (pos 0) ≡ pos n
 tag-is c n e h = from-bits (getD (now (c .before .args .row)) 0 (pos 0)) n (record { sfits = c .tag .given }) e h
 
 shared-slice-copy-out-tag : tie.Need-shared-slice-copy-out-tag
@@ -47,10 +50,14 @@ cast-if5 : tie.Need-cast-if5
 cast-if5 c = search needs
 
 returns-5 : tie.Need-returns-5
-returns-5 c = sym (tag-known _ 5 (omega arith) (tag-is (c .before .before .before .before .before) 5 (c .if5 .taken) (omega arith)))
+returns-5 c =
+    let after-tag = c .before .before .before .before .before in
+    sym (tag-known _ 5 (omega arith) (tag-is after-tag 5 (c .if5 .taken) (omega arith)))
 
 returns-6 : tie.Need-returns-6
-returns-6 c = sym (tag-other _ _ refl (c .before .before .before .before .if1 .left) (c .before .before .before .if2 .left) (c .before .before .if3 .left) (c .before .if4 .left) (c .if5 .left))
+returns-6 c =
+    sym (tag-other _ _ refl (c .before .before .before .before .if1 .left) (c .before .before .before .if2 .left) (c .before .before .if3 .left)
+    (c .before .if4 .left) (c .if5 .left))
 
 pub tag-of-spec : {M : Type 1} → statement M
 tag-of-spec =

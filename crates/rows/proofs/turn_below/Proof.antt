@@ -21,7 +21,9 @@ negate-requires : tie.Need-negate-requires
 negate-requires c κs = search needs
 
 sub-row : tie.Need-sub-row
-sub-row c = under-fits (getD (now (c .before .before .before .before .args .row)) 1 (pos 0)) 1000000000 (behind-tag (now (c .before .before .before .before .args .row)) 1 (c .before .before .before .before .pre .1) (omega arith)) (omega arith)
+sub-row c =
+    under-fits (getD (now (c .before .before .before .before .args .row)) 1 (pos 0)) 1000000000
+    (behind-tag (now (c .before .before .before .before .args .row)) 1 (c .before .before .before .before .pre .1) (omega arith)) (omega arith)
 
 slice-set-from-row : tie.Need-slice-set-from-row
 slice-set-from-row c = search needs

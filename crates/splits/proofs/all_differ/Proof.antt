@@ -36,7 +36,11 @@ returns : tie.Need-returns Inv-loop μ-loop
 returns c =
     let s = c .before .before .before .before .before .before in
     let l = c .before .before .before .before .loop in
-    sym (distinct-no (now (s .args .b)) (l .i) (l .left) (omega arith) (ap (λ (y : ℕ). among y (u16s (now (s .args .b)) (l .i + 2) (l .left - 1))) (sym (c .before .before .u16-at .ensures .0)) ∙ sym (c .before .occurs .ensures) ∙ c .if1 .taken)) ∙ l .inv .1
+    sym (distinct-no (now (s .args .b)) (l .i) (l .left) (omega arith)
+    (ap (λ (y : ℕ). among y (u16s (now (s .args .b)) (l .i + 2) (l .left - 1))) (sym (c .before .before .u16-at .ensures .0))
+    ∙ sym (c .before .occurs .ensures)
+    ∙ c .if1 .taken))
+    ∙ l .inv .1
 
 add-i : tie.Need-add-i Inv-loop μ-loop
 add-i c = omega arith
@@ -50,8 +54,14 @@ loop-less c = omega arith
 loop-again : tie.Need-loop-again Inv-loop μ-loop
 loop-again c =
     let s = c .before .before .before .before .before .before in
-    let l = c .before .before .before .before .loop in
-    (omega arith, sym (distinct-yes (now (s .args .b)) (l .i) (l .left) (omega arith) (ap (λ (y : ℕ). among y (u16s (now (s .args .b)) (l .i + 2) (l .left - 1))) (sym (c .before .before .u16-at .ensures .0)) ∙ sym (c .before .occurs .ensures) ∙ c .if1 .left)) ∙ l .inv .1)
+    let l = c .before .before .before .before .loop in (
+      omega arith,
+      sym (distinct-yes (now (s .args .b)) (l .i) (l .left) (omega arith)
+          (ap (λ (y : ℕ). among y (u16s (now (s .args .b)) (l .i + 2) (l .left - 1))) (sym (c .before .before .u16-at .ensures .0))
+          ∙ sym (c .before .occurs .ensures)
+          ∙ c .if1 .left))
+          ∙ l .inv .1,
+    )
 
 returns-2 : tie.Need-returns-2 Inv-loop μ-loop
 returns-2 c =
@@ -60,4 +70,5 @@ returns-2 c =
     sym (ap distinct (u16s-done (now (s .args .b)) (l .i) (l .left) (omega arith))) ∙ l .inv .1
 
 pub all-differ-spec : {M : Type 1} → statement M
-all-differ-spec = tie.close (tie.spec Inv-loop μ-loop loop-holds u16-at-requires add-occurs sub-occurs occurs-requires returns add-i sub-left loop-less loop-again returns-2)
+all-differ-spec =
+    tie.close (tie.spec Inv-loop μ-loop loop-holds u16-at-requires add-occurs sub-occurs occurs-requires returns add-i sub-left loop-less loop-again returns-2)

@@ -46,7 +46,8 @@ sub-in-limit : tie.Need-sub-in-limit
 sub-in-limit c =
     let s = c .before .before .before in
     let row = rowAt (now (s .args .work)) (s .args .fact) in
-    above-fits (getD (now (c .before .before .row-at .result)) 1 (pos 0)) numberLimit (constant-small _ row (c .before .before .row-at .ensures) (ne-within row (s .pre .1 .0) (s .pre .1 .1))) (omega arith)
+    above-fits (getD (now (c .before .before .row-at .result)) 1 (pos 0)) numberLimit
+    (constant-small _ row (c .before .before .row-at .ensures) (ne-within row (s .pre .1 .0) (s .pre .1 .1))) (omega arith)
 
 in-limit-requires : tie.Need-in-limit-requires
 in-limit-requires c κs = search needs
@@ -61,14 +62,16 @@ returns c =
     let small = ne-within row (s .pre .1 .0) (s .pre .1 .1) in
     c .in-limit .ensures
     ∙ above-within (drop 1 row) _ (form-length row (length-row (now (s .args .work)) (s .args .fact) (omega arith))) small
-    (above-is (getD (now (c .before .before .before .row-at .result)) 1 (pos 0)) numberLimit (constant-small _ row e small) (omega arith) ∙ ap (λ (z : ℤ). z +ℤ negsuc 0) (first-of-form _ row e))
+    (above-is (getD (now (c .before .before .before .row-at .result)) 1 (pos 0)) numberLimit (constant-small _ row e small) (omega arith)
+    ∙ ap (λ (z : ℤ). z +ℤ negsuc 0) (first-of-form _ row e))
     ∙ ap factsWithin (child-one (arithmetic ge (above (drop 1 row)) ∷ []) ((arithmetic ge (below (drop 1 row)) ∷ []) ∷ []) (s .args .k) (c .before .if1 .taken))
 
 sub-in-limit-2 : tie.Need-sub-in-limit-2
 sub-in-limit-2 c =
     let s = c .before .before .before in
     let row = rowAt (now (s .args .work)) (s .args .fact) in
-    under-fits (getD (now (c .before .before .row-at .result)) 1 (pos 0)) numberLimit (constant-small _ row (c .before .before .row-at .ensures) (ne-within row (s .pre .1 .0) (s .pre .1 .1))) (omega arith)
+    under-fits (getD (now (c .before .before .row-at .result)) 1 (pos 0)) numberLimit
+    (constant-small _ row (c .before .before .row-at .ensures) (ne-within row (s .pre .1 .0) (s .pre .1 .1))) (omega arith)
 
 in-limit-requires-2 : tie.Need-in-limit-requires-2
 in-limit-requires-2 c κs = search needs
@@ -84,7 +87,8 @@ returns-2 c =
     let second : s .args .k ≡ 2 = omega (arith, s .pre .0, c .before .if1 .left) in
     c .in-limit2 .ensures
     ∙ below-within (drop 1 row) _ (form-length row (length-row (now (s .args .work)) (s .args .fact) (omega arith))) small
-    (under-is (getD (now (c .before .before .before .row-at .result)) 1 (pos 0)) numberLimit (constant-small _ row e small) (omega arith) ∙ ap (λ (z : ℤ). (negsuc 0 *ℤ z) +ℤ negsuc 0) (first-of-form _ row e))
+    (under-is (getD (now (c .before .before .before .row-at .result)) 1 (pos 0)) numberLimit (constant-small _ row e small) (omega arith)
+    ∙ ap (λ (z : ℤ). (negsuc 0 *ℤ z) +ℤ negsuc 0) (first-of-form _ row e))
     ∙ ap factsWithin (child-two (arithmetic ge (above (drop 1 row)) ∷ []) (arithmetic ge (below (drop 1 row)) ∷ []) [] (s .args .k) second)
 
 pub apart-within-spec : {M : Type 1} → statement M

@@ -25,7 +25,10 @@ returns c =
     let s = c .before .before .before in
     let b = now (s .args .b) in
     let br = branchOf (now (s .args .work)) (s .args .count) in
-    sym (ap fits (card-children (numbered (s .args .s)) br b (s .args .at) (s .args .m) (s .pre .0 .0)) ∙ guard-fits _ _ ∙ ap (λ (t : Bool). t && neighbours (numbered (s .args .s)) br (u16 b (s .args .at)) (u16s b (s .args .at + 2) (s .args .m - 1))) (sym (c .before .all-differ .ensures) ∙ not-true _ (c .if1 .taken)))
+    sym (ap fits (card-children (numbered (s .args .s)) br b (s .args .at) (s .args .m) (s .pre .0 .0))
+    ∙ guard-fits _ _
+    ∙ ap (λ (t : Bool). t && neighbours (numbered (s .args .s)) br (u16 b (s .args .at)) (u16s b (s .args .at + 2) (s .args .m - 1)))
+    (sym (c .before .all-differ .ensures) ∙ not-true _ (c .if1 .taken)))
 
 sub-lengths-agree : tie.Need-sub-lengths-agree
 sub-lengths-agree c = let h = c .before .before .before .pre .0 .0 in omega arith
@@ -36,15 +39,27 @@ lengths-agree-requires c κs =
     let b = now (s .args .b) in
     let h = s .pre .0 .0 in
     let w = s .pre .0 .1 in
-    let e : s .args .m - 1 + 1 ≡ s .args .m = omega arith in
-    ((omega arith, s .pre .0 .2, s .pre .0 .3), ((ap (λ (n : ℕ). distinct (u16s b (s .args .at) n)) e ∙ sym (c .before .all-differ .ensures) ∙ not-false _ (c .if1 .left), ap (λ (n : ℕ). areVariables (s .args .s .p) (u16s b (s .args .at) n)) e ∙ s .pre .1 .0), s .pre .1 .1))
+    let e : s .args .m - 1 + 1 ≡ s .args .m = omega arith in (
+      (omega arith, s .pre .0 .2, s .pre .0 .3),
+      (
+        (
+          ap (λ (n : ℕ). distinct (u16s b (s .args .at) n)) e ∙ sym (c .before .all-differ .ensures) ∙ not-false _ (c .if1 .left),
+          ap (λ (n : ℕ). areVariables (s .args .s .p) (u16s b (s .args .at) n)) e ∙ s .pre .1 .0,
+        ),
+        s .pre .1 .1,
+      ),
+    )
 
 returns-2 : tie.Need-returns-2
 returns-2 c =
     let s = c .before .before .before .before in
     let b = now (s .args .b) in
     let br = branchOf (now (s .args .work)) (s .args .count) in
-    c .lengths-agree .ensures ∙ sym (ap fits (card-children (numbered (s .args .s)) br b (s .args .at) (s .args .m) (s .pre .0 .0)) ∙ guard-fits _ _ ∙ ap (λ (t : Bool). t && neighbours (numbered (s .args .s)) br (u16 b (s .args .at)) (u16s b (s .args .at + 2) (s .args .m - 1))) (sym (c .before .before .all-differ .ensures) ∙ not-false _ (c .before .if1 .left)))
+    c .lengths-agree .ensures
+    ∙ sym (ap fits (card-children (numbered (s .args .s)) br b (s .args .at) (s .args .m) (s .pre .0 .0))
+    ∙ guard-fits _ _
+    ∙ ap (λ (t : Bool). t && neighbours (numbered (s .args .s)) br (u16 b (s .args .at)) (u16s b (s .args .at + 2) (s .args .m - 1)))
+    (sym (c .before .before .all-differ .ensures) ∙ not-false _ (c .before .if1 .left)))
 
 pub card-fits-spec : {M : Type 1} → statement M
 card-fits-spec = tie.close (tie.spec all-differ-requires returns sub-lengths-agree lengths-agree-requires returns-2)

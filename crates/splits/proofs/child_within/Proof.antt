@@ -66,7 +66,10 @@ apart-within-requires c κs =
     let few = h .fine .few in
     let n = number-of (given h) (s .args .k) (s .pre .1) _ (apart-child h (fit s) e) in (
       (omega arith, h .fine .room, n .0, n .1),
-      (ap (λ (n : ℕ). tagOf (factOf (rowAt (now (s .args .work)) n))) x ∙ a .1, fine-at (now (s .args .work)) (s .args .count) (c .u16-at .result) (h .fine) (omega arith)),
+      (
+        ap (λ (n : ℕ). tagOf (factOf (rowAt (now (s .args .work)) n))) x ∙ a .1,
+        fine-at (now (s .args .work)) (s .args .count) (c .u16-at .result) (h .fine) (omega arith),
+      ),
     )
 
 returns : tie.Need-returns

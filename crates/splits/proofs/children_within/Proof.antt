@@ -26,7 +26,8 @@ returns c =
     let s = c .before .before .before .before in
     let g = given (s .pre .0 .ready) in
     let t = two (c .before .before) in
-    sym (limits.two-within g (t .0) (t .1) (t .2) ∙ ap (λ (x : Bool). x && factsWithin (orNone (childIn g 2))) (sym (c .before .child-within .ensures) ∙ not-true _ (c .if1 .taken)))
+    sym (limits.two-within g (t .0) (t .1) (t .2)
+    ∙ ap (λ (x : Bool). x && factsWithin (orNone (childIn g 2))) (sym (c .before .child-within .ensures) ∙ not-true _ (c .if1 .taken)))
 
 child-within-requires-2 : tie.Need-child-within-requires-2
 child-within-requires-2 c κs =
@@ -39,7 +40,8 @@ returns-2 c =
     let g = given (s .pre .0 .ready) in
     let t = two (c .before .before .before) in
     c .child-within2 .ensures
-    ∙ sym (limits.two-within g (t .0) (t .1) (t .2) ∙ ap (λ (x : Bool). x && factsWithin (orNone (childIn g 2))) (sym (c .before .before .child-within .ensures) ∙ not-false _ (c .before .if1 .left)))
+    ∙ sym (limits.two-within g (t .0) (t .1) (t .2)
+    ∙ ap (λ (x : Bool). x && factsWithin (orNone (childIn g 2))) (sym (c .before .before .child-within .ensures) ∙ not-false _ (c .before .if1 .left)))
 
 returns-3 : tie.Need-returns-3
 returns-3 c =

@@ -25,8 +25,11 @@ fill-above-requires c κs =
     let s = c .before .before .before in
     let w = now (s .args .work) in
     let few : s .args .fact < 128 = s .pre .0 .1 in
-    let room = s .pre .0 .2 in
-    ((s .pre .0 .0, ap length (c .before .before .row-at .ensures) ∙ length-row w (s .args .fact) (omega arith)), ap (λ (l : List ℤ). allWithin numberLimit (drop 1 l)) (c .before .before .row-at .ensures) ∙ ne-within (rowAt w (s .args .fact)) (s .pre .1 .0) (s .pre .1 .1))
+    let room = s .pre .0 .2 in (
+      (s .pre .0 .0, ap length (c .before .before .row-at .ensures) ∙ length-row w (s .args .fact) (omega arith)),
+      ap (λ (l : List ℤ). allWithin numberLimit (drop 1 l)) (c .before .before .row-at .ensures)
+          ∙ ne-within (rowAt w (s .args .fact)) (s .pre .1 .0) (s .pre .1 .1),
+    )
 
 same-length : tie.Need-same-length
 same-length c = search needs
@@ -35,7 +38,8 @@ returns : tie.Need-returns
 returns c =
     let s = c .before .before .before .before .before in
     let e = drop 1 (rowAt (now (s .args .work)) (s .args .fact)) in
-    ap (λ (f : Fact). f ∷ []) (c .before .fill-above .ensures ∙ ap (λ (l : List ℤ). arithmetic ge (above (drop 1 l))) (c .before .before .before .before .row-at .ensures))
+    ap (λ (f : Fact). f ∷ [])
+    (c .before .fill-above .ensures ∙ ap (λ (l : List ℤ). arithmetic ge (above (drop 1 l))) (c .before .before .before .before .row-at .ensures))
     ∙ child-one (arithmetic ge (above e) ∷ []) ((arithmetic ge (below e) ∷ []) ∷ []) (s .args .k) (c .before .before .before .if1 .taken)
 
 fill-below-requires : tie.Need-fill-below-requires
@@ -43,8 +47,11 @@ fill-below-requires c κs =
     let s = c .before .before .before in
     let w = now (s .args .work) in
     let few : s .args .fact < 128 = s .pre .0 .1 in
-    let room = s .pre .0 .2 in
-    ((s .pre .0 .0, ap length (c .before .before .row-at .ensures) ∙ length-row w (s .args .fact) (omega arith)), ap (λ (l : List ℤ). allWithin numberLimit (drop 1 l)) (c .before .before .row-at .ensures) ∙ ne-within (rowAt w (s .args .fact)) (s .pre .1 .0) (s .pre .1 .1))
+    let room = s .pre .0 .2 in (
+      (s .pre .0 .0, ap length (c .before .before .row-at .ensures) ∙ length-row w (s .args .fact) (omega arith)),
+      ap (λ (l : List ℤ). allWithin numberLimit (drop 1 l)) (c .before .before .row-at .ensures)
+          ∙ ne-within (rowAt w (s .args .fact)) (s .pre .1 .0) (s .pre .1 .1),
+    )
 
 same-length-2 : tie.Need-same-length-2
 same-length-2 c = search needs
@@ -54,7 +61,8 @@ returns-2 c =
     let s = c .before .before .before .before .before in
     let e = drop 1 (rowAt (now (s .args .work)) (s .args .fact)) in
     let second : s .args .k ≡ 2 = omega (arith, s .pre .0, c .before .before .before .if1 .left) in
-    ap (λ (f : Fact). f ∷ []) (c .before .fill-below .ensures ∙ ap (λ (l : List ℤ). arithmetic ge (below (drop 1 l))) (c .before .before .before .before .row-at .ensures))
+    ap (λ (f : Fact). f ∷ [])
+    (c .before .fill-below .ensures ∙ ap (λ (l : List ℤ). arithmetic ge (below (drop 1 l))) (c .before .before .before .before .row-at .ensures))
     ∙ child-two (arithmetic ge (above e) ∷ []) (arithmetic ge (below e) ∷ []) [] (s .args .k) second
 
 pub fill-apart-spec : {M : Type 1} → statement M

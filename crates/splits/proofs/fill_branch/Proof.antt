@@ -27,23 +27,29 @@ returns : tie.Need-returns
 returns c =
     let s = c .before .before .before .before .before in
     let f = formOf (now (s .args .b)) (s .args .at) (s .args .pairs) in
-    ap (λ (g : Fact). g ∷ []) (c .before .before .fill-form .ensures) ∙ child-one (arithmetic ge f ∷ []) ((arithmetic ge (below f) ∷ []) ∷ []) (s .args .k) (c .if1 .taken)
+    ap (λ (g : Fact). g ∷ []) (c .before .before .fill-form .ensures)
+    ∙ child-one (arithmetic ge f ∷ []) ((arithmetic ge (below f) ∷ []) ∷ []) (s .args .k) (c .if1 .taken)
 
 turn-below-requires : tie.Need-turn-below-requires
 turn-below-requires c κs =
     let s = c .before .before .before .before .before .before in
-    let f = formOf (now (s .args .b)) (s .args .at) (s .args .pairs) in
-    (search needs, ap (allWithin numberLimit) (ge-form (c .before .before .before .fill-form .last .0) f (c .before .before .before .fill-form .ensures)) ∙ form-within (now (s .args .b)) columnLimit (s .args .at) (s .args .pairs) (s .pre .1))
+    let f = formOf (now (s .args .b)) (s .args .at) (s .args .pairs) in (
+      search needs,
+      ap (allWithin numberLimit) (ge-form (c .before .before .before .fill-form .last .0) f (c .before .before .before .fill-form .ensures))
+          ∙ form-within (now (s .args .b)) columnLimit (s .args .at) (s .args .pairs) (s .pre .1),
+    )
 
 same-length-2 : tie.Need-same-length-2
 same-length-2 c = search needs
 
 returns-2 : tie.Need-returns-2
 returns-2 c =
+    let fill-form = c .before .before .before .before .before .fill-form in
     let s = c .before .before .before .before .before .before .before .before in
     let f = formOf (now (s .args .b)) (s .args .at) (s .args .pairs) in
     let e : s .args .k ≡ 2 = omega (arith, s .pre .0, c .before .before .before .if1 .left) in
-    ap (λ (g : Fact). g ∷ []) (c .before .turn-below .ensures ∙ ap (λ (l : List ℤ). arithmetic ge (below l)) (ge-form (c .before .before .before .before .before .fill-form .last .0) f (c .before .before .before .before .before .fill-form .ensures)))
+    ap (λ (g : Fact). g ∷ [])
+    (c .before .turn-below .ensures ∙ ap (λ (l : List ℤ). arithmetic ge (below l)) (ge-form (fill-form .last .0) f (fill-form .ensures)))
     ∙ child-two (arithmetic ge f ∷ []) (arithmetic ge (below f) ∷ []) [] (s .args .k) e
 
 pub fill-branch-spec : {M : Type 1} → statement M

@@ -101,7 +101,8 @@ returns-3 c =
     let s = c .before .before .before in
     let a = s .args in
     let b = now (a .ticket) in
-    sym (ap fits (offered-by b (asked b (a .s)) (branchOf (now (a .work)) (a .count)) (a .body) (a .size) lValid (is-rule (s .pre) _ (c .enum-told3 .given .1))))
+    sym (ap fits
+    (offered-by b (asked b (a .s)) (branchOf (now (a .work)) (a .count)) (a .body) (a .size) lValid (is-rule (s .pre) _ (c .enum-told3 .given .1))))
 
 returns-4 : tie.Need-returns-4
 unfolding stepOf
@@ -109,7 +110,8 @@ returns-4 c =
     let s = c .before .before .before in
     let a = s .args in
     let b = now (a .ticket) in
-    sym (ap fits (offered-by b (asked b (a .s)) (branchOf (now (a .work)) (a .count)) (a .body) (a .size) cValid (is-rule (s .pre) _ (c .enum-told4 .given .1))))
+    sym (ap fits
+    (offered-by b (asked b (a .s)) (branchOf (now (a .work)) (a .count)) (a .body) (a .size) cValid (is-rule (s .pre) _ (c .enum-told4 .given .1))))
 
 returns-5 : tie.Need-returns-5
 unfolding stepOf asked
@@ -119,8 +121,10 @@ returns-5 c =
     let b = now (a .ticket) in
     let x = u16 b (a .body + 4) in
     let y = u16 b (a .body + 6) in
-    ap₂ (λ (x y : ℕ). not (eqb x y)) (c .before .u16-at2 .ensures .0) (c .u16-at3 .ensures .0) ∙ sym (guard-fits (not (eqb x y)) (cInjChildren (numbered (a .s)) x y))
-    ∙ sym (ap fits (offered-by b (asked b (a .s)) (branchOf (now (a .work)) (a .count)) (a .body) (a .size) cInj (is-rule (s .pre) _ (c .before .before .enum-told5 .given .1))))
+    ap₂ (λ (x y : ℕ). not (eqb x y)) (c .before .u16-at2 .ensures .0) (c .u16-at3 .ensures .0)
+    ∙ sym (guard-fits (not (eqb x y)) (cInjChildren (numbered (a .s)) x y))
+    ∙ sym (ap fits (offered-by b (asked b (a .s)) (branchOf (now (a .work)) (a .count)) (a .body) (a .size) cInj
+    (is-rule (s .pre) _ (c .before .before .enum-told5 .given .1))))
 
 returns-6 : tie.Need-returns-6
 unfolding stepOf

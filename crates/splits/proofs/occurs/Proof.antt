@@ -41,8 +41,10 @@ loop-less c = omega arith
 loop-again : tie.Need-loop-again Inv-loop μ-loop
 loop-again c =
     let s = c .before .before .before .before .before in
-    let l = c .before .before .before .loop in
-    (omega arith, sym (among-no (now (s .args .b)) (l .i) (l .left) (s .args .x) (omega arith) (λ q. c .if1 .left (c .before .u16-at .ensures .0 ∙ q))) ∙ l .inv .1)
+    let l = c .before .before .before .loop in (
+      omega arith,
+      sym (among-no (now (s .args .b)) (l .i) (l .left) (s .args .x) (omega arith) (λ q. c .if1 .left (c .before .u16-at .ensures .0 ∙ q))) ∙ l .inv .1,
+    )
 
 returns-2 : tie.Need-returns-2 Inv-loop μ-loop
 returns-2 c =

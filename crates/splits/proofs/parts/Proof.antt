@@ -22,12 +22,17 @@ row-at-requires : tie.Need-row-at-requires
 row-at-requires c κs = search needs
 
 tag-of-requires : tie.Need-tag-of-requires
-tag-of-requires c κs = let s = c .before .before in let few = s .pre .0 in let room = s .pre .1 in ap length (c .row-at .ensures) ∙ length-row (now (s .args .work)) (s .args .fact) (omega arith)
+tag-of-requires c κs =
+    let s = c .before .before in
+    let few = s .pre .0 in
+    let room = s .pre .1 in
+    ap length (c .row-at .ensures) ∙ length-row (now (s .args .work)) (s .args .fact) (omega arith)
 
 returns-2 : tie.Need-returns-2
 returns-2 c =
     let s = c .before .before .before in
-    ap (λ (n : ℕ). eqb n 2) (c .tag-of .ensures ∙ ap (λ (r : List ℤ). tagOf (factOf r)) (c .before .row-at .ensures)) ∙ parted-test (now (s .args .work)) (s .args .count) (s .args .fact) (omega arith)
+    ap (λ (n : ℕ). eqb n 2) (c .tag-of .ensures ∙ ap (λ (r : List ℤ). tagOf (factOf r)) (c .before .row-at .ensures))
+    ∙ parted-test (now (s .args .work)) (s .args .count) (s .args .fact) (omega arith)
 
 pub parts-spec : {M : Type 1} → statement M
 parts-spec = tie.close (tie.spec returns row-at-requires tag-of-requires returns-2)

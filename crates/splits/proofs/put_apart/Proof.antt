@@ -25,8 +25,9 @@ same-length c = search needs
 
 returns : tie.Need-returns
 returns c =
+    let fill-apart = c .before .before .before .before .before .fill-apart in
     let s = c .before .before .before .before .before .before .before .before in
-    c .before .put-row .ensures ∙ ap (λ (l : List Fact). branchOf (now (s .args .work)) (s .args .count) ++ l) (c .before .before .before .before .before .fill-apart .ensures)
+    c .before .put-row .ensures ∙ ap (λ (l : List Fact). branchOf (now (s .args .work)) (s .args .count) ++ l) (fill-apart .ensures)
 
 pub put-apart-spec : {M : Type 1} → statement M
 put-apart-spec =

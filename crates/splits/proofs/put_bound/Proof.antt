@@ -49,9 +49,12 @@ returns c =
     let m : s .args .m ≤ 16 = s .pre .1 .1 in
     let h : r ≤ 16 = omega (arith, c .before .before .before .before .least-power .ensures .1) in
     c .before .put-single .ensures
-    ∙ ap₂ (λ (z : ℤ) (j : ℕ). br ++ (arithmetic ge (single z j (pos 1)) ∷ [])) (neg-is (pos r) 16 h (omega arith) ∙ minus-one-*ℤ (pos r) ∙ ap (λ (n : ℕ). negℤ (pos n)) (c .before .before .before .before .least-power .ensures .0)) (c .before .before .column-of .ensures .0)
+    ∙ ap₂ (λ (z : ℤ) (j : ℕ). br ++ (arithmetic ge (single z j (pos 1)) ∷ []))
+    (neg-is (pos r) 16 h (omega arith) ∙ minus-one-*ℤ (pos r) ∙ ap (λ (n : ℕ). negℤ (pos n)) (c .before .before .before .before .least-power .ensures .0))
+    (c .before .before .column-of .ensures .0)
     ∙ ap (λ (l : List Fact). br ++ l)
-    (child-one (arithmetic ge (single (negℤ (pos (leastPower (s .args .m) (s .args .s .n) (s .args .m) 0))) (s .args .s .q + s .args .x) (pos 1)) ∷ []) [] 1 refl
+    (child-one (arithmetic ge (single (negℤ (pos (leastPower (s .args .m) (s .args .s .n) (s .args .m) 0))) (s .args .s .q + s .args .x) (pos 1)) ∷ []) [] 1
+    refl
     ∙ sym (ap (λ (cs : List (List Fact)). orNone (childAt cs 1)) (last-is (s .args .s) (s .args .x) (s .args .m) (s .pre .1 .2) (omega (arith, s .pre .1)))))
 
 pub put-bound-spec : {M : Type 1} → statement M

@@ -69,7 +69,8 @@ returns-2 c =
     let ei = i .ensures .0 in
     let ej = j .ensures .0 in
     c .before .put-difference .ensures
-    ∙ ap (λ (l : List ℤ). br ++ (arithmetic ne l ∷ [])) (sym (columns-difference (i .result) (j .result) (i .ensures .1) (j .ensures .1) (λ q. s .pre .1 .2 (omega arith))))
+    ∙ ap (λ (l : List ℤ). br ++ (arithmetic ne l ∷ []))
+    (sym (columns-difference (i .result) (j .result) (i .ensures .1) (j .ensures .1) (λ q. s .pre .1 .2 (omega arith))))
     ∙ ap₂ (λ (i j : ℕ). br ++ (arithmetic ne (minus (column i) (column j)) ∷ [])) ei ej
     ∙ ap (λ (l : List Fact). br ++ l) (child-two (one s) (two s) (three s ∷ []) (s .args .k) (c .before .before .before .before .if2 .taken))
 

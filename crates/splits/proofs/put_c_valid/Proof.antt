@@ -32,7 +32,8 @@ returns c =
     let code = c .before .before .before .before .column-of2 in
     c .before .put-codeless .ensures
     ∙ ap (λ (l : List Fact). branchOf (now (s .args .work)) (s .args .count) ++ l)
-    (c-valid-one (s .args .s) (s .args .x) (len .result) (code .result) (len .ensures .0) (code .ensures .0) (len .ensures .1) (code .ensures .1) (s .args .k) (c .before .before .before .if1 .taken))
+    (c-valid-one (s .args .s) (s .args .x) (len .result) (code .result) (len .ensures .0) (code .ensures .0) (len .ensures .1) (code .ensures .1)
+    (s .args .k) (c .before .before .before .if1 .taken))
 
 sub-put-coded : tie.Need-sub-put-coded
 sub-put-coded c = search needs
@@ -54,7 +55,8 @@ returns-2 c =
     let e : s .args .k ≡ 2 = omega (arith, s .pre, c .before .before .before .before .if1 .left) in
     c .before .put-coded .ensures
     ∙ ap (λ (l : List Fact). branchOf (now (s .args .work)) (s .args .count) ++ l)
-    (c-valid-two (s .args .s) (s .args .x) (len .result) (code .result) (len .ensures .0) (code .ensures .0) (len .ensures .1) (code .ensures .1) (s .args .k) e)
+    (c-valid-two (s .args .s) (s .args .x) (len .result) (code .result) (len .ensures .0) (code .ensures .0) (len .ensures .1) (code .ensures .1)
+    (s .args .k) e)
 
 pub put-c-valid-spec : {M : Type 1} → statement M
 put-c-valid-spec =

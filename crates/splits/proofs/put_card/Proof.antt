@@ -24,7 +24,13 @@ use Rattle.splits.proofs.put_card.Statement.{statement}
 use Rattle.splits.proofs.put_card.Tie as tie
 
 abbrev Inv-loop : tie.InvT-loop
-Inv-loop work₀ count b s at m k i₀ others₀ left₀ work i others left = (work ≡ work₀) × (i + 2 + 2 * others ≤ length b) × (areVariables (s .p) (u16s b i (others + 1)) ≡ true) × (left < length (pairChildren (u16s b i (others + 1)) (lastChild (numbered s) (u16 b at) m))) × (getD (pairChildren (u16s b i (others + 1)) (lastChild (numbered s) (u16 b at) m)) left [] ≡ getD (pairChildren (u16s b at m) (lastChild (numbered s) (u16 b at) m)) (k - 1) [])
+Inv-loop work₀ count b s at m k i₀ others₀ left₀ work i others left =
+    (work ≡ work₀)
+    × (i + 2 + 2 * others ≤ length b)
+    × (areVariables (s .p) (u16s b i (others + 1)) ≡ true)
+    × (left < length (pairChildren (u16s b i (others + 1)) (lastChild (numbered s) (u16 b at) m)))
+    × (getD (pairChildren (u16s b i (others + 1)) (lastChild (numbered s) (u16 b at) m)) left []
+    ≡ getD (pairChildren (u16s b at m) (lastChild (numbered s) (u16 b at) m)) (k - 1) [])
 
 abbrev μ-loop : tie.MeasureT-loop
 μ-loop work₀ count b s at m k i₀ others₀ left₀ work i others left = others
@@ -80,10 +86,13 @@ put-string-requires c κs =
     ((s .pre .0 .0, subst (λ (v : List ℤ). workNumbers ≤ length v) (sym (l .inv .0)) (s .pre .0 .1)), (omega arith, omega arith, omega arith))
 
 same-length : tie.Need-same-length Inv-loop μ-loop
-same-length c = c .before .put-string .kept .0 ∙ ap length (c .before .before .before .before .before .before .before .loop .inv .0)
+same-length c =
+    let loop = c .before .before .before .before .before .before .before .loop in
+    c .before .put-string .kept .0 ∙ ap length (loop .inv .0)
 
 returns : tie.Need-returns Inv-loop μ-loop
 returns c =
+    let if1 = c .before .before .before .before .before .if1 in
     let s = c .before .before .before .before .before .before .before .before .before in
     let l = c .before .before .before .before .before .before .before .loop in
     let b = now (s .args .b) in
@@ -91,7 +100,9 @@ returns c =
     c .before .put-string .ensures
     ∙ ap₂ (λ (v : List ℤ) (h : List Fact). branchOf v (s .args .count) ++ h) (l .inv .0)
     (ap₂ (λ (x y : ℕ). same x y ∷ []) (c .before .before .before .before .u16-at .ensures .0) (c .before .before .before .u16-at2 .ensures .0)
-    ∙ sym (pair-here b (l .i) (l .others) more (l .left) (c .before .before .before .before .before .if1 .taken)) ∙ l .inv .4 ∙ sym (child-at (pairChildren (u16s b (s .args .at) (s .args .m)) more) (s .args .k) (s .pre .1 .1 .1 .0)))
+    ∙ sym (pair-here b (l .i) (l .others) more (l .left) (if1 .taken))
+    ∙ l .inv .4
+    ∙ sym (child-at (pairChildren (u16s b (s .args .at) (s .args .m)) more) (s .args .k) (s .pre .1 .1 .1 .0)))
 
 add-i : tie.Need-add-i Inv-loop μ-loop
 add-i c = omega arith
@@ -122,10 +133,15 @@ u16-at-requires-3 c κs = omega (arith, c .before .before .before .before .pre .
 -- the last child is left
 module _ (c : tie.After-put-bound-arg Inv-loop μ-loop) where
   abbrev last : List (List Fact)
-  last = lastChild (numbered (c .before .before .before .before .args .s)) (u16 (now (c .before .before .before .before .args .b)) (c .before .before .before .before .args .at)) (c .before .before .before .before .args .m)
+  last =
+      lastChild (numbered (c .before .before .before .before .args .s))
+      (u16 (now (c .before .before .before .before .args .b)) (c .before .before .before .before .args .at)) (c .before .before .before .before .args .m)
 
   is-left : c .before .before .loop .left < length last
-  is-left = let l = c .before .before .loop in subst (λ (cs : List (List Fact)). l .left < length cs) (pairs-none (now (c .before .before .before .before .args .b)) (l .i) (l .others) last (omega arith)) (l .inv .3)
+  is-left =
+      let l = c .before .before .loop in
+      subst (λ (cs : List (List Fact)). l .left < length cs)
+      (pairs-none (now (c .before .before .before .before .args .b)) (l .i) (l .others) last (omega arith)) (l .inv .3)
 
 put-bound-requires : tie.Need-put-bound-requires Inv-loop μ-loop
 put-bound-requires c κs =
@@ -134,11 +150,22 @@ put-bound-requires c κs =
     let b = now (s .args .b) in
     let fx = below-first b (s .args .s .p) (s .args .at) (s .args .m) (omega (arith, s .pre .1 .0)) (s .pre .1 .0 .3) in
     let ex = c .u16-at3 .ensures .0 in
-    let few : s .args .s .p ≤ 16 = s .pre .1 .1 .0 .0 in
-    ((s .pre .0 .0, subst (λ (v : List ℤ). workNumbers ≤ length v) (sym (l .inv .0)) (s .pre .0 .1)), (omega arith, s .pre .1 .0 .1, last-some (s .args .s) (u16 b (s .args .at)) (s .args .m) (l .left) (is-left (c .before)), s .pre .1 .1 .0 .3, s .pre .1 .1 .0 .0, s .pre .1 .1 .0 .1))
+    let few : s .args .s .p ≤ 16 = s .pre .1 .1 .0 .0 in (
+      (s .pre .0 .0, subst (λ (v : List ℤ). workNumbers ≤ length v) (sym (l .inv .0)) (s .pre .0 .1)),
+      (
+        omega arith,
+        s .pre .1 .0 .1,
+        last-some (s .args .s) (u16 b (s .args .at)) (s .args .m) (l .left) (is-left (c .before)),
+        s .pre .1 .1 .0 .3,
+        s .pre .1 .1 .0 .0,
+        s .pre .1 .1 .0 .1,
+      ),
+    )
 
 same-length-2 : tie.Need-same-length-2 Inv-loop μ-loop
-same-length-2 c = c .before .put-bound .kept .0 ∙ ap length (c .before .before .before .before .before .loop .inv .0)
+same-length-2 c =
+    let loop = c .before .before .before .before .before .loop in
+    c .before .put-bound .kept .0 ∙ ap length (loop .inv .0)
 
 returns-2 : tie.Need-returns-2 Inv-loop μ-loop
 returns-2 c =
@@ -153,7 +180,9 @@ returns-2 c =
     (ap (λ (x : ℕ). orNone (childAt (lastChild (numbered (s .args .s)) x (s .args .m)) 1)) (c .before .before .u16-at3 .ensures .0)
     ∙ child-at more 1 (omega arith)
     ∙ ap (λ (j : ℕ). getD more j []) first
-    ∙ sym (ap (λ (cs : List (List Fact)). getD cs (l .left) []) (pairs-none b (l .i) (l .others) more (omega arith))) ∙ l .inv .4 ∙ sym (child-at (pairChildren (u16s b (s .args .at) (s .args .m)) more) (s .args .k) (s .pre .1 .1 .1 .0)))
+    ∙ sym (ap (λ (cs : List (List Fact)). getD cs (l .left) []) (pairs-none b (l .i) (l .others) more (omega arith)))
+    ∙ l .inv .4
+    ∙ sym (child-at (pairChildren (u16s b (s .args .at) (s .args .m)) more) (s .args .k) (s .pre .1 .1 .1 .0)))
 
 pub put-card-spec : {M : Type 1} → statement M
 put-card-spec =

@@ -46,7 +46,8 @@ roomy s = omega (arith, length-branch (now (s .args .work)) (s .args .count), ta
 fine : (s : tie.Start) (v : List ℤ) (r : ℕ) → length v ≡ length (now (s .args .work)) → branchOf v r ≡ before (s .pre .0 .ready) ++ orNone (taken s) → Fine v r
 fine s v r l e =
     let h = s .pre .0 .ready in
-    fine-added (now (s .args .work)) v (s .args .count) r (orNone (taken s)) (h .fine) l e (taken-room (before h) (taken s) (s .pre .1)) (taken-within (before h) (taken s) (s .pre .1))
+    fine-added (now (s .args .work)) v (s .args .count) r (orNone (taken s)) (h .fine) l e (taken-room (before h) (taken s) (s .pre .1))
+    (taken-within (before h) (taken s) (s .pre .1))
 
 enum-told : tie.Need-enum-told
 enum-told c = search needs
@@ -55,7 +56,9 @@ add-u16-at : tie.Need-add-u16-at
 add-u16-at c = search needs
 
 u16-at-requires : tie.Need-u16-at-requires
-u16-at-requires c κs = let s = c .before .before .before .before in c-valid-variable (s .pre .0 .ready) (is-rule (s .pre .0) _ (c .before .enum-told .given .1)) .0
+u16-at-requires c κs =
+    let s = c .before .before .before .before in
+    c-valid-variable (s .pre .0 .ready) (is-rule (s .pre .0) _ (c .before .enum-told .given .1)) .0
 
 put-c-valid-requires : tie.Need-put-c-valid-requires
 put-c-valid-requires c κs =

@@ -46,14 +46,20 @@ same-length c = search needs
 
 returns : tie.Need-returns
 returns c =
+    let put-single = c .before .before .before .before .before .before .before .put-single in
     let s = c .before .before .before .before .before .before .before .before .before in
     let a = s .args in
     let l : a .low < 196608 = s .pre .1 .0 in
     let g : a .high < 196608 = s .pre .1 .1 in
     put-three _ _ _ (a .count) _ _ _
-    (put-two _ _ _ (a .count) _ _ (c .before .before .before .before .before .before .before .put-single .ensures)
-    (c .before .before .before .before .put-single2 .ensures ∙ ap (λ (z : ℤ). branchOf (c .before .before .before .before .before .before .before .put-single .last .0) (a .count + 1) ++ (arithmetic ge (single z (a .code) (pos 1)) ∷ [])) (minus-is (pos (a .low)) _ (toZ-pos w64 (a .low) (omega arith)) (omega arith))))
-    (c .before .put-single3 .ensures ∙ ap (λ (z : ℤ). branchOf (c .before .before .before .before .put-single2 .last .0) (a .count + 2) ++ (arithmetic ge (single z (a .code) (negsuc 0)) ∷ [])) (toZ-pos w64 (a .high) (omega arith)))
+    (put-two _ _ _ (a .count) _ _ (put-single .ensures)
+    (c .before .before .before .before .put-single2 .ensures
+    ∙ ap (λ (z : ℤ). branchOf (put-single .last .0) (a .count + 1) ++ (arithmetic ge (single z (a .code) (pos 1)) ∷ []))
+    (minus-is (pos (a .low)) _ (toZ-pos w64 (a .low) (omega arith)) (omega arith))))
+    (c .before .put-single3 .ensures
+    ∙ ap
+    (λ (z : ℤ). branchOf (c .before .before .before .before .put-single2 .last .0) (a .count + 2) ++ (arithmetic ge (single z (a .code) (negsuc 0)) ∷ []))
+    (toZ-pos w64 (a .high) (omega arith)))
 
 pub put-coded-spec : {M : Type 1} → statement M
 put-coded-spec =

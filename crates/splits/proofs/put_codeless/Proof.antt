@@ -17,7 +17,9 @@ same-length : tie.Need-same-length
 same-length c = search needs
 
 returns : tie.Need-returns
-returns c = put-two _ _ _ (c .before .before .before .before .before .before .args .count) _ _ (c .before .before .before .before .put-single .ensures) (c .before .put-single2 .ensures)
+returns c =
+    let args = c .before .before .before .before .before .before .args in
+    put-two _ _ _ (args .count) _ _ (c .before .before .before .before .put-single .ensures) (c .before .put-single2 .ensures)
 
 pub put-codeless-spec : {M : Type 1} → statement M
 put-codeless-spec = tie.close (tie.spec put-single-requires add-put-single put-single-requires-2 same-length returns)

@@ -23,7 +23,8 @@ use Rattle.steps.specs.Rules.{ruleNamed, oneEach}
 use Rattle.steps.proofs.Bodies.{given, four-bytes, l-valid-variable, is-rule}
 use Rattle.steps.proofs.Offered.{step-fits, number-of}
 use Rattle.steps.proofs.Rules.{not-several}
-use Rattle.splits.proofs.Operands.{branch-operands, apart-operands, c-inj-operands, card-operands, branch-child, apart-fact, apart-child, l-valid-child, c-inj-differ, c-inj-child, card-child}
+use Rattle.splits.proofs.Operands.{branch-operands, apart-operands, c-inj-operands, card-operands, branch-child}
+use Rattle.splits.proofs.Operands.{apart-fact, apart-child, l-valid-child, c-inj-differ, c-inj-child, card-child}
 use Rattle.splits.proofs.put_fact.Statement.{statement}
 use Rattle.splits.proofs.put_fact.Tie as tie
 
@@ -70,14 +71,19 @@ put-apart-requires c κs =
     let few = h .fine .few in
     let n = number-of (given h) (s .args .k) (there s) _ (apart-child h (fit s) e) in (
       (s .pre .1 .0 .1, omega arith, h .fine .room, n .0, n .1),
-      (ap (λ (n : ℕ). tagOf (factOf (rowAt (now (s .args .work)) n))) x ∙ a .1, fine-at (now (s .args .work)) (s .args .count) (c .u16-at .result) (h .fine) (omega arith)),
+      (
+        ap (λ (n : ℕ). tagOf (factOf (rowAt (now (s .args .work)) n))) x ∙ a .1,
+        fine-at (now (s .args .work)) (s .args .count) (c .u16-at .result) (h .fine) (omega arith),
+      ),
     )
 
 enum-told-3 : tie.Need-enum-told-3
 enum-told-3 c = search needs
 
 u16-at-requires-2 : tie.Need-u16-at-requires-2
-u16-at-requires-2 c κs = let s = c .before .before .before .before in l-valid-variable (s .pre .0 .ready) (is-rule (s .pre .0) _ (c .before .enum-told3 .given .1)) .0
+u16-at-requires-2 c κs =
+    let s = c .before .before .before .before in
+    l-valid-variable (s .pre .0 .ready) (is-rule (s .pre .0) _ (c .before .enum-told3 .given .1)) .0
 
 put-l-valid-requires : tie.Need-put-l-valid-requires
 put-l-valid-requires c κs =
@@ -103,7 +109,9 @@ add-u16-at : tie.Need-add-u16-at
 add-u16-at c = search needs
 
 u16-at-requires-4 : tie.Need-u16-at-requires-4
-u16-at-requires-4 c κs = let s = c .before .before .before .before .before in c-inj-operands (s .pre .0 .ready) (is-rule (s .pre .0) _ (c .before .before .enum-told4 .given .1)) .0
+u16-at-requires-4 c κs =
+    let s = c .before .before .before .before .before in
+    c-inj-operands (s .pre .0 .ready) (is-rule (s .pre .0) _ (c .before .before .enum-told4 .given .1)) .0
 
 put-c-inj-requires : tie.Need-put-c-inj-requires
 put-c-inj-requires c κs =
@@ -182,11 +190,13 @@ same-length-4 c = search needs
 
 returns-4 : tie.Need-returns-4
 returns-4 c =
+    let enum-told4 = c .before .before .before .before .before .enum-told4 in
     let s = c .before .before .before .before .before .before .before .before in
     let br = branchOf (now (s .args .work)) (s .args .count) in
-    let e = is-rule (s .pre .0) _ (c .before .before .before .before .before .enum-told4 .given .1) in
+    let e = is-rule (s .pre .0) _ (enum-told4 .given .1) in
     c .before .put-c-inj .ensures
-    ∙ ap₂ (λ (m n : ℕ). br ++ orNone (childAt (cInjChildren (numbered (s .args .s)) m n) (s .args .k))) (c .before .before .before .u16-at3 .ensures .0) (c .before .before .u16-at4 .ensures .0)
+    ∙ ap₂ (λ (m n : ℕ). br ++ orNone (childAt (cInjChildren (numbered (s .args .s)) m n) (s .args .k))) (c .before .before .before .u16-at3 .ensures .0)
+    (c .before .before .u16-at4 .ensures .0)
     ∙ ap (λ (o : Option (List (List Fact))). br ++ orNone (childIn o (s .args .k))) (sym (c-inj-child (s .pre .0 .ready) (fit s) e))
 
 same-length-5 : tie.Need-same-length-5

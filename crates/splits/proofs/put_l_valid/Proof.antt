@@ -25,7 +25,9 @@ returns : tie.Need-returns
 returns c =
     let s = c .before .before .before .before in
     c .before .put-string .ensures
-    ∙ ap (λ (l : List Fact). branchOf (now (s .args .work)) (s .args .count) ++ l) (child-one (isLiteral (s .args .x) 0 ∷ []) ((arithmetic ge (above (column (s .args .s .q + s .args .x))) ∷ []) ∷ []) (s .args .k) (c .before .before .before .if1 .taken))
+    ∙ ap (λ (l : List Fact). branchOf (now (s .args .work)) (s .args .count) ++ l)
+    (child-one (isLiteral (s .args .x) 0 ∷ []) ((arithmetic ge (above (column (s .args .s .q + s .args .x))) ∷ []) ∷ []) (s .args .k)
+    (c .before .before .before .if1 .taken))
 
 column-of-requires : tie.Need-column-of-requires
 column-of-requires c κs = search needs
@@ -46,7 +48,8 @@ returns-2 c =
     c .before .put-single .ensures
     ∙ ap (λ (l : List ℤ). br ++ (arithmetic ge l ∷ [])) (sym (above-column (j .result) (j .ensures .1)))
     ∙ ap (λ (i : ℕ). br ++ (arithmetic ge (above (column i)) ∷ [])) (j .ensures .0)
-    ∙ ap (λ (l : List Fact). br ++ l) (child-two (isLiteral (s .args .x) 0 ∷ []) (arithmetic ge (above (column (s .args .s .q + s .args .x))) ∷ []) [] (s .args .k) e)
+    ∙ ap (λ (l : List Fact). br ++ l)
+    (child-two (isLiteral (s .args .x) 0 ∷ []) (arithmetic ge (above (column (s .args .s .q + s .args .x))) ∷ []) [] (s .args .k) e)
 
 pub put-l-valid-spec : {M : Type 1} → statement M
 put-l-valid-spec =

@@ -38,13 +38,15 @@ returns : tie.Need-returns
 unfolding shape stepOf
 returns c =
     let a = c .before .args in
-    λ b body. in-arm (λ (r : Rule). 1 ≡ length (shapeOf r (a .n) b body (a .size))) (0 ∷ 5 ∷ 6 ∷ 8 ∷ 12 ∷ []) (a .rule) (refl, (refl, (refl, (refl, (refl, tt))))) (c .match .keys1)
+    λ b body. in-arm (λ (r : Rule). 1 ≡ length (shapeOf r (a .n) b body (a .size))) (0 ∷ 5 ∷ 6 ∷ 8 ∷ 12 ∷ []) (a .rule)
+    (refl, (refl, (refl, (refl, (refl, tt))))) (c .match .keys1)
 
 returns-2 : tie.Need-returns-2
 unfolding shape stepOf
 returns-2 c =
     let a = c .before .args in
-    λ b body. in-arm (λ (r : Rule). 2 ≡ length (shapeOf r (a .n) b body (a .size))) (1 ∷ 2 ∷ 7 ∷ 9 ∷ []) (a .rule) (refl, (refl, (refl, (refl, tt)))) (c .match .keys2)
+    λ b body. in-arm (λ (r : Rule). 2 ≡ length (shapeOf r (a .n) b body (a .size))) (1 ∷ 2 ∷ 7 ∷ 9 ∷ []) (a .rule) (refl, (refl, (refl, (refl, tt))))
+    (c .match .keys2)
 
 returns-3 : tie.Need-returns-3
 unfolding shape stepOf
@@ -55,7 +57,9 @@ returns-3 c =
 returns-4 : tie.Need-returns-4
 returns-4 c =
     let a = c .before .before .before .args in
-    λ b body. c .card-children .ensures ∙ sym (card-count b (a .n) body (a .size)) ∙ sym (ap (λ (r : Rule). length (shapeOf r (a .n) b body (a .size))) (c .before .enum-told2 .given .1))
+    λ b body. c .card-children .ensures
+    ∙ sym (card-count b (a .n) body (a .size))
+    ∙ sym (ap (λ (r : Rule). length (shapeOf r (a .n) b body (a .size))) (c .before .enum-told2 .given .1))
 
 returns-5 : tie.Need-returns-5
 unfolding shape stepOf

@@ -31,7 +31,8 @@ bits-within-requires c κs = search needs
 
 returns : tie.Need-returns Inv-loop μ-loop
 returns c =
-    sym (multipliers-no _ _ _ (omega arith) (rw (c .before .before .u32-at .ensures .0) at (sym (c .before .bits-within .ensures) ∙ not-true _ (c .if1 .taken))))
+    sym (multipliers-no _ _ _ (omega arith)
+    (rw (c .before .before .u32-at .ensures .0) at (sym (c .before .bits-within .ensures) ∙ not-true _ (c .if1 .taken))))
     ∙ c .before .before .before .before .loop .inv .1
 
 add-i : tie.Need-add-i Inv-loop μ-loop

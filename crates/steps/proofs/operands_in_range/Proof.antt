@@ -21,7 +21,10 @@ long : (s : tie.Start) (r : Rule) → s .args .rule ≡ r → formFor (ruleNamed
 long s r e = at-least (formFor (ruleNamed r)) (s .args .size) (sym (ap (λ (q : Rule). fitsForm (formFor (ruleNamed q)) (s .args .size)) e) ∙ s .pre .1)
 
 -- the ranges by the rule
-ranges : (s : tie.Start) (r : Rule) → s .args .rule ≡ r → operandsInRange (now (s .args .b)) (s .args .p) (s .args .c) (ruleNamed r) (s .args .body) (s .args .size) ≡ operandsInRange (now (s .args .b)) (s .args .p) (s .args .c) (ruleNamed (s .args .rule)) (s .args .body) (s .args .size)
+ranges : (s : tie.Start) (r : Rule)
+    → s .args .rule ≡ r
+    → operandsInRange (now (s .args .b)) (s .args .p) (s .args .c) (ruleNamed r) (s .args .body) (s .args .size)
+    ≡ operandsInRange (now (s .args .b)) (s .args .p) (s .args .c) (ruleNamed (s .args .rule)) (s .args .body) (s .args .size)
 ranges s r e = sym (ap (λ (q : Rule). operandsInRange (now (s .args .b)) (s .args .p) (s .args .c) (ruleNamed q) (s .args .body) (s .args .size)) e)
 
 enum-told : tie.Need-enum-told
@@ -54,7 +57,9 @@ add-variables-below c = search needs
 variables-below-requires : tie.Need-variables-below-requires
 variables-below-requires c κs =
     let s = c .before .before in
-    let six = in-arm (λ (r : Rule). 6 ≤ formFor (ruleNamed r) .least) (6 ∷ 7 ∷ 8 ∷ 9 ∷ []) (s .args .rule) (omega arith, (omega arith, (omega arith, (omega arith, tt)))) (c .match .keys5) in
+    let six =
+    in-arm (λ (r : Rule). 6 ≤ formFor (ruleNamed r) .least) (6 ∷ 7 ∷ 8 ∷ 9 ∷ []) (s .args .rule)
+    (omega arith, (omega arith, (omega arith, (omega arith, tt)))) (c .match .keys5) in
     let l = long s (s .args .rule) refl in omega (arith, s .pre .0)
 
 enum-told-4 : tie.Need-enum-told-4
@@ -92,24 +97,30 @@ returns-3 : tie.Need-returns-3
 unfolding operandsInRange
 returns-3 c =
     let a = c .before .before .args in
-    in-arm (λ (r : Rule). true ≡ operandsInRange (now (a .b)) (a .p) (a .c) (ruleNamed r) (a .body) (a .size)) (2 ∷ 3 ∷ 4 ∷ 12 ∷ []) (a .rule) (refl, (refl, (refl, (refl, tt)))) (c .match .keys3)
+    in-arm (λ (r : Rule). true ≡ operandsInRange (now (a .b)) (a .p) (a .c) (ruleNamed r) (a .body) (a .size)) (2 ∷ 3 ∷ 4 ∷ 12 ∷ []) (a .rule)
+    (refl, (refl, (refl, (refl, tt)))) (c .match .keys3)
 
 returns-4 : tie.Need-returns-4
-returns-4 c = let s = c .before .before .before .before in c .s-prop-in-range .ensures (s .args .c) (s .args .size) ∙ ranges s _ (c .before .enum-told3 .given .1)
+returns-4 c =
+    let s = c .before .before .before .before in
+    c .s-prop-in-range .ensures (s .args .c) (s .args .size) ∙ ranges s _ (c .before .enum-told3 .given .1)
 
 returns-5 : tie.Need-returns-5
 unfolding operandsInRange u16s
 returns-5 c =
     let a = c .before .before .before .args in
     c .variables-below .ensures
-    ∙ in-arm (λ (r : Rule). areVariables (a .p) (u16s (now (a .b)) (a .body + 4) 1) ≡ operandsInRange (now (a .b)) (a .p) (a .c) (ruleNamed r) (a .body) (a .size))
+    ∙ in-arm
+    (λ (r : Rule). areVariables (a .p) (u16s (now (a .b)) (a .body + 4) 1) ≡ operandsInRange (now (a .b)) (a .p) (a .c) (ruleNamed r) (a .body) (a .size))
     (6 ∷ 7 ∷ 8 ∷ 9 ∷ []) (a .rule) (refl, (refl, (refl, (refl, tt)))) (c .before .match .keys5)
 
 returns-6 : tie.Need-returns-6
 unfolding operandsInRange
 returns-6 c =
     let s = c .before .before .before .before in
-    c .variables-below2 .ensures ∙ ap (areVariables (s .args .p)) (two-variables (now (s .args .b)) (s .args .body) 4) ∙ ranges s _ (c .before .enum-told4 .given .1)
+    c .variables-below2 .ensures
+    ∙ ap (areVariables (s .args .p)) (two-variables (now (s .args .b)) (s .args .body) 4)
+    ∙ ranges s _ (c .before .enum-told4 .given .1)
 
 returns-7 : tie.Need-returns-7
 unfolding operandsInRange

@@ -17,17 +17,22 @@ use Rattle.steps.proofs.step_fault_two.Statement.{statement}
 use Rattle.steps.proofs.step_fault_two.Tie as tie
 
 -- 5 and 6 do not apply to the operands
-fits : (c : tie.Else1) → lengthFits (now (c .before .before .before .args .b)) (c .before .before .before .args .body) (c .before .before .before .args .size) ≡ true
+fits : (c : tie.Else1)
+    → lengthFits (now (c .before .before .before .args .b)) (c .before .before .before .args .body) (c .before .before .before .args .size) ≡ true
 fits c =
     let s = c .before .before .before in
-    formed (now (s .args .b)) (asked (now (s .args .b)) (s .args .s)) true (s .args .body) (s .args .size) (s .pre .0) (sym (c .if1 .left) ∙ c .before .operands-fault .ensures) .fits
+    formed (now (s .args .b)) (asked (now (s .args .b)) (s .args .s)) true (s .args .body) (s .args .size) (s .pre .0)
+    (sym (c .if1 .left) ∙ c .before .operands-fault .ensures) .fits
 
 -- the rule under its name
-its-rule : (c : tie.After-rule-of) → ruleNamed (c .rule-of .result) ≡ rule (now (c .before .before .before .before .before .args .b)) (c .before .before .before .before .before .args .body)
+its-rule : (c : tie.After-rule-of) →
+    let args = c .before .before .before .before .before .args in
+    ruleNamed (c .rule-of .result) ≡ rule (now (args .b)) (args .body)
 its-rule c = c .rule-of .ensures ∙ ap ruleOf (c .before .u16-at .ensures .0)
 
 -- the child is one of the step's, or not
-said : (c : tie.After-child-in-range) → let a = c .before .before .before .before .before .before .before .args in c .child-in-range .result ≡ childInRange (a .s .n) (stepAt (now (a .b)) (a .body) (a .size)) (childField (now (a .b)) (a .body))
+said : (c : tie.After-child-in-range) → let a = c .before .before .before .before .before .before .before .args in
+    c .child-in-range .result ≡ childInRange (a .s .n) (stepAt (now (a .b)) (a .body) (a .size)) (childField (now (a .b)) (a .body))
 said c =
     let a = c .before .before .before .before .before .before .before .args in
     let b = now (a .b) in
@@ -41,7 +46,8 @@ operands-fault-requires c κs = search needs
 returns : tie.Need-returns
 returns c =
     let s = c .before .before .before in
-    out-of-form (now (s .args .b)) (asked (now (s .args .b)) (s .args .s)) _ (s .args .body) (s .args .size) _ (c .before .operands-fault .ensures) (c .if1 .taken)
+    out-of-form (now (s .args .b)) (asked (now (s .args .b)) (s .args .s)) _ (s .args .body) (s .args .size) _ (c .before .operands-fault .ensures)
+    (c .if1 .taken)
 
 u16-at-requires : tie.Need-u16-at-requires
 u16-at-requires c κs =
@@ -68,13 +74,19 @@ child-in-range-requires c κs =
 
 returns-2 : tie.Need-returns-2
 returns-2 c =
+    let if1 = c .before .before .before .before .before .if1 in
+    let operands-fault = c .before .before .before .before .before .before .operands-fault in
     let s = c .before .before .before .before .before .before .before .before in
-    by-child (now (s .args .b)) (asked (now (s .args .b)) (s .args .s)) _ (s .args .body) (s .args .size) _ (sym (c .before .before .before .before .before .if1 .left) ∙ c .before .before .before .before .before .before .operands-fault .ensures) (sym (said (c .before)) ∙ c .if2 .taken)
+    by-child (now (s .args .b)) (asked (now (s .args .b)) (s .args .s)) _ (s .args .body) (s .args .size) _ (sym (if1 .left) ∙ operands-fault .ensures)
+    (sym (said (c .before)) ∙ c .if2 .taken)
 
 returns-3 : tie.Need-returns-3
 returns-3 c =
+    let if1 = c .before .before .before .before .before .if1 in
+    let operands-fault = c .before .before .before .before .before .before .operands-fault in
     let s = c .before .before .before .before .before .before .before .before in
-    by-child (now (s .args .b)) (asked (now (s .args .b)) (s .args .s)) _ (s .args .body) (s .args .size) _ (sym (c .before .before .before .before .before .if1 .left) ∙ c .before .before .before .before .before .before .operands-fault .ensures) (sym (said (c .before)) ∙ c .if2 .left)
+    by-child (now (s .args .b)) (asked (now (s .args .b)) (s .args .s)) _ (s .args .body) (s .args .size) _ (sym (if1 .left) ∙ operands-fault .ensures)
+    (sym (said (c .before)) ∙ c .if2 .left)
 
 pub step-fault-two-spec : {M : Type 1} → statement M
 step-fault-two-spec =

@@ -25,7 +25,8 @@ returns-2 : tie.Need-returns-2
 unfolding operandsInRange
 returns-2 c =
     let s = c .before .before .before .before in
-    λ p k. rw (le-leb 1 (u32 (now (s .args .b)) (s .args .body + 4)) (omega arith), lt-leb (u32 (now (s .args .b)) (s .args .body + 4)) 2147483647 (omega arith))
+    λ p k. rw
+    (le-leb 1 (u32 (now (s .args .b)) (s .args .body + 4)) (omega arith), lt-leb (u32 (now (s .args .b)) (s .args .body + 4)) 2147483647 (omega arith))
 
 add-multipliers-within : tie.Need-add-multipliers-within
 add-multipliers-within c = search needs
@@ -40,7 +41,9 @@ returns-3 : tie.Need-returns-3
 unfolding operandsInRange
 returns-3 c =
     let s = c .before .before .before .before .before in
-    λ p k. c .multipliers-within .ensures ∙ sym (rw (le-leb 1 (u32 (now (s .args .b)) (s .args .body + 4)) (omega arith), le-leb (u32 (now (s .args .b)) (s .args .body + 4)) 2147483647 (omega arith)))
+    λ p k. c .multipliers-within .ensures
+    ∙ sym
+    (rw (le-leb 1 (u32 (now (s .args .b)) (s .args .body + 4)) (omega arith), le-leb (u32 (now (s .args .b)) (s .args .body + 4)) 2147483647 (omega arith)))
 
 pub sum-in-range-spec : {M : Type 1} → statement M
 sum-in-range-spec =

@@ -23,12 +23,17 @@ use Rattle.strings.proofs.complete.Statement.{statement}
 use Rattle.strings.proofs.complete.Tie as tie
 
 -- the length of x without its sign
-size-is : (c : tie.After-magnitude) → c .magnitude .result ≡ natAbs (modelValue (numbered (c .before .before .before .before .before .before .args .s)) (now (c .before .before .before .before .before .before .args .model)) len (c .before .before .before .before .before .before .args .x))
+size-is : (c : tie.After-magnitude) →
+    let args = c .before .before .before .before .before .before .args in
+    c .magnitude .result ≡ natAbs (modelValue (numbered (args .s)) (now (args .model)) len (args .x))
 size-is c = c .magnitude .ensures ∙ ap natAbs (toZ-ofZ (record { sfits = c .before .value-of .ok }) ∙ c .before .value-of .ensures)
 
 -- the string of the lowest variable of the class
-copied : (c : tie.After-row-of) → take (getD (c .before .before .before .before .before .before .args .t5) (c .before .before .before .lowest-variable .result) 0) (c .row-of .result)
-    ≡ completed (c .before .before .before .before .before .before .args .s .n) (c .before .before .before .before .before .before .args .s .p) (c .before .before .before .before .before .before .args .labels) (natAbs (modelValue (numbered (c .before .before .before .before .before .before .args .s)) (now (c .before .before .before .before .before .before .args .model)) len (c .before .before .before .before .before .before .args .x))) (now (c .before .before .before .before .before .before .args .characters)) (c .before .before .before .before .before .before .args .t5) (c .before .before .before .before .before .before .args .x)
+copied : (c : tie.After-row-of) →
+    let args = c .before .before .before .before .before .before .args in
+    take (getD (args .t5) (c .before .before .before .lowest-variable .result) 0) (c .row-of .result)
+    ≡ completed (args .s .n) (args .s .p) (args .labels) (natAbs (modelValue (numbered (args .s)) (now (args .model)) len (args .x)))
+    (now (args .characters)) (args .t5) (args .x)
 copied c =
     let s = c .before .before .before .before .before .before .args in
     let cs = now (s .characters) in
@@ -40,16 +45,21 @@ copied c =
     ∙ sym (completed-copied (s .s .n) (s .s .p) (s .labels) _ cs (s .t5) (s .x) (sized-none _ _ (c .before .before .before .before .if1 .left)) (omega arith))
 
 -- the first string that is not given
-new : (c : tie.After-fresh) → take (c .before .before .magnitude .result) (c .fresh .result)
-    ≡ completed (c .before .before .before .before .before .before .before .before .args .s .n) (c .before .before .before .before .before .before .before .before .args .s .p) (c .before .before .before .before .before .before .before .before .args .labels) (natAbs (modelValue (numbered (c .before .before .before .before .before .before .before .before .args .s)) (now (c .before .before .before .before .before .before .before .before .args .model)) len (c .before .before .before .before .before .before .before .before .args .x))) (now (c .before .before .before .before .before .before .before .before .args .characters)) (c .before .before .before .before .before .before .before .before .args .t5) (c .before .before .before .before .before .before .before .before .args .x)
+new : (c : tie.After-fresh) →
+    let args = c .before .before .before .before .before .before .before .before .args in
+    take (c .before .before .magnitude .result) (c .fresh .result)
+    ≡ completed (args .s .n) (args .s .p) (args .labels) (natAbs (modelValue (numbered (args .s)) (now (args .model)) len (args .x)))
+    (now (args .characters)) (args .t5) (args .x)
 new c =
+    let lowest-variable = c .before .before .before .before .before .lowest-variable in
+    let if1 = c .before .before .before .before .before .before .if1 in
     let s = c .before .before .before .before .before .before .before .before .args in
     let cs = now (s .characters) in
-    let e : c .before .before .before .before .before .lowest-variable .result ≡ lowestVariable (s .labels) (s .x) = c .before .before .before .before .before .lowest-variable .ensures in
-    let k : s .x ≤ c .before .before .before .before .before .lowest-variable .result = c .before .before .before .before .if2 .left in
+    let e : lowest-variable .result ≡ lowestVariable (s .labels) (s .x) = lowest-variable .ensures in
+    let k : s .x ≤ lowest-variable .result = c .before .before .before .before .if2 .left in
     c .fresh .ensures
     ∙ ap (λ (m : ℕ). freshFrom (s .s .p) (s .s .n) m (givenStrings cs (s .t5) (s .s .p)) 0) (size-is (c .before .before))
-    ∙ sym (completed-fresh (s .s .n) (s .s .p) (s .labels) _ cs (s .t5) (s .x) (sized-none _ _ (c .before .before .before .before .before .before .if1 .left)) (omega arith))
+    ∙ sym (completed-fresh (s .s .n) (s .s .p) (s .labels) _ cs (s .t5) (s .x) (sized-none _ _ (if1 .left)) (omega arith))
 
 mul-own : tie.Need-mul-own
 mul-own c = search needs
@@ -63,7 +73,8 @@ returns c =
     let cs = now (s .characters) in
     let own = getD (s .t5) (s .x) 0 in
     let h : own ≤ 64 = c .if1 .taken in
-    let r : row cs (s .x) own ≡ completed (s .s .n) (s .s .p) (s .labels) (natAbs (modelValue (numbered (s .s)) (now (s .model)) len (s .x))) cs (s .t5) (s .x) =
+    let r : row cs (s .x) own
+    ≡ completed (s .s .n) (s .s .p) (s .labels) (natAbs (modelValue (numbered (s .s)) (now (s .model)) len (s .x))) cs (s .t5) (s .x) =
     sym (completed-own (s .s .n) (s .s .p) (s .labels) _ cs (s .t5) (s .x) (row cs (s .x) own) (sized-some own (drop (lengthLimit * s .x) cs) h)) in (
       sym (ap (λ (w : List ℕ). sets cs (lengthLimit * s .x) w) (sym r) ∙ row-again cs (s .x) own h (omega arith)),
       (sym (length-row cs (s .x) own h (omega arith)) ∙ ap length r, h),

@@ -18,7 +18,8 @@ use Rattle.strings.proofs.fill_character.Tie as tie
 
 -- the test of the length
 single : (c : tie.After-equal) → c .equal .result ≡ eqℤ (c .before .before .args .len) (pos 1)
-single c = equal-read (c .equal .result) (c .before .before .args .len) (pos 1) (c .before .before .fits .len) (record { sfits = omega arith }) (c .equal .ensures)
+single c =
+    equal-read (c .equal .result) (c .before .before .args .len) (pos 1) (c .before .before .fits .len) (record { sfits = omega arith }) (c .equal .ensures)
 
 equal-requires : tie.Need-equal-requires
 equal-requires c κs = search needs

@@ -25,22 +25,31 @@ use Rattle.strings.proofs.fill_fixed.Statement.{statement}
 use Rattle.strings.proofs.fill_fixed.Tie as tie
 
 -- the literal that was found
-found-is : (c : tie.After-known-told) → literalIn (asked (now (c .before .before .before .before .before .before .before .args .ticket)) (c .before .before .before .before .before .before .before .args .s)) (c .before .before .before .before .before .before .before .args .labels) (c .before .before .before .before .before .before .before .args .x) ≡ some (c .before .found .given .0 .0)
+found-is : (c : tie.After-known-told) →
+    let args = c .before .before .before .before .before .before .before .args in
+    literalIn (asked (now (args .ticket)) (args .s)) (args .labels) (args .x) ≡ some (c .before .found .given .0 .0)
 unfolding literalOf
 found-is c =
     let s = c .before .before .before .before .before .before .before .args in
     literal-in (now (s .ticket)) (s .s) (s .labels) (s .x) ∙ sym (c .before .before .before .class-literal .ensures) ∙ ap literalOf (c .before .found .given .1)
 
 -- it is one of the question's
-within : (c : tie.After-known-told) → c .before .found .given .0 .0 ≤ c .before .before .before .before .before .before .before .args .s .literals
+within : (c : tie.After-known-told) →
+    let args = c .before .before .before .before .before .before .before .args in
+    c .before .found .given .0 .0 ≤ args .s .literals
 within c =
     let s = c .before .before .before .before .before .before .before .args in
     literal-known (now (s .ticket)) (s .s) (s .labels) (s .x) (c .before .found .given .0 .0) (found-is c)
 
 -- its text was found
-text-is : (c : tie.After-literal-text) → u32s (now (c .before .before .before .before .before .before .before .before .args .ticket)) (c .literal-text .result .at) (c .literal-text .result .count) ≡ literal (asked (now (c .before .before .before .before .before .before .before .before .args .ticket)) (c .before .before .before .before .before .before .before .before .args .s)) (c .before .before .found .given .0 .0)
+text-is : (c : tie.After-literal-text) →
+    let args = c .before .before .before .before .before .before .before .before .args in
+    u32s (now (args .ticket)) (c .literal-text .result .at) (c .literal-text .result .count)
+    ≡ literal (asked (now (args .ticket)) (args .s)) (c .before .before .found .given .0 .0)
 unfolding asked
-text-is c = c .literal-text .ensures .1 (c .before .before .before .before .before .before .before .before .args .s .literals) (within (c .before))
+text-is c =
+    let args = c .before .before .before .before .before .before .before .before .args in
+    c .literal-text .ensures .1 (args .s .literals) (within (c .before))
 
 -- and has at most 64 characters
 short : (c : tie.After-literal-text) → c .literal-text .result .count ≤ 64
@@ -48,7 +57,12 @@ short c =
     let s = c .before .before .before .before .before .before .before .before in
     let b = now (s .args .ticket) in
     let r = c .literal-text .result in
-    omega (arith, literal-short b (s .args .s) (c .before .before .found .given .0 .0) (s .pre .0 .0 .posed) (within (c .before)), ap length (text-is c), length-u32s b (r .at) (r .count))
+    omega (
+      arith,
+      literal-short b (s .args .s) (c .before .before .found .given .0 .0) (s .pre .0 .0 .posed) (within (c .before)),
+      ap length (text-is c),
+      length-u32s b (r .at) (r .count),
+    )
 
 add-class-literal : tie.Need-add-class-literal
 add-class-literal c = search needs
@@ -81,7 +95,8 @@ value-of-requires-2 c κs = search needs
 fill-character-requires : tie.Need-fill-character-requires
 fill-character-requires c κs =
     let s = c .before .before .before .before .before .before .before .before .before in
-    let e : toZ w64 (ofZ w64 (c .before .value-of2 .result)) ≡ modelValue (numbered (s .args .s)) (now (s .args .model)) code (s .args .x) = toZ-ofZ (record { sfits = c .before .value-of2 .ok }) ∙ c .before .value-of2 .ensures in
+    let e : toZ w64 (ofZ w64 (c .before .value-of2 .result)) ≡ modelValue (numbered (s .args .s)) (now (s .args .model)) code (s .args .x) =
+    toZ-ofZ (record { sfits = c .before .value-of2 .ok }) ∙ c .before .value-of2 .ensures in
     (omega (arith, ap natAbs e, s .pre .1 (columnOf (numbered (s .args .s)) code (s .args .x))), s .pre .0 .2)
 
 same-length : tie.Need-same-length
@@ -102,12 +117,16 @@ same-length-2 c = search needs
 returns-2 : tie.Need-returns-2
 unfolding asked literalOf
 returns-2 c =
+    let value-of = c .before .before .before .before .before .value-of in
+    let enum-told-read = c .before .before .before .before .before .before .enum-told in
+    let class-literal = c .before .before .before .before .before .before .before .before .class-literal in
     let s = c .before .before .before .before .before .before .before .before .before .before .before .before .args in
     let b = now (s .ticket) in
     let e : literalIn (asked b (s .s)) (s .labels) (s .x) ≡ none =
-    literal-in b (s .s) (s .labels) (s .x) ∙ sym (c .before .before .before .before .before .before .before .before .class-literal .ensures) ∙ ap literalOf (c .before .before .before .before .before .before .enum-told .given .1) in
+    literal-in b (s .s) (s .labels) (s .x) ∙ sym (class-literal .ensures) ∙ ap literalOf (enum-told-read .given .1) in
     c .before .before .fill-character .ensures
-    ∙ ap₂ (λ (z w : ℤ). oneChar (eqℤ z (pos 1)) w) (toZ-ofZ (record { sfits = c .before .before .before .before .before .value-of .ok }) ∙ c .before .before .before .before .before .value-of .ensures) (toZ-ofZ (record { sfits = c .before .before .before .before .value-of2 .ok }) ∙ c .before .before .before .before .value-of2 .ensures)
+    ∙ ap₂ (λ (z w : ℤ). oneChar (eqℤ z (pos 1)) w) (toZ-ofZ (record { sfits = value-of .ok }) ∙ value-of .ensures)
+    (toZ-ofZ (record { sfits = c .before .before .before .before .value-of2 .ok }) ∙ c .before .before .before .before .value-of2 .ensures)
     ∙ sym (fixed-other (asked b (s .s)) (s .labels) (now (s .model)) (s .x) e)
 
 pub fill-fixed-spec : {M : Type 1} → statement M

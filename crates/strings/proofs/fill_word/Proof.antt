@@ -27,8 +27,14 @@ loop-holds : tie.Need-loop-holds Inv-loop μ-loop
 loop-holds c =
     let s = c .before .args in
     let z : now (s .row) ≡ replicate 64 0 = c .before .pre .0 in
-    let n : length (now (s .row)) ≡ 64 = ap length z in
-    (omega arith, omega arith, omega arith, n, ap (λ (l : List ℕ). take (s .m) l) z ∙ zeros (s .m) 64 (omega arith), digits-start (s .n) (s .m) (s .k) (now (s .row)) (omega arith))
+    let n : length (now (s .row)) ≡ 64 = ap length z in (
+      omega arith,
+      omega arith,
+      omega arith,
+      n,
+      ap (λ (l : List ℕ). take (s .m) l) z ∙ zeros (s .m) 64 (omega arith),
+      digits-start (s .n) (s .m) (s .k) (now (s .row)) (omega arith),
+    )
 
 returns-2 : tie.Need-returns-2 Inv-loop μ-loop
 returns-2 c =
@@ -80,8 +86,10 @@ element-write-row-2 c = search needs
 returns-3 : tie.Need-returns-3 Inv-loop μ-loop
 returns-3 c =
     let l = c .before .loop in
-    let s = c .before .before .before .args in
-    (digits-done (s .n) (s .m) (s .k) (l .i) (l .rest) (l .row) (omega arith) (omega arith) (omega arith) (omega arith) (l .inv .5), simp length-set (l .inv .3))
+    let s = c .before .before .before .args in (
+      digits-done (s .n) (s .m) (s .k) (l .i) (l .rest) (l .row) (omega arith) (omega arith) (omega arith) (omega arith) (l .inv .5),
+      simp length-set (l .inv .3),
+    )
 
 pub fill-word-spec : {M : Type 1} → statement M
 fill-word-spec =

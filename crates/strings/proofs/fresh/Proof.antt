@@ -16,7 +16,8 @@ use Rattle.strings.proofs.fresh.Statement.{statement}
 use Rattle.strings.proofs.fresh.Tie as tie
 
 abbrev Inv-loop : tie.InvT-loop
-Inv-loop characters sizes p n m k₀ k = (k ≤ p) × (freshFrom (p - k) n m (givenStrings characters sizes p) k ≡ freshFrom p n m (givenStrings characters sizes p) 0)
+Inv-loop characters sizes p n m k₀ k =
+    (k ≤ p) × (freshFrom (p - k) n m (givenStrings characters sizes p) k ≡ freshFrom p n m (givenStrings characters sizes p) 0)
 
 abbrev μ-loop : tie.MeasureT-loop
 μ-loop characters sizes p n m k₀ k = p - k
@@ -34,7 +35,10 @@ array-share-prefix-w : tie.Need-array-share-prefix-w Inv-loop μ-loop
 array-share-prefix-w c = let n : length (c .fill-word .last .0) ≡ 64 = c .fill-word .ensures .1 in omega arith
 
 slice-aggregate-is-given : tie.Need-slice-aggregate-is-given Inv-loop μ-loop
-slice-aggregate-is-given c = let n : length (c .before .fill-word .last .0) ≡ 64 = c .before .fill-word .ensures .1 in sym (length-take-le (c .before .before .before .before .before .before .args .m) (c .before .fill-word .last .0) (omega arith))
+slice-aggregate-is-given c =
+    let args = c .before .before .before .before .before .before .args in
+    let n : length (c .before .fill-word .last .0) ≡ 64 = c .before .fill-word .ensures .1 in
+    sym (length-take-le (args .m) (c .before .fill-word .last .0) (omega arith))
 
 is-given-requires : tie.Need-is-given-requires Inv-loop μ-loop
 is-given-requires c κs = search needs
@@ -44,7 +48,10 @@ returns c =
     let l = c .before .before .before .before .before .before .loop in
     let s = c .before .before .before .before .before .before .before .before .args in
     let g = givenStrings (now (s .characters)) (s .sizes) (s .p) in
-    let e : given (word (s .n) (s .m) (l .k)) g ≡ false = ap (λ (w : List ℕ). given w g) (sym (c .before .before .before .fill-word .ensures .0)) ∙ sym (c .before .is-given .ensures) ∙ not-true _ (c .if1 .taken) in
+    let e : given (word (s .n) (s .m) (l .k)) g ≡ false =
+    ap (λ (w : List ℕ). given w g) (sym (c .before .before .before .fill-word .ensures .0))
+    ∙ sym (c .before .is-given .ensures)
+    ∙ not-true _ (c .if1 .taken) in
     c .before .before .before .fill-word .ensures .0 ∙ sym (fresh-yes (s .n) (s .m) g (l .k) (s .p - l .k) e) ∙ l .inv .1
 
 add-k : tie.Need-add-k Inv-loop μ-loop
@@ -58,7 +65,10 @@ loop-again c =
     let l = c .before .before .before .before .before .before .loop in
     let s = c .before .before .before .before .before .before .before .before .args in
     let g = givenStrings (now (s .characters)) (s .sizes) (s .p) in
-    let e : given (word (s .n) (s .m) (l .k)) g ≡ true = ap (λ (w : List ℕ). given w g) (sym (c .before .before .before .fill-word .ensures .0)) ∙ sym (c .before .is-given .ensures) ∙ not-false _ (c .if1 .left) in
+    let e : given (word (s .n) (s .m) (l .k)) g ≡ true =
+    ap (λ (w : List ℕ). given w g) (sym (c .before .before .before .fill-word .ensures .0))
+    ∙ sym (c .before .is-given .ensures)
+    ∙ not-false _ (c .if1 .left) in
     let less : s .p - (l .k + 1) ≡ s .p - l .k - 1 = omega arith in
     (omega arith, ap (λ (d : ℕ). freshFrom d (s .n) (s .m) g (l .k + 1)) less ∙ sym (fresh-no (s .n) (s .m) g (l .k) (s .p - l .k) (omega arith) e) ∙ l .inv .1)
 

@@ -18,7 +18,10 @@ no-number y h = absurd (omega arith)
 
 abbrev Inv-loop : tie.InvT-loop
 Inv-loop ticket model s labels characters₀ sizes₀ x₀ characters sizes x =
-    (x ≤ s .p) × (length characters ≡ length characters₀) × (length sizes ≡ 16) × ((y : ℕ) → y < x → stringIn characters sizes y ≡ fixedAt (asked ticket s) labels model y)
+    (x ≤ s .p)
+    × (length characters ≡ length characters₀)
+    × (length sizes ≡ 16)
+    × ((y : ℕ) → y < x → stringIn characters sizes y ≡ fixedAt (asked ticket s) labels model y)
 
 abbrev μ-loop : tie.MeasureT-loop
 μ-loop ticket model s labels characters₀ sizes₀ x₀ characters sizes x = s .p - x
@@ -67,9 +70,11 @@ loop-again c =
     let v = r .last .1 .1 .1 .1 .1 .0 in
     let at = 64 * l .x in
     let room : at + (at + 64 - at) ≤ length (l .characters) = omega arith in
-    let part : length (take (at + 64 - at) (drop at (l .characters))) ≡ at + 64 - at = length-take-le (at + 64 - at) (drop at (l .characters)) (rw length-drop (omega arith)) in
+    let part : length (take (at + 64 - at) (drop at (l .characters))) ≡ at + 64 - at =
+    length-take-le (at + 64 - at) (drop at (l .characters)) (rw length-drop (omega arith)) in
     let n : length v ≡ at + 64 - at = r .kept .1 .1 .1 .1 .1 .0 ∙ part in
-    let p : take at (l .characters) ++ (v ++ drop (at + 64 - at) (drop at (l .characters))) ≡ sets (l .characters) at v = part-stored (l .characters) v at (at + 64 - at) n room in (
+    let p : take at (l .characters) ++ (v ++ drop (at + 64 - at) (drop at (l .characters))) ≡ sets (l .characters) at v =
+    part-stored (l .characters) v at (at + 64 - at) n room in (
       omega arith,
       ap length p ∙ length-sets (l .characters) at v ∙ l .inv .1,
       simp length-set (l .inv .2),

@@ -33,7 +33,8 @@ loop-holds : tie.Need-loop-holds Inv-loop μ-loop
 unfolding asked
 loop-holds c =
     let s = c .before .before .before .before .before .before in
-    let k : length (c .before .before .give-fixed .last .1 .1 .1 .1 .0) ≡ length (now (s .args .characters)) = c .before .before .give-fixed .kept .1 .1 .1 .1 .0 in (
+    let k : length (c .before .before .give-fixed .last .1 .1 .1 .1 .0) ≡ length (now (s .args .characters)) =
+    c .before .before .give-fixed .kept .1 .1 .1 .1 .0 in (
       omega arith,
       s .pre .0 .0 .posed .stands .few-strings,
       omega (arith, s .pre .0 .1),
@@ -57,8 +58,9 @@ mul-sizes c = search needs
 
 array-write-sizes : tie.Need-array-write-sizes Inv-loop μ-loop
 array-write-sizes c =
+    let args = c .before .before .before .before .before .before .before .before .before .before .before .before .before .args in
     let l = c .before .before .before .before .before .before .loop in
-    let h : l .x < c .before .before .before .before .before .before .before .before .before .before .before .before .before .args .s .p = c .before .before .before .before .if1 .taken in
+    let h : l .x < args .s .p = c .before .before .before .before .if1 .taken in
     omega (arith, l .inv .1)
 
 add-x : tie.Need-add-x Inv-loop μ-loop
@@ -92,7 +94,9 @@ loop-again c =
     )
 
 same-length : tie.Need-same-length Inv-loop μ-loop
-same-length c = c .before .before .loop .inv .3 ∙ c .before .before .before .before .before .give-fixed .kept .1 .1 .1 .1 .0
+same-length c =
+    let give-fixed = c .before .before .before .before .before .give-fixed in
+    c .before .before .loop .inv .3 ∙ give-fixed .kept .1 .1 .1 .1 .0
 
 returns : tie.Need-returns Inv-loop μ-loop
 unfolding asked

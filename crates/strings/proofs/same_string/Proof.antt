@@ -70,9 +70,10 @@ loop-less c = search needs
 
 loop-again : tie.Need-loop-again Inv-loop μ-loop
 loop-again c =
+    let args = c .before .before .before .before .before .before .before .before .before .args in
     let l = c .before .before .before .loop in
-    let a = now (c .before .before .before .before .before .before .before .before .before .args .s) in
-    let b = now (c .before .before .before .before .before .before .before .before .before .args .t) in (
+    let a = now (args .s) in
+    let b = now (args .t) in (
       omega arith,
       and-assoc (l .same) (eqb (getD a (l .i) 0) (getD b (l .i) 0)) (eqString (drop (l .i + 1) a) (drop (l .i + 1) b))
           ∙ ap (λ (t : Bool). l .same && t) (sym (same-more a b (l .i) (omega arith) (omega arith)))

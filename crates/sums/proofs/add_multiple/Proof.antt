@@ -36,7 +36,9 @@ module _ (c : tie.After-x Inv-loop μ-loop) where
   x = getD (now (c .before .before .before .before .args .row)) (c .before .before .before .loop .j) (pos 0)
 
   was : z ≡ getD (now (c .before .before .before .before .args .sum)) (c .before .before .before .loop .j) (pos 0)
-  was = kept-at (c .before .before .before .loop .sum) (now (c .before .before .before .before .args .sum)) (c .before .before .before .loop .j) (pos 0) (c .before .before .before .loop .inv .4)
+  was =
+      kept-at (c .before .before .before .loop .sum) (now (c .before .before .before .before .args .sum)) (c .before .before .before .loop .j) (pos 0)
+      (c .before .before .before .loop .inv .4)
 
   hz : natAbs z ≤ 7000000000000000000
   hz = subst (λ (y : ℤ). natAbs y ≤ 7000000000000000000) (sym was) (c .before .before .before .before .pre .1 .1 .1 (c .before .before .before .loop .j))
@@ -45,7 +47,9 @@ module _ (c : tie.After-x Inv-loop μ-loop) where
   hm = c .before .before .before .before .pre .1 .0
 
   hx : natAbs x ≤ 1000000000
-  hx = behind-tag (now (c .before .before .before .before .args .row)) (c .before .before .before .loop .j) (c .before .before .before .before .pre .0 .1) (omega arith)
+  hx =
+      behind-tag (now (c .before .before .before .before .args .row)) (c .before .before .before .loop .j) (c .before .before .before .before .pre .0 .1)
+      (omega arith)
 
   fz : SFits w64 z
   fz = let h = hz in small-fits z (omega arith)
@@ -74,7 +78,8 @@ mul-sum : tie.Need-mul-sum Inv-loop μ-loop
 mul-sum c = product-fits (z c) (m c) (x c) _ _ _ (hz c) (hm c) (hx c) (c .before .before .before .before .fits .multiplier) (fx c) (omega arith)
 
 add-sum : tie.Need-add-sum Inv-loop μ-loop
-add-sum c = rw (toZ-ofZ (fz c)) (step-fits (z c) (m c) (x c) _ _ _ (hz c) (hm c) (hx c) (c .before .before .before .before .fits .multiplier) (fx c) (omega arith))
+add-sum c =
+    rw (toZ-ofZ (fz c)) (step-fits (z c) (m c) (x c) _ _ _ (hz c) (hm c) (hx c) (c .before .before .before .before .fits .multiplier) (fx c) (omega arith))
 
 mul-t8 : tie.Need-mul-t8 Inv-loop μ-loop
 mul-t8 c = search needs
@@ -100,7 +105,9 @@ loop-again c =
       omega arith,
       simp length-set (l .inv .2),
       filled-more (l .sum) _ (l .j) _ (pos 0) (omega arith) (omega arith) (l .inv .3)
-          (new ∙ ap (λ (y : ℤ). y +ℤ m c *ℤ x c) (was c) ∙ ap (λ (y : ℤ). getD (now (s .args .sum)) (l .j) (pos 0) +ℤ y *ℤ x c) (sym (toZ-ofZ (s .fits .multiplier)))
+          (new
+          ∙ ap (λ (y : ℤ). y +ℤ m c *ℤ x c) (was c)
+          ∙ ap (λ (y : ℤ). getD (now (s .args .sum)) (l .j) (pos 0) +ℤ y *ℤ x c) (sym (toZ-ofZ (s .fits .multiplier)))
           ∙ sym (added-number (now (s .args .sum)) (toZ w64 (ofZ w64 (s .args .multiplier))) (now (s .args .row)) (l .j) n (omega arith))),
       kept-more (l .sum) (now (s .args .sum)) (l .j) _ (l .inv .4),
     )

@@ -19,7 +19,8 @@ use Rattle.calculus.specs.Rules.{divided}
 use Rattle.integers.proofs.Machine.{back-fits, div-need}
 use Rattle.lists.proofs.Filled.{filled-all, filled-more, kept-at, kept-more}
 use Rattle.rows.proofs.Tested.{eqIntegers-done, eqIntegers-fails, eqIntegers-on, eqℤ-no, eqℤ-yes}
-use Rattle.sums.proofs.Division.{divided-no, divided-yes, exact-no, exact-yes, length-multiples, length-partly, multiple-number, multiples, partly, partly-constant, partly-first, partly-number, partly-whole, positive-is}
+use Rattle.sums.proofs.Division.{divided-no, divided-yes, exact-no, exact-yes, length-multiples, length-partly, multiple-number}
+use Rattle.sums.proofs.Division.{multiples, partly, partly-constant, partly-first, partly-number, partly-whole, positive-is}
 use Rattle.sums.specs.Sums.{geRow, rowIn}
 use Rattle.sums.proofs.divide.Statement.{statement}
 use Rattle.sums.proofs.divide.Tie as tie
@@ -100,7 +101,8 @@ module _ (c : tie.After-loop Inv-loop μ-loop) where
       filled-all (l .row) (partly row (n (c .before .before))) (l .j) (omega arith) (omega arith) (l .inv .3)
 
   exit-constant : getD (c .before .loop .row) 1 (pos 0) ≡ getD (now (c .before .before .args .row)) 1 (pos 0)
-  exit-constant = ap (λ (l : List ℤ). getD l 1 (pos 0)) exit ∙ partly-constant (now (c .before .before .args .row)) (n (c .before .before)) (c .before .before .pre .1)
+  exit-constant =
+      ap (λ (l : List ℤ). getD l 1 (pos 0)) exit ∙ partly-constant (now (c .before .before .args .row)) (n (c .before .before)) (c .before .before .pre .1)
 
 loop-holds : tie.Need-loop-holds Inv-loop μ-loop
 loop-holds c = (omega arith, omega arith, c .pre .1, partly-first (now (c .args .row)) (n c) (c .pre .1), refl, refl)
@@ -128,8 +130,10 @@ returns c =
     let h = s p .pre .1 in
     let g = length-multiples (row p) (k p) in
     let e = eqℤ-no (getD (multiples (row p) (k p)) (l .j) (pos 0)) (getD (row p) (l .j) (pos 0))
-    (λ e. exact-no (x p) (k p) (bound (s p)) (inexact c) (ap (λ (z : ℤ). pos (k p) *ℤ floorDiv z (k p)) (was p) ∙ sym (multiple-number (row p) (k p) (l .j) (omega arith)) ∙ e ∙ sym (was p))) in
-    let f : eqIntegers (drop 2 (multiples (row p) (k p))) (drop 2 (row p)) ≡ false = sym (l .inv .5) ∙ eqIntegers-fails (multiples (row p) (k p)) (row p) (l .j) (omega arith) (omega arith) e in
+    (λ e. exact-no (x p) (k p) (bound (s p)) (inexact c)
+    (ap (λ (z : ℤ). pos (k p) *ℤ floorDiv z (k p)) (was p) ∙ sym (multiple-number (row p) (k p) (l .j) (omega arith)) ∙ e ∙ sym (was p))) in
+    let f : eqIntegers (drop 2 (multiples (row p) (k p))) (drop 2 (row p)) ≡ false =
+    sym (l .inv .5) ∙ eqIntegers-fails (multiples (row p) (k p)) (row p) (l .j) (omega arith) (omega arith) e in
     sym (ap (λ (d : ℤ). geRow (divided (natAbs d) (drop 1 (row p)))) (sym (plain (s p))) ∙ ap geRow (divided-no (row p) (k p) h f))
 
 mul-q : tie.Need-mul-q Inv-loop μ-loop
@@ -184,7 +188,8 @@ returns-2 c =
     let h = s .pre .1 in
     let m = n s in
     let g = length-multiples row m in
-    let f : eqIntegers (drop 2 (multiples row m)) (drop 2 row) ≡ true = sym (l .inv .5) ∙ eqIntegers-done (multiples row m) row (l .j) (omega arith) (omega arith) in
+    let f : eqIntegers (drop 2 (multiples row m)) (drop 2 row) ≡ true =
+    sym (l .inv .5) ∙ eqIntegers-done (multiples row m) row (l .j) (omega arith) (omega arith) in
     let fc : SFits w64 (getD (l .row) 1 (pos 0)) = record { sfits = c .before .c .given } in
     let fq : SFits w64 (c .floor-div .result) = record { sfits = c .floor-div .ok } in
     let q : toZ w64 (ofZ w64 (c .floor-div .result)) ≡ floorDiv (getD row 1 (pos 0)) m =

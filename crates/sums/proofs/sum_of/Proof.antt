@@ -22,7 +22,8 @@ use Rattle.format.specs.Fields.{i32, pairsAt, u16, allWithin}
 use Rattle.rows.proofs.Branches.{length-row}
 use Rattle.rows.specs.Rows.{branchOf, factOf, rowAt}
 use Rattle.sums.proofs.Division.{tag-first}
-use Rattle.sums.proofs.Summing.{Summing, multiplier-small, row-small, summing-absent, summing-all, summing-done, summing-misfit, summing-more, summing-start}
+use Rattle.sums.proofs.Summing.{Summing, multiplier-small, row-small, summing-absent, summing-all}
+use Rattle.sums.proofs.Summing.{summing-done, summing-misfit, summing-more, summing-start}
 use Rattle.sums.proofs.Totals.{sumFrom}
 use Rattle.sums.specs.Sums.{added, geRow, rowIn}
 use Rattle.sums.proofs.sum_of.Statement.{statement}
@@ -37,13 +38,17 @@ abbrev μ-loop : tie.MeasureT-loop
 -- the pair read
 module _ (c : tie.After-i32-at Inv-loop μ-loop) where
   abbrev w : List ℤ
-  w = now (c .before .before .before .before .before .args .work)
+  w =
+      let args = c .before .before .before .before .before .args in
+      now (args .work)
 
   abbrev count : ℕ
   count = c .before .before .before .before .before .args .count
 
   abbrev b : List ℕ
-  b = now (c .before .before .before .before .before .args .b)
+  b =
+      let args = c .before .before .before .before .before .args in
+      now (args .b)
 
   abbrev at' : ℕ
   at' = c .before .before .before .before .before .args .at
@@ -68,7 +73,9 @@ module _ (c : tie.After-i32-at Inv-loop μ-loop) where
 
   -- where there is no sum
   nothing : sumFrom (branchOf w count) (zeros 49) (pairsAt b at' n) ≡ none → none ≡ geRow (sumOf (branchOf w count) (pairsAt b at' n))
-  nothing e = sym (ap geRow (sym (summing-all w count b at' n (c .before .before .before .before .before .pre .1 .1 .1) (c .before .before .before .before .before .pre .1 .0 .0)) ∙ e))
+  nothing e =
+      let pre = c .before .before .before .before .before .pre in
+      sym (ap geRow (sym (summing-all w count b at' n (pre .1 .1 .1) (pre .1 .0 .0)) ∙ e))
 
 -- the row named and its test
 module _ (c : tie.After-row-at Inv-loop μ-loop) where
@@ -79,12 +86,22 @@ module _ (c : tie.After-row-at Inv-loop μ-loop) where
   row-is = c .row-at .ensures ∙ ap (rowAt (w (c .before .before))) (fact-is (c .before .before))
 
   long : length (rowAt (w (c .before .before)) (fact (c .before .before))) ≡ 50
-  long = let f = c .before .before .before .before .before .before .before .pre .1 .1 .1 in let few = f .few in let room = f .room in let h = on-branch in length-row (w (c .before .before)) (fact (c .before .before)) (omega arith)
+  long =
+      let f = c .before .before .before .before .before .before .before .pre .1 .1 .1 in
+      let few = f .few in
+      let room = f .room in
+      let h = on-branch in
+      length-row (w (c .before .before)) (fact (c .before .before)) (omega arith)
 
-test : (c : tie.After-takes Inv-loop μ-loop) → c .takes .result ≡ fits (summand (multiplier (c .before .before .before)) (factOf (rowAt (w (c .before .before .before)) (fact (c .before .before .before)))))
+test : (c : tie.After-takes Inv-loop μ-loop)
+    → c .takes .result
+    ≡ fits (summand (multiplier (c .before .before .before)) (factOf (rowAt (w (c .before .before .before)) (fact (c .before .before .before)))))
 test c = c .takes .ensures ∙ ap₂ (λ (m : ℤ) (r : List ℤ). fits (summand m (factOf r))) (multiplier-is (c .before .before .before)) (row-is (c .before))
 
-passed : (c : tie.Else2 Inv-loop μ-loop) → fits (summand (multiplier (c .before .before .before .before)) (factOf (rowAt (w (c .before .before .before .before)) (fact (c .before .before .before .before))))) ≡ true
+passed : (c : tie.Else2 Inv-loop μ-loop)
+    → fits (summand (multiplier (c .before .before .before .before))
+    (factOf (rowAt (w (c .before .before .before .before)) (fact (c .before .before .before .before)))))
+    ≡ true
 passed c = sym (test (c .before)) ∙ not-false _ (c .if2 .left)
 
 loop-holds : tie.Need-loop-holds Inv-loop μ-loop
@@ -109,42 +126,58 @@ i32-at-requires : tie.Need-i32-at-requires Inv-loop μ-loop
 i32-at-requires c κs = search needs
 
 same-length : tie.Need-same-length Inv-loop μ-loop
-same-length c = c .before .before .before .before .loop .inv .long ∙ sym (ap length (c .before .before .before .before .before .before .pre .0))
+same-length c =
+    let pre = c .before .before .before .before .before .before .pre in
+    c .before .before .before .before .loop .inv .long ∙ sym (ap length (pre .0))
 
 returns : tie.Need-returns Inv-loop μ-loop
 unfolding rowIn
 returns c =
     let p = c .before in
-    nothing p (summing-absent (w p) (count p) (b p) (at' p) (n p) (c .before .before .before .before .loop .sum) (i p) (c .before .before .before .before .loop .inv) (c .before .before .before .loop-test .taken) (subst (λ (k : ℕ). count p ≤ k) (fact-is p) (c .if1 .taken)))
+    nothing p (summing-absent (w p) (count p) (b p) (at' p) (n p) (c .before .before .before .before .loop .sum) (i p)
+    (c .before .before .before .before .loop .inv) (c .before .before .before .loop-test .taken)
+    (subst (λ (k : ℕ). count p ≤ k) (fact-is p) (c .if1 .taken)))
 
 row-at-requires : tie.Need-row-at-requires Inv-loop μ-loop
-row-at-requires c κs = let f = c .before .before .before .before .before .before .pre .1 .1 .1 in let few = f .few in let room = f .room in (omega arith, omega arith)
+row-at-requires c κs =
+    let f = c .before .before .before .before .before .before .pre .1 .1 .1 in
+    let few = f .few in
+    let room = f .room in
+    (omega arith, omega arith)
 
 takes-requires : tie.Need-takes-requires Inv-loop μ-loop
 takes-requires c κs = ap length (row-is c) ∙ long c
 
 same-length-2 : tie.Need-same-length-2 Inv-loop μ-loop
-same-length-2 c = c .before .before .before .before .before .before .before .loop .inv .long ∙ sym (ap length (c .before .before .before .before .before .before .before .before .before .pre .0))
+same-length-2 c =
+    let loop = c .before .before .before .before .before .before .before .loop in
+    let pre = c .before .before .before .before .before .before .before .before .before .pre in
+    loop .inv .long ∙ sym (ap length (pre .0))
 
 returns-2 : tie.Need-returns-2 Inv-loop μ-loop
 unfolding rowIn
 returns-2 c =
+    let loop-test = c .before .before .before .before .before .before .loop-test in
+    let loop = c .before .before .before .before .before .before .before .loop in
     let p = c .before .before .before .before in
-    nothing p (summing-misfit (w p) (count p) (b p) (at' p) (n p) (c .before .before .before .before .before .before .before .loop .sum) (i p) (c .before .before .before .before .before .before .before .loop .inv) (c .before .before .before .before .before .before .loop-test .taken) (on-branch (c .before .before)) (sym (test (c .before)) ∙ not-true _ (c .if2 .taken)))
+    nothing p (summing-misfit (w p) (count p) (b p) (at' p) (n p) (loop .sum) (i p) (loop .inv) (loop-test .taken) (on-branch (c .before .before))
+    (sym (test (c .before)) ∙ not-true _ (c .if2 .taken)))
 
 add-multiple-requires : tie.Need-add-multiple-requires Inv-loop μ-loop
 add-multiple-requires c κs =
+    let loop = c .before .before .before .before .before .before .before .before .loop in
+    let pre = c .before .before .before .before .before .before .before .before .before .before .pre in
     let p = c .before .before .before .before .before in
-    let s = c .before .before .before .before .before .before .before .before .loop .inv in
+    let s = loop .inv in
     let h = c .before .before .before .before .before .before .before .loop-test .taken in (
       (
         ap length (row-is (c .before .before .before)) ∙ long (c .before .before .before),
         ap (λ (r : List ℤ). allWithin numberLimit (drop 1 r)) (row-is (c .before .before .before))
-            ∙ row-small (w p) (count p) (b p) (at' p) (n p) (c .before .before .before .before .before .before .before .before .loop .sum) (i p) s h (on-branch (c .before .before .before)) (c .before .before .before .before .before .before .before .before .before .before .pre .1 .1 .1) (passed (c .before)),
+            ∙ row-small (w p) (count p) (b p) (at' p) (n p) (loop .sum) (i p) s h (on-branch (c .before .before .before)) (pre .1 .1 .1) (passed (c .before)),
       ),
       (
-        subst (λ (m : ℤ). natAbs m ≤ 1000000000) (sym (multiplier-is p)) (multiplier-small (w p) (count p) (b p) (at' p) (n p) (c .before .before .before .before .before .before .before .before .loop .sum) (i p) s h),
-        (s .long, λ j. let k = s .small j in let few = c .before .before .before .before .before .before .before .before .before .before .pre .1 .0 .1 in le-trans k (omega arith)),
+        subst (λ (m : ℤ). natAbs m ≤ 1000000000) (sym (multiplier-is p)) (multiplier-small (w p) (count p) (b p) (at' p) (n p) (loop .sum) (i p) s h),
+        (s .long, λ j. let k = s .small j in let few = pre .1 .0 .1 in le-trans k (omega arith)),
       ),
     )
 
@@ -156,13 +189,17 @@ loop-less c = search needs
 
 loop-again : tie.Need-loop-again Inv-loop μ-loop
 loop-again c =
+    let after-row-at = c .before .before .before .before .before in
+    let loop = after-row-at .before .before .before .before .before .loop in
+    let pre = after-row-at .before .before .before .before .before .before .before .pre in
     let p = c .before .before .before .before .before .before .before in
-    let s = c .before .before .before .before .before .before .before .before .before .before .loop .inv in
+    let s = loop .inv in
     let h = c .before .before .before .before .before .before .before .before .before .loop-test .taken in
-    let e : c .before .add-multiple .last .0 ≡ added (c .before .before .before .before .before .before .before .before .before .before .loop .sum) (multiplier p) (rowAt (w p) (fact p)) =
-    c .before .add-multiple .ensures ∙ ap₂ (λ (m : ℤ) (r : List ℤ). added (c .before .before .before .before .before .before .before .before .before .before .loop .sum) m r) (multiplier-is p) (row-is (c .before .before .before .before .before)) in
+    let e : c .before .add-multiple .last .0 ≡ added (loop .sum) (multiplier p) (rowAt (w p) (fact p)) =
+    c .before .add-multiple .ensures ∙ ap₂ (λ (m : ℤ) (r : List ℤ). added (loop .sum) m r) (multiplier-is p) (row-is after-row-at) in
     subst (λ (l : List ℤ). Summing (w p) (count p) (b p) (at' p) (n p) l (i p + 1)) (sym e)
-    (summing-more (w p) (count p) (b p) (at' p) (n p) (c .before .before .before .before .before .before .before .before .before .before .loop .sum) (i p) s h (on-branch (c .before .before .before .before .before)) (c .before .before .before .before .before .before .before .before .before .before .before .before .pre .1 .1 .1) (passed (c .before .before .before)) (long (c .before .before .before .before .before)))
+    (summing-more (w p) (count p) (b p) (at' p) (n p) (loop .sum) (i p) s h (on-branch after-row-at) (pre .1 .1 .1) (passed (c .before .before .before))
+    (long after-row-at))
 
 same-length-3 : tie.Need-same-length-3 Inv-loop μ-loop
 same-length-3 c = c .before .loop .inv .long ∙ sym (ap length (c .before .before .before .pre .0))

@@ -29,7 +29,9 @@ module _ (c : tie.After-sum-of) where
   row = c .sum-of .last .0
 
   abbrev total : Option (List ℤ)
-  total = sumOf (branchOf (now (c .before .before .before .args .work)) (c .before .before .before .args .count)) (pairsAt (now (c .before .before .before .args .b)) (c .before .before .before .args .at) (c .before .before .before .args .pairs))
+  total =
+      sumOf (branchOf (now (c .before .before .before .args .work)) (c .before .before .before .args .count))
+      (pairsAt (now (c .before .before .before .args .b)) (c .before .before .before .args .at) (c .before .before .before .args .pairs))
 
   long : length row ≡ 50
   long = c .sum-of .kept .0 ∙ ap length (c .before .before .before .pre .0)
@@ -72,8 +74,11 @@ cast-divide c = search needs
 
 divide-requires : tie.Need-divide-requires
 divide-requires c κs =
-    let s = c .before .before .before .before .before .before .before in
-    (rw (toZ-pos w64 {n = s .args .divisor} (omega arith)) (pos-≤ℤ (s .pre .1 .1 .0 .0)), long (c .before .before .before .before), summed (c .before .before) .1)
+    let s = c .before .before .before .before .before .before .before in (
+      rw (toZ-pos w64 {n = s .args .divisor} (omega arith)) (pos-≤ℤ (s .pre .1 .1 .0 .0)),
+      long (c .before .before .before .before),
+      summed (c .before .before) .1,
+    )
 
 same-length-3 : tie.Need-same-length-3
 same-length-3 c = search needs
@@ -81,13 +86,15 @@ same-length-3 c = search needs
 returns-3 : tie.Need-returns-3
 unfolding sumFact
 returns-3 c =
+    let after-sum-of = c .before .before .before .before .before .before in
     let s = c .before .before .before .before .before .before .before .before .before in
-    let r = row (c .before .before .before .before .before .before) in
+    let r = row after-sum-of in
     let q = c .before .divide in
     let d : natAbs (toZ w64 (s .args .divisor)) ≡ s .args .divisor = ap natAbs (toZ-pos w64 {n = s .args .divisor} (omega arith)) in
     row-fact (q .result) (q .last .0) (divided (natAbs (toZ w64 (s .args .divisor))) (drop 1 r)) (q .ensures)
     ∙ ap (λ (k : ℕ). then (divided k (drop 1 r)) (λ e. some (arithmetic ge e))) d
-    ∙ sym (ap (λ (o : Option (List ℤ)). then o (λ r. then (divided (s .args .divisor) r) (λ e. some (arithmetic ge e)))) (summed (c .before .before .before .before) .0))
+    ∙ sym (ap (λ (o : Option (List ℤ)). then o (λ r. then (divided (s .args .divisor) r) (λ e. some (arithmetic ge e))))
+    (summed (c .before .before .before .before) .0))
 
 pub sum-row-spec : {M : Type 1} → statement M
 sum-row-spec =

@@ -40,7 +40,8 @@ returns-3 : tie.Need-returns-3
 returns-3 c =
     let s = c .before .before .before in
     let f = factOf (now (s .args .row)) in
-    sym (ap fits (no-summand (s .args .multiplier) f (λ e. c .before .if1 .left (c .before .before .tag-of .ensures ∙ e)) (λ e. c .if2 .left (c .before .before .tag-of .ensures ∙ e))))
+    sym (ap fits (no-summand (s .args .multiplier) f (λ e. c .before .if1 .left (c .before .before .tag-of .ensures ∙ e))
+    (λ e. c .if2 .left (c .before .before .tag-of .ensures ∙ e))))
 
 pub takes-spec : {M : Type 1} → statement M
 takes-spec = tie.close (tie.spec tag-of-requires returns returns-2 returns-3)

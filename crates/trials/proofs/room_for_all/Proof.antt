@@ -24,7 +24,8 @@ returns-2 : tie.Need-returns-2
 returns-2 c =
     let s = c .before in
     let a = s .args in
-    λ cs h. room-one (a .rule) (a .count) cs h (passes (λ (r : Rule). oneEach (ruleNamed r)) (1 ∷ 2 ∷ 7 ∷ 10 ∷ 11 ∷ []) (a .rule) tt (c .match .keys2)) (s .pre .0)
+    λ cs h. room-one (a .rule) (a .count) cs h (passes (λ (r : Rule). oneEach (ruleNamed r)) (1 ∷ 2 ∷ 7 ∷ 10 ∷ 11 ∷ []) (a .rule) tt (c .match .keys2))
+    (s .pre .0)
 
 returns-3 : tie.Need-returns-3
 returns-3 c = let s = c .before in λ cs h. absurd (not-several (0 ∷ 5 ∷ 6 ∷ 8 ∷ 12 ∷ []) (s .args .rule) tt (c .match .keys3) (s .pre .0))

@@ -22,18 +22,26 @@ use Rattle.trials.proofs.split_fault.Tie as tie
 fitting : (c : tie.Else1) → fits (given (c .before .before .before .pre .ready)) ≡ true
 fitting c = sym (c .before .fits2 .ensures) ∙ not-false _ (c .if1 .left)
 
-small : (c : tie.After-children-within) (t : Bool) → c .children-within .result ≡ t → childrenWithin (orNone (given (c .before .before .before .before .pre .ready))) ≡ t
+small : (c : tie.After-children-within) (t : Bool)
+    → c .children-within .result ≡ t
+    → childrenWithin (orNone (given (c .before .before .before .before .pre .ready))) ≡ t
 small c t e = sym (c .children-within .ensures) ∙ e
 
-within : (c : tie.Else2) → childrenWithin (orNone (given (c .before .before .before .before .before .pre .ready))) ≡ true
+within : (c : tie.Else2) →
+    let pre = c .before .before .before .before .before .pre in
+    childrenWithin (orNone (given (pre .ready))) ≡ true
 within c = small (c .before) true (not-false _ (c .if2 .left))
 
-shaped : (c : tie.Else2) → map length (orNone (given (c .before .before .before .before .before .pre .ready))) ≡ shape (c .before .before .before .before .before .args .s .n) (stepAt (now (c .before .before .before .before .before .args .ticket)) (c .before .before .before .before .before .args .body) (c .before .before .before .before .before .args .size))
+shaped : (c : tie.Else2) →
+    let start = c .before .before .before .before .before in
+    map length (orNone (given (start .pre .ready))) ≡ shape (start .args .s .n) (stepAt (now (start .args .ticket)) (start .args .body) (start .args .size))
 shaped c =
     let s = c .before .before .before .before .before in
     its-shape (s .pre .ready) (fitting (c .before .before))
 
-offered-by-rule : (s : tie.Start) → map length (orNone (given (s .pre .ready))) ≡ shape (s .args .s .n) (stepAt (now (s .args .ticket)) (s .args .body) (s .args .size)) → ChildrenBy (s .args .rule) (orNone (given (s .pre .ready)))
+offered-by-rule : (s : tie.Start)
+    → map length (orNone (given (s .pre .ready))) ≡ shape (s .args .s .n) (stepAt (now (s .args .ticket)) (s .args .body) (s .args .size))
+    → ChildrenBy (s .args .rule) (orNone (given (s .pre .ready)))
 offered-by-rule s e =
     record {
       n = s .args .s .n;
@@ -45,15 +53,23 @@ offered-by-rule s e =
       shaped = e;
     }
 
-roomy : (c : tie.After-room-for-all) (t : Bool) → c .room-for-all .result ≡ t → roomForAll (length (before (c .before .before .before .before .before .before .pre .ready))) (orNone (given (c .before .before .before .before .before .before .pre .ready))) ≡ t
+roomy : (c : tie.After-room-for-all) (t : Bool) →
+    let pre = c .before .before .before .before .before .before .pre in
+    c .room-for-all .result ≡ t → roomForAll (length (before (pre .ready))) (orNone (given (pre .ready))) ≡ t
 roomy c t e =
     let s = c .before .before .before .before .before .before in
-    ap (λ (k : ℕ). roomForAll k (orNone (given (s .pre .ready)))) (length-branch (now (s .args .work)) (s .args .count)) ∙ sym (c .room-for-all .ensures (orNone (given (s .pre .ready))) (offered-by-rule s (shaped (c .before)))) ∙ e
+    ap (λ (k : ℕ). roomForAll k (orNone (given (s .pre .ready)))) (length-branch (now (s .args .work)) (s .args .count))
+    ∙ sym (c .room-for-all .ensures (orNone (given (s .pre .ready))) (offered-by-rule s (shaped (c .before))))
+    ∙ e
 
-pends : (c : tie.After-room-to-pend) (t : Bool) → c .room-to-pend .result ≡ t → roomToPend (c .before .before .before .before .before .before .before .before .args .pending) (orNone (given (c .before .before .before .before .before .before .before .before .pre .ready))) ≡ t
+pends : (c : tie.After-room-to-pend) (t : Bool) →
+    let start = c .before .before .before .before .before .before .before .before in
+    c .room-to-pend .result ≡ t → roomToPend (start .args .pending) (orNone (given (start .pre .ready))) ≡ t
 pends c t e =
     let s = c .before .before .before .before .before .before .before .before in
-    sym (c .room-to-pend .ensures (now (s .args .ticket)) (s .args .body) (orNone (given (s .pre .ready))) (shaped (c .before .before .before) ∙ sym (shape-by (s .pre) (s .args .s .n)))) ∙ e
+    sym (c .room-to-pend .ensures (now (s .args .ticket)) (s .args .body) (orNone (given (s .pre .ready)))
+    (shaped (c .before .before .before) ∙ sym (shape-by (s .pre) (s .args .s .n))))
+    ∙ e
 
 -- ---- the needs
 
@@ -71,7 +87,8 @@ children-within-requires c κs = let s = c .before .before .before in (s .pre, f
 returns-2 : tie.Need-returns-2
 returns-2 c =
     let s = c .before .before .before .before .before in
-    split-nine (before (s .pre .ready)) (s .args .pending) (given (s .pre .ready)) (fitting (c .before .before)) (small (c .before) false (not-true _ (c .if2 .taken)))
+    split-nine (before (s .pre .ready)) (s .args .pending) (given (s .pre .ready)) (fitting (c .before .before))
+    (small (c .before) false (not-true _ (c .if2 .taken)))
 
 room-for-all-requires : tie.Need-room-for-all-requires
 room-for-all-requires c κs =
@@ -81,20 +98,27 @@ room-for-all-requires c κs =
 returns-3 : tie.Need-returns-3
 returns-3 c =
     let s = c .before .before .before .before .before .before .before in
-    split-ten (before (s .pre .ready)) (s .args .pending) (given (s .pre .ready)) false _ (fitting (c .before .before .before .before)) (within (c .before .before)) (roomy (c .before) false (not-true _ (c .if3 .taken))) refl
+    split-ten (before (s .pre .ready)) (s .args .pending) (given (s .pre .ready)) false _ (fitting (c .before .before .before .before))
+    (within (c .before .before)) (roomy (c .before) false (not-true _ (c .if3 .taken))) refl
 
 room-to-pend-requires : tie.Need-room-to-pend-requires
-room-to-pend-requires c κs = form-fits (c .before .before .before .before .before .before .before .pre)
+room-to-pend-requires c κs =
+    let pre = c .before .before .before .before .before .before .before .pre in
+    form-fits pre
 
 returns-4 : tie.Need-returns-4
 returns-4 c =
+    let else1 = c .before .before .before .before .before .before in
     let s = c .before .before .before .before .before .before .before .before .before in
-    split-ten (before (s .pre .ready)) (s .args .pending) (given (s .pre .ready)) true false (fitting (c .before .before .before .before .before .before)) (within (c .before .before .before .before)) (roomy (c .before .before .before) true (not-false _ (c .before .before .if3 .left))) (pends (c .before) false (not-true _ (c .if4 .taken)))
+    split-ten (before (s .pre .ready)) (s .args .pending) (given (s .pre .ready)) true false (fitting else1) (within (c .before .before .before .before))
+    (roomy (c .before .before .before) true (not-false _ (c .before .before .if3 .left))) (pends (c .before) false (not-true _ (c .if4 .taken)))
 
 returns-5 : tie.Need-returns-5
 returns-5 c =
+    let else1 = c .before .before .before .before .before .before in
     let s = c .before .before .before .before .before .before .before .before .before in
-    split-ten (before (s .pre .ready)) (s .args .pending) (given (s .pre .ready)) true true (fitting (c .before .before .before .before .before .before)) (within (c .before .before .before .before)) (roomy (c .before .before .before) true (not-false _ (c .before .before .if3 .left))) (pends (c .before) true (not-false _ (c .if4 .left)))
+    split-ten (before (s .pre .ready)) (s .args .pending) (given (s .pre .ready)) true true (fitting else1) (within (c .before .before .before .before))
+    (roomy (c .before .before .before) true (not-false _ (c .before .before .if3 .left))) (pends (c .before) true (not-false _ (c .if4 .left)))
 
 pub split-fault-spec : {M : Type 1} → statement M
 split-fault-spec =

@@ -13,7 +13,8 @@ use Rattle.trials.proofs.take_child.Statement.{statement}
 use Rattle.trials.proofs.take_child.Tie as tie
 
 -- the step by its rule, which has so many conclusions
-ready-by : (c : tie.After-conclusions-of) (k : Conclusions) → c .conclusions-of .result ≡ k → let a = c .before .before .before .before .args in ReadyBy (c .before .rule-of .result) k (now (a .ticket)) (a .s) (a .body) (a .size) (now (a .work)) (a .count)
+ready-by : (c : tie.After-conclusions-of) (k : Conclusions) → c .conclusions-of .result ≡ k → let a = c .before .before .before .before .args in
+    ReadyBy (c .before .rule-of .result) k (now (a .ticket)) (a .s) (a .body) (a .size) (now (a .work)) (a .count)
 ready-by c k e =
     record {
       ready = c .before .before .before .before .pre .0;
@@ -37,19 +38,25 @@ enum-told-2 : tie.Need-enum-told-2
 enum-told-2 c = search needs
 
 take-only-child-requires : tie.Need-take-only-child-requires
-take-only-child-requires c κs = (ready-by (c .before .before .before) One (c .before .enum-told2 .given .1), c .before .before .before .before .before .before .before .pre .1)
+take-only-child-requires c κs =
+    let pre = c .before .before .before .before .before .before .before .pre in
+    (ready-by (c .before .before .before) One (c .before .enum-told2 .given .1), pre .1)
 
 enum-told-3 : tie.Need-enum-told-3
 enum-told-3 c = search needs
 
 take-split-child-requires : tie.Need-take-split-child-requires
-take-split-child-requires c κs = (ready-by (c .before .before .before) Several (c .before .enum-told3 .given .1), c .before .before .before .before .before .before .before .pre .1)
+take-split-child-requires c κs =
+    let pre = c .before .before .before .before .before .before .before .pre in
+    (ready-by (c .before .before .before) Several (c .before .enum-told3 .given .1), pre .1)
 
 returns : tie.Need-returns
 returns c =
     let s = c .before .before .before .before .before .before in
     record {
-      fault = closing-eight (s .pre .0) (childField (now (s .args .ticket)) (s .args .body)) (its-kind (ready-by (c .before .before) Nothing (c .enum-told .given .1)));
+      fault =
+          closing-eight (s .pre .0) (childField (now (s .args .ticket)) (s .args .body))
+          (its-kind (ready-by (c .before .before) Nothing (c .enum-told .given .1)));
       added = λ z. absurd (omega arith);
       fine = λ z. absurd (omega arith);
     }

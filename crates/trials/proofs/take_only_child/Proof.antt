@@ -13,7 +13,9 @@ use Rattle.trials.proofs.take_only_child.Tie as tie
 
 -- "it is 1 for a rule with one conclusion or none"
 first : (s : tie.Start) → 1 ≡ childField (now (s .args .ticket)) (s .args .body)
-first s = sym (only-child (now (s .args .ticket)) (s .args .s .n) (s .args .body) (s .args .size) (childField (now (s .args .ticket)) (s .args .body)) (s .pre .0 .ready .formed .fits) (its-kind (s .pre .0)) (s .pre .1))
+first s =
+    sym (only-child (now (s .args .ticket)) (s .args .s .n) (s .args .body) (s .args .size) (childField (now (s .args .ticket)) (s .args .body))
+    (s .pre .0 .ready .formed .fits) (its-kind (s .pre .0)) (s .pre .1))
 
 conclude-requires : tie.Need-conclude-requires
 conclude-requires c κs = c .before .before .pre .0

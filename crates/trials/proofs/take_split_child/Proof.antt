@@ -51,9 +51,10 @@ same-length-2 c = search needs
 
 returns-2 : tie.Need-returns-2
 returns-2 c =
+    let after-u16-at = c .before .before .before .before .before .before in
     let s = c .before .before .before .before .before .before .before .before in
     let h = s .pre .0 .ready in
-    let k = its-child (c .before .before .before .before .before .before) in
+    let k = its-child after-u16-at in
     let zero = c .before .before .before .if1 .left in
     record {
       fault = sym zero ∙ c .before .before .before .before .taken-fault .ensures ∙ ap (λ (k : ℕ). takenTried (before h) (childIn (given h) k)) k;

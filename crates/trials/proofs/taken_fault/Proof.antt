@@ -32,13 +32,16 @@ there : (c : tie.Else1) → fits (taken (c .before .before .before)) ≡ true
 there c = let s = c .before .before .before in taken-there (s .pre .0 .ready) (s .args .k) (its-kind (s .pre .0)) (s .pre .1) (fit c)
 
 -- the number of facts that it adds
-adds : (c : tie.After-child-facts) → c .child-facts .result ≡ length (orNone (taken (c .before .before .before .before .before .before)))
+adds : (c : tie.After-child-facts) →
+    let start = c .before .before .before .before .before .before in
+    c .child-facts .result ≡ length (orNone (taken start))
 adds c =
     let s = c .before .before .before .before .before .before in
     let e = c .before .before .before in
     let shaped = its-shape (s .pre .0 .ready) (fit e) ∙ sym (shape-by (s .pre .0) (s .args .s .n)) in
     let (l, h) = in-shape (given (s .pre .0 .ready)) (s .args .k) (there e) _ shaped in
-    c .child-facts .ensures (now (s .args .ticket)) (s .args .s .n) (s .args .body) (s .args .size) l h ∙ child-size (given (s .pre .0 .ready)) (s .args .k) (there e) _ shaped
+    c .child-facts .ensures (now (s .args .ticket)) (s .args .s .n) (s .args .body) (s .args .size) l h
+    ∙ child-size (given (s .pre .0 .ready)) (s .args .k) (there e) _ shaped
 
 -- ---- the needs
 
@@ -48,7 +51,8 @@ fits-requires c κs = c .before .pre .0
 returns : tie.Need-returns
 returns c =
     let s = c .before .before .before in
-    taken-eight (before (s .pre .0 .ready)) (taken s) (none-there (given (s .pre .0 .ready)) (s .args .k) (sym (c .before .fits2 .ensures) ∙ not-true _ (c .if1 .taken)))
+    taken-eight (before (s .pre .0 .ready)) (taken s)
+    (none-there (given (s .pre .0 .ready)) (s .args .k) (sym (c .before .fits2 .ensures) ∙ not-true _ (c .if1 .taken)))
 
 child-within-requires : tie.Need-child-within-requires
 child-within-requires c κs = let s = c .before .before .before in (s .pre .0, there c)
@@ -69,7 +73,8 @@ returns-3 c =
     let s = c .before .before .before .before .before .before .before in
     let n = length-branch (now (s .args .work)) (s .args .count) in
     let few = s .pre .0 .ready .fine .few in
-    taken-ten (before (s .pre .0 .ready)) (taken s) false (there (c .before .before .before .before)) (sym (c .before .before .before .child-within .ensures) ∙ not-false _ (c .before .before .if2 .left))
+    taken-ten (before (s .pre .0 .ready)) (taken s) false (there (c .before .before .before .before))
+    (sym (c .before .before .before .child-within .ensures) ∙ not-false _ (c .before .before .if2 .left))
     (lt-leb (length (before (s .pre .0 .ready)) + length (orNone (taken s))) factLimit (omega (arith, adds (c .before), c .if3 .taken)))
 
 returns-4 : tie.Need-returns-4
@@ -77,7 +82,8 @@ returns-4 c =
     let s = c .before .before .before .before .before .before .before in
     let n = length-branch (now (s .args .work)) (s .args .count) in
     let few = s .pre .0 .ready .fine .few in
-    taken-ten (before (s .pre .0 .ready)) (taken s) true (there (c .before .before .before .before)) (sym (c .before .before .before .child-within .ensures) ∙ not-false _ (c .before .before .if2 .left))
+    taken-ten (before (s .pre .0 .ready)) (taken s) true (there (c .before .before .before .before))
+    (sym (c .before .before .before .child-within .ensures) ∙ not-false _ (c .before .before .if2 .left))
     (le-leb (length (before (s .pre .0 .ready)) + length (orNone (taken s))) factLimit (omega (arith, adds (c .before), c .if3 .left)))
 
 pub taken-fault-spec : {M : Type 1} → statement M
