@@ -21,7 +21,7 @@ vectors() {
 # there is one for each entry. The smaller number counts.
 starred() {
     local entries proofs
-    entries=$(awk '/^starred =$/ { inside = 1; next } !/^    / { inside = 0 } inside && /^    (∷ )?(checking|adding) / { n++ } END { print n + 0 }' crates/format/specs/Cases.antt)
+    entries=$(awk '/^starred =$/ { inside = 1; next } !/^    / { inside = 0 } inside && /^    (∷ )?(checking|adding)( |$)/ { n++ } END { print n + 0 }' crates/format/specs/Cases.antt)
     proofs=$(awk '/^starred-hold =/ { inside = 1 } /^$/ { inside = 0 } inside { n += gsub(/\(refl, /, "") } END { print n + 0 }' crates/format/proofs/Cases.antt)
     echo $((entries < proofs ? entries : proofs))
 }
