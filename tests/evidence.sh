@@ -1,7 +1,7 @@
 #!/usr/bin/env bash
 # Checks docs/EVIDENCE.md: every place that an entry names is there, of the kind that stands before it, and what stands in backquotes is declared there.
 # Places are separated by semicolons. A place is one of
-#   KIND FILE `name`, ..     KIND is DEF, EQ, THM, RUN, DOC, SRC or GATE. A file of tests/, docs/, examples/, include/ or .ci/, Makefile and crates.txt
+#   KIND FILE `name`, ..     KIND is DEF, EQ, THM, RUN, DOC, SRC or GATE. A file of tests/, docs/, examples/, include/, tools/ or .ci/, Makefile and crates.txt
 #                            stand as they are written, any other below crates/, with .antt where it has no ending; a folder ends in a slash
 #   case WORDS               the entry under this comment in crates/format/specs/Cases.antt
 #   must-fail CRATE/EDIT
@@ -40,7 +40,7 @@ declarations() {
 # The file that a place names.
 file_of() {
     case $1 in
-    tests/* | docs/* | examples/* | include/* | .ci/* | Makefile | crates.txt) echo "$1" ;;
+    tests/* | docs/* | examples/* | include/* | tools/* | .ci/* | Makefile | crates.txt) echo "$1" ;;
     *.rt | */ | verdict/std*) echo "crates/$1" ;;
     *) echo "crates/$1.antt" ;;
     esac

@@ -35,6 +35,7 @@ build() {
 counted tests/statements.sh
 counted tests/floors.sh
 counted python3 tools/name_paths.py --check
+counted python3 tools/functions.py --check
 counted rt ci
 if [ "$failed" -eq 0 ]; then
     single cargo test --quiet --release --offline --locked --manifest-path tests/Cargo.toml -p nuldwich_reference -p compare -p bench
