@@ -21,6 +21,7 @@ use Rattle.calculus.specs.Facts.{Fact, same, notSame, isLiteral, arithmetic, Re
 use Rattle.calculus.specs.Rules.{guard, isFalse, joinOf, statesZero}
 use Rattle.calculus.specs.Children.{one}
 use Rattle.calculus.proofs.Tests.{→guard}
+use Rattle.calculus.proofs.LinearForms.{eqIntegers→}
 use Rattle.format.specs.Checking.{fits, factWithin, keepsFact}
 use Rattle.rows.specs.Rows.{index, tagged, factOf}
 use Rattle.rows.specs.Work.{tagOf}
@@ -123,6 +124,14 @@ eqIntegers-fails a b j h k e = eq-list-step eqℤ a b j (pos 0) h k ∙ rw e
 pub eqIntegers-on : (a b : List ℤ) (j : ℕ) → j < length a → j < length b → eqℤ (getD a j (pos 0)) (getD b j (pos 0)) ≡ true
     → eqIntegers (drop (j + 1) a) (drop (j + 1) b) ≡ eqIntegers (drop j a) (drop j b)
 eqIntegers-on a b j h k e = sym (eq-list-step eqℤ a b j (pos 0) h k ∙ rw e)
+
+-- lists that differ at a place are not the same
+pub eqIntegers-differ : (a b : List ℤ) (j : ℕ) → (getD a j (pos 0) ≡ getD b j (pos 0) → ⊥) → eqIntegers a b ≡ false
+eqIntegers-differ a b j n = go (eqIntegers a b) refl
+  where
+    go : (t : Bool) → eqIntegers a b ≡ t → eqIntegers a b ≡ false
+    go false e = e
+    go true e = absurd (n (ap (λ (l : List ℤ). getD l j (pos 0)) (eqIntegers→ a b (subst T (sym e) tt))))
 
 pub eqIntegers-done : (a b : List ℤ) (j : ℕ) → length a ≤ j → length b ≤ j → eqIntegers (drop j a) (drop j b) ≡ true
 eqIntegers-done a b j h k = eq-list-done eqℤ a b j h k

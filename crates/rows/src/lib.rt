@@ -438,15 +438,28 @@ fn same_row(row: &[i64], other: &[i64]) -> bool
     true
 }
 
-// Is a row one of two?
-fn one_of(row: &[i64], one: &[i64], other: &[i64]) -> bool
-    requires { ⌜ (length (now row) ≡ rowLength) × (length (now one) ≡ rowLength) × (length (now other) ≡ rowLength) ⌝ }
+// Are two rows the same? The coefficient of a column is looked at first, where rows that differ mostly do.
+fn same_by(row: &[i64], other: &[i64], column: usize) -> bool
+    requires { ⌜ (length (now row) ≡ rowLength) × (length (now other) ≡ rowLength) × (column < columnLimit) ⌝ }
+    ensures { λ r. ⌜ r ≡ eqIntegers (now (row .entry)) (now (other .entry)) ⌝ }
+{
+    let x = row[column + COEFFICIENTS];
+    let y = other[column + COEFFICIENTS];
+    if x != y {
+        return false;
+    }
+    same_row(row, other)
+}
+
+// Is a row one of two, which mostly differ from it in a column?
+fn one_of(row: &[i64], one: &[i64], other: &[i64], column: usize) -> bool
+    requires { ⌜ (length (now row) ≡ rowLength) × (length (now one) ≡ rowLength) × (length (now other) ≡ rowLength) × (column < columnLimit) ⌝ }
     ensures { λ r. ⌜ r ≡ (eqIntegers (now (one .entry)) (now (row .entry)) || eqIntegers (now (other .entry)) (now (row .entry))) ⌝ }
 {
-    if same_row(one, row) {
+    if same_by(one, row, column) {
         return true;
     }
-    same_row(other, row)
+    same_by(other, row, column)
 }
 
 // What a search among the facts of a branch gives.
@@ -468,7 +481,7 @@ pub fn lowest_difference(work: &[i64], count: usize, i: usize, j: usize) -> Sear
     fill_difference(&mut other, EQ, j, i);
     let mut k = 0;
     while k < count {
-        if one_of(row_at(work, k), &one, &other) {
+        if one_of(row_at(work, k), &one, &other, i) {
             return Search::At(k);
         }
         k += 1;

@@ -94,7 +94,7 @@ one-of-requires : tie.Need-one-of-requires Inv-loop μ-loop
 one-of-requires c κs =
     let s = c .before .before .before .before .before .before .before .before .before .before .before in
     let k = c .before .before .before .before .loop .k in
-    (ap length (c .before .before .row-at .ensures) ∙ length-row (now (s .args .work)) k (omega arith), search needs, search needs)
+    (ap length (c .before .before .row-at .ensures) ∙ length-row (now (s .args .work)) k (omega arith), search needs, search needs, search needs)
 
 returns : tie.Need-returns Inv-loop μ-loop
 returns c =
