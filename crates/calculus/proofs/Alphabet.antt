@@ -3,18 +3,20 @@ use Prim.Native.Nat.{ℕ, _-_, _<_, _≤_}
 use native.Mathlib.Omega.{arith}
 use mathlib.Core.Path.{_≡_, refl}
 use mathlib.Core.Logic.{inl, inr}
+use mathlib.Core.List.{[], _∷_}
 use lib.Dec.{T, ltb, ltb→lt, lt→ltb}
 use Rattle.lists.specs.Lists.{Any}
-use Rattle.calculus.specs.Alphabet.{characterCount, character, lastCharacter, codeRanges, InCodes, Character, isCharacter}
+use Rattle.calculus.specs.Alphabet.{characterCount, character, codeRanges, InCodes, Character, isCharacter}
 
 -- ---- characters and their places
 
 pub some-character : (n : ℕ) → 1 ≤ n → 1 ≤ characterCount n
+unfolding characterCount
 some-character n h = h
 
 -- the k-th character is one
 pub character-at : (n k : ℕ) → k < characterCount n → Character n (character n k)
-unfolding Character
+unfolding characterCount character Character
 character-at n k h = h
 
 -- each character has a place
@@ -22,15 +24,16 @@ unfoldable pub placeOf : ℕ → ℕ → ℕ
 placeOf n c = c
 
 pub character-place : (n c : ℕ) → Character n c → placeOf n c < characterCount n
-unfolding Character placeOf
+unfolding characterCount Character placeOf
 character-place n c h = h
 
 pub at-place : (n c : ℕ) → Character n c → character n (placeOf n c) ≡ c
-unfolding placeOf
+unfolding character placeOf
 at-place n c h = refl
 
 -- different places give different characters
 pub character-injective : (n i j : ℕ) → character n i ≡ character n j → i ≡ j
+unfolding character
 character-injective n i j e = e
 
 -- ---- codes
@@ -50,24 +53,27 @@ unfolding Character isCharacter
 
 -- the characters are the codes in the ranges
 pub ranges→ : (n c : ℕ) → 1 ≤ n → Any (InCodes c) (codeRanges n) → Character n c
-unfolding Character
+unfolding codeRanges Character
 ranges→ n c h (inl (_, g)) = omega arith
 ranges→ n c h (inr g) = absurd g
 
 pub →ranges : (n c : ℕ) → Character n c → Any (InCodes c) (codeRanges n)
-unfolding Character
+unfolding codeRanges Character
 →ranges n c h = inl (omega arith, omega arith)
 
 -- ---- as code has them
 
 pub count-is : (n : ℕ) → characterCount n ≡ n
+unfolding characterCount
 count-is n = refl
 
 pub character-is : (n k : ℕ) → character n k ≡ k
+unfolding character
 character-is n k = refl
 
-pub last-is : (n : ℕ) → lastCharacter n ≡ n - 1
-last-is n = refl
+pub ranges-are : (n : ℕ) → codeRanges n ≡ (0, n - 1) ∷ []
+unfolding codeRanges
+ranges-are n = refl
 
 pub test-is : (n c : ℕ) → isCharacter n c ≡ ltb c n
 unfolding isCharacter

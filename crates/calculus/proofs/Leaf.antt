@@ -12,7 +12,7 @@ use lib.Signed.{_≤ℤ_, ≤ℤ-refl}
 use Rattle.integers.proofs.Laws.{≤ℤ-pos, pos-≤ℤ, ≤ℤ-trans, -ℤ-zero→, →-ℤ-zero, -ℤ-nonneg→, abs-nonneg}
 use Rattle.lists.specs.Lists.{All, Any}
 use Rattle.lists.proofs.Options.{some-injective, none-some}
-use Rattle.calculus.specs.Alphabet.{lastCharacter, codeRanges, InCodes, Character}
+use Rattle.calculus.specs.Alphabet.{codeRanges, InCodes, Character}
 use Rattle.calculus.specs.LinearForms.{number, minus, less, above, valueIn}
 use Rattle.calculus.specs.Facts.{Question, Fact, Branch, Function, len, code, literal, apply, valueOf}
 use Rattle.calculus.specs.Chains.{OneClass, ClassHolds, Counts}
@@ -84,9 +84,6 @@ module _ (u : Question) (m : List ℤ) where
 
   pub high-in : (x k : ℕ) → valueIn m (minus (number (pos k)) (apply u code x)) ≡ pos k -ℤ modelValue u m code x
   high-in x k = dot-minus (number (pos k)) (apply u code x) (pos 1 ∷ m) (dot-number m (pos k)) (apply-in code x)
-
-  pub last-in : (x : ℕ) → valueIn m (minus (number (pos (lastCharacter (u .n)))) (apply u code x)) ≡ pos (lastCharacter (u .n)) -ℤ modelValue u m code x
-  last-in x = high-in x (lastCharacter (u .n))
 
 module _ (u : Question) (b : Branch) (m : List ℤ) (h : ByClasses u b m) where
   abbrev M : Function → ℕ → ℤ

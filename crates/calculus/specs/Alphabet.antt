@@ -7,20 +7,16 @@ use lib.Dec.{ltb}
 use Rattle.lists.specs.Lists.{All, all}
 
 -- how many characters there are
-abbrev pub characterCount : ℕ → ℕ
+unfoldable pub characterCount : ℕ → ℕ
 characterCount n = n
 
 -- the k-th character, from 0
-abbrev pub character : ℕ → ℕ → ℕ
+unfoldable pub character : ℕ → ℕ → ℕ
 character n k = k
 
--- the last character
-abbrev pub lastCharacter : ℕ → ℕ
-lastCharacter n = n - 1
-
 -- the ranges of characters in rising order, each by its first and last code
-abbrev pub codeRanges : ℕ → List (ℕ × ℕ)
-codeRanges n = (0, lastCharacter n) ∷ []
+unfoldable pub codeRanges : ℕ → List (ℕ × ℕ)
+codeRanges n = (0, n - 1) ∷ []
 
 -- the code c is in a range
 abbrev pub InCodes : ℕ → ℕ × ℕ → Type 0

@@ -3,11 +3,10 @@ use mathlib.Core.Path.{_≡_, refl, sym, _∙_, ap}
 use mathlib.Core.Bool.{Bool, true, false, cond, _||_, or-true, or-false, or-assoc}
 use mathlib.Core.Option.{none, some}
 use mathlib.Core.List.{List, [], _∷_, _++_}
-use Prim.Native.Nat.{ℕ, zero, suc, _+_, _-_, _^_, _≤_, _<_}
+use Prim.Native.Nat.{ℕ, zero, suc, _+_, _-_, _≤_, _<_}
 use native.Mathlib.Numerals.{add-one}
 use native.Mathlib.Omega.{arith}
 use native.Mathlib.Decide.{decLt}
-use borrow.Author.Tests.{le-leb, lt-leb}
 use lib.Dec.{eqb}
 use lib.ListN.{length, getD}
 use lib.IntN.{ℤ, pos}
@@ -17,7 +16,6 @@ use Rattle.lists.proofs.Lists.{down}
 use Rattle.calculus.specs.Facts.{Fact, Branch, same, notSame, isLiteral, arithmetic}
 use Rattle.calculus.specs.Chains.{varNode, litNode}
 use Rattle.calculus.specs.Classes.{upFrom, relabel, mergeNodes, mergeFact, labelsFrom, labels, sameClass, lowestLiteral, sidesMeet}
-use Rattle.calculus.specs.Rules.{leastPower}
 use Rattle.calculus.specs.SaturationTest.{lowestFrom}
 use Rattle.rows.specs.Rows.{index, factOf}
 use Rattle.rows.specs.Work.{tagOf}
@@ -98,25 +96,6 @@ module _ (t : ℕ → Bool) where
       go : (i < m → anyBelow m t ≡ true) → Dec (i < m) → anyBelow (suc m) t ≡ true
       go ih (yes l) = rw (ih l) (or-true (t m))
       go ih (no n) = let k : m ≡ i = omega arith in ap (λ (z : ℕ). t z || anyBelow m t) k ∙ rw e
-
--- ---- the smallest power that is enough
-
-module _ (n m k : ℕ) where
-  pub least-power-done : (d : ℕ) → d ≤ 0 → leastPower d n m k ≡ k
-  least-power-done zero h = refl
-  least-power-done (suc d) h = absurd (omega arith)
-
-  pub least-power-yes : (d : ℕ) → m ≤ n ^ k → leastPower d n m k ≡ k
-  least-power-yes zero h = refl
-  least-power-yes (suc d) h = rw (le-leb m (n ^ k) h, leastPower)
-
-  pub least-power-no : (d : ℕ) → 0 < d → n ^ k < m → leastPower d n m k ≡ leastPower (d - 1) n m (k + 1)
-  least-power-no zero h l = absurd (omega arith)
-  least-power-no (suc d) h l =
-      rw (lt-leb m (n ^ k) l, leastPower) (ap (λ (i : ℕ). leastPower d n m i) one ∙ ap (λ (i : ℕ). leastPower i n m (k + 1)) (sym (down d)))
-    where
-      one : suc k ≡ k + 1
-      one = omega arith
 
 -- ---- ≉ facts
 

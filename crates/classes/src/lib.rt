@@ -6,11 +6,10 @@ ghost use Prim.Native.Nat.{_*_, _≤_, _<_};
 ghost use lib.ListN.{length};
 ghost use lib.Dec.{eqb};
 ghost use Rattle.lists.specs.Lists.{anyBelow};
-ghost use Rattle.calculus.specs.Limits.{alphabetLimit, variableLimit, factLimit};
+ghost use Rattle.calculus.specs.Limits.{variableLimit, factLimit};
 ghost use Rattle.calculus.specs.Chains.{varNode, litNode};
 ghost use Rattle.calculus.specs.Classes as classes;
 ghost use Rattle.calculus.specs.Classes.{nodeCount, upFrom, mergeNodes, mergeFact, sameClass, lowestLiteral, sidesMeet, literalMeets, clash};
-ghost use Rattle.calculus.specs.Rules.{leastPower};
 ghost use Rattle.calculus.specs.SaturationTest.{lowestVariable};
 ghost use Rattle.rows.specs.Rows.{rowLength, factOf, branchOf};
 ghost use Rattle.classes.specs.Classes.{literalOf};
@@ -288,22 +287,4 @@ pub fn conflict(work: &[i64], count: usize, labels: [u8; NODE_COUNT], m: usize) 
         return true;
     }
     sides_meet(work, count, labels)
-}
-
-// Card's bound: "the smallest number such that n to the power L is at least m". The power stops once m is reached.
-pub fn least_power(n: usize, m: usize) -> usize
-    requires { ⌜ (n ≤ alphabetLimit) × (m ≤ variableLimit) ⌝ }
-    ensures { λ r. ⌜ r ≡ leastPower m n m 0 ⌝ }
-    ensures { λ r. ⌜ r ≤ m ⌝ }
-{
-    let mut power = 1;
-    let mut k = 0;
-    while k < m {
-        if m <= power {
-            return k;
-        }
-        power = power * n;
-        k += 1;
-    }
-    k
 }

@@ -2,7 +2,7 @@
 use mathlib.Core.Path.{refl}
 use mathlib.Core.List.{flatMap}
 use Rattle.lists.specs.Lists.{All}
-use Rattle.calculus.specs.Alphabet.{isCharacter, allCharacters}
+use Rattle.calculus.specs.Alphabet.{characterCount, character, codeRanges, isCharacter, allCharacters}
 use Rattle.calculus.specs.Steps.{shape}
 use Rattle.format.specs.Fields.{u32, signed, u16s, u32s, i32s, pairsAt, bytesOf, allWithin}
 use Rattle.format.specs.Records.{recordsBy, records}
@@ -14,7 +14,7 @@ use Rattle.format.specs.Checking.{factsWithin, childrenWithin, roomForAl
 use Rattle.format.specs.Cases.{shortBytes, pairBytes, ticket, CaseHolds, starred}
 
 pub starred-hold : All CaseHolds starred
-unfolding isCharacter allCharacters shape u32 signed u16s u32s i32s pairsAt bytesOf recordsBy records rankOf rising fillCoefficients constraintFault
+unfolding characterCount character codeRanges isCharacter allCharacters shape u32 signed u16s u32s i32s pairsAt bytesOf recordsBy records rankOf rising fillCoefficients constraintFault
     formFault questionFault questionAdvanced readFrom readBy multipliersWithin operandsInRange stepOf characterBytes integerBytes stringRecords encode allWithin
     fault advanced readSteps factsWithin childrenWithin roomForAll keeps verdictBy shortBytes pairBytes ticket flatMap
 starred-hold = (refl, (refl, (refl, (refl, (refl, (refl, (refl, (refl, (refl, (refl, (refl, (refl, (refl, tt)))))))))))))

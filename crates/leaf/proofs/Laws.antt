@@ -1,6 +1,6 @@
 -- Laws of the tests by values, and of loops over variables.
 use mathlib.Core.Path.{_≡_, refl, sym, _∙_, ap, ap₂}
-use mathlib.Core.Bool.{Bool, true, false, not, cond, _&&_, _||_, and-false, or-true}
+use mathlib.Core.Bool.{Bool, true, false, not, cond, _&&_, _||_, and-false, or-true, or-false}
 use mathlib.Core.Option.{Option, none, some}
 use mathlib.Core.List.{List, _∷_}
 use Prim.Native.Nat.{ℕ, zero, suc, _+_, _-_, _^_, _≤_, _<_}
@@ -12,9 +12,9 @@ use lib.ListN.{length, getD}
 use lib.Dec.{eqb, leb}
 use lib.IntN.{ℤ, pos, negsuc, natAbs}
 use lib.Signed.{ltZ}
-use Rattle.lists.specs.Lists.{allBelow}
+use Rattle.lists.specs.Lists.{any, allBelow}
 use Rattle.lists.proofs.Tests.{true→}
-use Rattle.calculus.specs.Alphabet.{lastCharacter}
+use Rattle.calculus.specs.Alphabet.{characterCount}
 use Rattle.calculus.specs.LinearForms.{eqℤ}
 use Rattle.calculus.specs.Facts.{Question, Branch, codeOf, columnCount, literal, len, code}
 use Rattle.calculus.specs.Chains.{varNode, litNode}
@@ -22,6 +22,7 @@ use Rattle.calculus.specs.Classes.{labels, sameClass, lowestLiteral, literalIn,
 use Rattle.calculus.specs.Rules.{leastPower}
 use Rattle.calculus.specs.Model.{modelValue}
 use Rattle.calculus.specs.SaturationTest.{lowestVariable, lowestOfLength, saturatedCard}
+use Rattle.calculus.proofs.Alphabet.{count-is, ranges-are}
 use Rattle.calculus.proofs.Powers.{least-power}
 use Rattle.calculus.proofs.Lowest.{lowests-few}
 use Rattle.format.specs.Places.{skip, literalsFrom}
@@ -32,7 +33,7 @@ use Rattle.question.specs.declared.Progress.{Progress}
 use Rattle.question.specs.Columns.{columnAt}
 use Rattle.question.specs.Posed.{asked, numbered, Posed}
 use Rattle.question.proofs.Posed.{literals-to}
-use Rattle.leaf.specs.Values.{textFits, literalFits, lValidFits, codeBy, codeFits, roomy, varFits, pairBy, pairFits}
+use Rattle.leaf.specs.Values.{textFits, literalFits, lValidFits, codeIn, codeBy, codeFits, roomy, varFits, pairBy, pairFits}
 
 -- ---- tests of a variable
 
@@ -63,13 +64,16 @@ module _ (ls : List ℕ) (x : ℕ) (z : ℤ) where
   length-other e = ap (λ (t : Bool). t || ltZ (pos 0) z) e
 
 module _ (n : ℕ) (z : ℤ) where
-  pub code-character : (k : ℕ) → eqℤ z (pos 1) ≡ true → codeFits n z (pos k) ≡ leb k (lastCharacter n)
+  pub code-character : (k : ℕ) → eqℤ z (pos 1) ≡ true → codeFits n z (pos k) ≡ leb k (n - 1)
   unfolding codeBy
-  code-character k e = ap (λ (t : Bool). codeBy t n (pos k)) e
+  code-character k e =
+      ap (λ (t : Bool). codeBy t n (pos k)) e
+      ∙ ap (any (codeIn (pos k))) (ranges-are n)
+      ∙ or-false (leb 0 k && leb k (n - 1)) ∙ ap (λ (t : Bool). t && leb k (n - 1)) (le-leb 0 k (omega arith))
 
   pub code-negative : (k : ℕ) → eqℤ z (pos 1) ≡ true → codeFits n z (negsuc k) ≡ false
   unfolding codeBy
-  code-negative k e = ap (λ (t : Bool). codeBy t n (negsuc k)) e
+  code-negative k e = ap (λ (t : Bool). codeBy t n (negsuc k)) e ∙ ap (any (codeIn (negsuc k))) (ranges-are n)
 
   pub code-longer : (c : ℤ) → eqℤ z (pos 1) ≡ false → codeFits n z c ≡ eqℤ c (negsuc 0)
   unfolding codeBy
@@ -145,7 +149,8 @@ room-fewer n p k size h e = go (leb n 1) refl
 module _ (u : Question) (ls : List ℕ) (m : List ℤ) (x k : ℕ) (e : k ≡ length (lowestOfLength u ls m (modelValue u m len x) (u .p))) where
   counted : saturatedCard u ls m x ≡ (leb k 1 || roomy (u .n) k (natAbs (modelValue u m len x)))
   unfolding roomy
-  counted = ap (λ (i : ℕ). leb i 1 || roomy (u .n) i (natAbs (modelValue u m len x))) (sym e)
+  counted =
+      ap₂ (λ (i n : ℕ). leb i 1 || roomy n i (natAbs (modelValue u m len x))) (sym e) (count-is (u .n))
 
   pub card-few : k ≤ 1 → saturatedCard u ls m x ≡ true
   card-few h = counted ∙ rw (le-leb k 1 h)
@@ -215,10 +220,10 @@ module _ (b : List ℕ) (s : Progress) (ls : List ℕ) (m : List ℤ) where
       (lowest-any z k)
 
   pub card-any : (x : ℕ) → saturatedCard (numbered s) ls m x ≡ saturatedCard (asked b s) ls m x
-  unfolding asked
+  unfolding asked roomy
   card-any x =
       ap (λ (l : List ℕ). leb (length l) 1
-      || (not (leb (s .n) 1) && leb (leastPower (length l) (s .n) (length l) 0) (natAbs (modelValue (numbered s) m len x))))
+      || roomy (characterCount (s .n)) (length l) (natAbs (modelValue (numbered s) m len x)))
       (lowest-any (modelValue (numbered s) m len x) (s .p))
 
   pub pairs-any : (x : ℕ) → allBelow (s .p) (pairFits (numbered s) ls m x) ≡ allBelow (s .p) (pairFits (asked b s) ls m x)

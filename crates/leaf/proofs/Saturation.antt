@@ -1,30 +1,30 @@
 -- The test of a leaf is the test by values: a child's facts hold just if lengths and codes fit.
 use Prim.Native.Nat.{ℕ, zero, suc}
 use mathlib.Core.Path.{_≡_, refl, sym, _∙_, ap, ap₂, subst}
-use mathlib.Core.Bool.{Bool, true, false, not, _&&_, _||_, and-true, and-assoc, or-false}
+use mathlib.Core.Bool.{Bool, true, false, not, _&&_, _||_, and-true, and-false, and-assoc, or-false}
 use mathlib.Core.Option.{Option, none, some}
-use mathlib.Core.List.{List}
+use mathlib.Core.List.{List, [], _∷_, map}
 use lib.Dec.{T, eqb→eq, eqb-refl, leb, ltb, eqb, le→leb, leb→le, ltb→lt}
 use lib.IntN.{ℤ, pos, negsuc, _-ℤ_}
-use lib.Signed.{ltZ, nonNeg}
+use lib.Signed.{ltZ, nonNeg, _≤ℤ_}
 use borrow.Author.Tests.{lt-ltb}
 use Rattle.integers.proofs.Laws.{≤ℤ-pos, pos-≤ℤ, →-ℤ-zero, →-ℤ-nonneg, -ℤ-zero→, -ℤ-nonneg→}
-use Rattle.lists.specs.Lists.{allBelow}
+use Rattle.lists.specs.Lists.{any, allBelow}
 use Rattle.lists.proofs.Tests.{→true, true→, equal-tests}
-use Rattle.calculus.specs.Alphabet.{lastCharacter}
+use Rattle.calculus.specs.Alphabet.{codeRanges}
 use Rattle.calculus.specs.LinearForms.{eqℤ, isZero, number, minus, above, valueIn}
 use Rattle.calculus.specs.Facts.{Question, Branch, Fact, arithmetic, ge, eq, Function, len, code, literal, valueOf, apply}
 use Rattle.calculus.specs.Chains.{varNode, litNode}
 use Rattle.calculus.specs.Classes.{label, labels, sameClass, classLiteral, conflict}
-use Rattle.calculus.specs.Children.{one, sPropChild, literalChild, lValidChildren, cValidChildren, cInjChildren}
+use Rattle.calculus.specs.Children.{one, sPropChild, literalChild, lValidChildren, codeChild, cValidChildren, cInjChildren}
 use Rattle.calculus.specs.Rules.{guard, then}
 use Rattle.calculus.specs.Steps.{LIntro, LValid, CCollapse, CValid}
 use Rattle.calculus.specs.Model.{modelValue}
 use Rattle.calculus.specs.SaturationTest.{held, heldSome, byChildren, saturatedStep, saturatedCard, saturated}
 use Rattle.calculus.proofs.LinearForms.{eqℤ→, →eqℤ, isZero→, →isZero}
 use Rattle.calculus.proofs.Relations.{nonneg→, →nonneg}
-use Rattle.calculus.proofs.Leaf.{apply-in, above-in, number-in, difference-in, last-in}
-use Rattle.leaf.specs.Values.{textFits, literalFits, lValidFits, codeBy, codeFits, varFits, pairBy, pairFits, byValues}
+use Rattle.calculus.proofs.Leaf.{above-in, number-in, difference-in, low-in, high-in}
+use Rattle.leaf.specs.Values.{textFits, literalFits, lValidFits, codeIn, codeBy, codeFits, varFits, pairBy, pairFits, byValues}
 
 -- ---- tests of equal meaning
 
@@ -42,6 +42,11 @@ leb-minus k c = equal-tests (nonNeg (pos k -ℤ pos c)) (leb c k)
 positive-minus : (z : ℤ) → nonNeg (z -ℤ pos 1) ≡ ltZ (pos 0) z
 positive-minus (pos k) = leb-minus k 1 ∙ equal-tests (leb 1 k) (ltb 0 k) (λ t. true→ (lt-ltb 0 k (leb→le 1 k t))) (λ t. le→leb 1 k (ltb→lt 0 k t))
 positive-minus (negsuc k) = refl
+
+negative-minus : (c k : ℕ) → nonNeg (negsuc c -ℤ pos k) ≡ false
+negative-minus c k = equal-tests (nonNeg (negsuc c -ℤ pos k)) false
+    (λ t. absurd (let l : pos k ≤ℤ negsuc c = -ℤ-nonneg→ (nonneg→ (negsuc c -ℤ pos k) t) in l .le))
+    (λ t. absurd t)
 
 -- ---- the children of each rule
 
@@ -81,19 +86,33 @@ module _ (u : Question) (ls : List ℕ) (m : List ℤ) where
       (one-holds (arithmetic ge (above (apply u len x))) (ap nonNeg (above-in u m x) ∙ positive-minus (M len x)))
 
   -- C-Valid
-  code-cases : (n : ℕ) (t : Bool) (c : ℤ)
-      → ((not t && (eqℤ c (negsuc 0) && true)) || ((t && (nonNeg c && (nonNeg (pos (lastCharacter n) -ℤ c) && true))) || false)) ≡ codeBy t n c
+  length-one : (x : ℕ) → isZero (valueIn m (above (apply u len x))) ≡ eqℤ (M len x) (pos 1)
+  length-one x = ap isZero (above-in u m x) ∙ zero-minus (M len x) (pos 1)
+
+  within-range : (r : ℕ × ℕ) (c : ℤ) → (nonNeg (c -ℤ pos (r .0)) && (nonNeg (pos (r .1) -ℤ c) && true)) ≡ codeIn c r
+  within-range r (pos c) = ap₂ _&&_ (leb-minus c (r .0)) (and-true (nonNeg (pos (r .1) -ℤ pos c)) ∙ leb-minus (r .1) c)
+  within-range r (negsuc c) = ap (λ (t : Bool). t && (nonNeg (pos (r .1) -ℤ negsuc c) && true)) (negative-minus c (r .0))
+
+  range-cases : (s t a : Bool) → ((s && t) || (s && a)) ≡ (s && (t || a))
+  range-cases true t a = refl
+  range-cases false t a = refl
+
+  -- the children of the ranges
+  in-ranges : (x : ℕ) (rs : List (ℕ × ℕ)) → heldSome ls m (map (codeChild u x) rs) ≡ (eqℤ (M len x) (pos 1) && any (codeIn (M code x)) rs)
+  in-ranges x [] = sym (and-false (eqℤ (M len x) (pos 1)))
+  in-ranges x (r ∷ rs) =
+      let held-range = ap₂ (λ (s t : Bool). s && (t && true)) (ap nonNeg (low-in u m x (r .0))) (ap nonNeg (high-in u m x (r .1))) in
+      ap₂ _||_ (ap₂ _&&_ (length-one x) (held-range ∙ within-range r (M code x))) (in-ranges x rs)
+      ∙ range-cases (eqℤ (M len x) (pos 1)) (codeIn (M code x) r) (any (codeIn (M code x)) rs)
+
+  code-cases : (n : ℕ) (t : Bool) (c : ℤ) → ((not t && (eqℤ c (negsuc 0) && true)) || (t && any (codeIn c) (codeRanges n))) ≡ codeBy t n c
   unfolding codeBy
-  code-cases n true (pos c) =
-      or-false (nonNeg (pos (lastCharacter n) -ℤ pos c) && true) ∙ and-true (nonNeg (pos (lastCharacter n) -ℤ pos c)) ∙ leb-minus (lastCharacter n) c
-  code-cases n true (negsuc c) = refl
+  code-cases n true c = refl
   code-cases n false c = or-false (eqℤ c (negsuc 0) && true) ∙ and-true (eqℤ c (negsuc 0))
 
   code-step : (x : ℕ) → heldSome ls m (cValidChildren u x) ≡ codeFits (u .n) (M len x) (M code x)
   code-step x =
-      let single : isZero (valueIn m (above (apply u len x))) ≡ eqℤ (M len x) (pos 1) = ap isZero (above-in u m x) ∙ zero-minus (M len x) (pos 1) in
-      ap₂ _||_ (ap₂ (λ (s t : Bool). not s && (t && true)) single (number-is code x (negsuc 0)))
-      (ap₂ (λ (s t : Bool). (s && t) || false) single (ap₂ (λ (s t : Bool). s && (t && true)) (ap nonNeg (apply-in u m code x)) (ap nonNeg (last-in u m x))))
+      ap₂ _||_ (ap₂ (λ (s t : Bool). not s && (t && true)) (length-one x) (number-is code x (negsuc 0))) (in-ranges x (codeRanges (u .n)))
       ∙ code-cases (u .n) (eqℤ (M len x) (pos 1)) (M code x)
 
   -- S-Prop and C-Inj

@@ -7,8 +7,8 @@ use lib.ListN.{length}
 use lib.Dec.{leb}
 use lib.IntN.{ℤ, pos, negsuc}
 use lib.Signed.{ltZ}
-use Rattle.lists.specs.Lists.{allBelow}
-use Rattle.calculus.specs.Alphabet.{lastCharacter}
+use Rattle.lists.specs.Lists.{any, allBelow}
+use Rattle.calculus.specs.Alphabet.{codeRanges}
 use Rattle.calculus.specs.LinearForms.{eqℤ}
 use Rattle.calculus.specs.Facts.{Question, literal, codeOf, len, code}
 use Rattle.calculus.specs.Chains.{varNode, litNode}
@@ -30,10 +30,14 @@ literalFits u (some l) z c = textFits (literal u l) z c
 unfoldable pub lValidFits : List ℕ → ℕ → ℤ → Bool
 lValidFits ls x z = sameClass ls (varNode x) (litNode 0) || ltZ (pos 0) z
 
+-- a code in a range
+abbrev pub codeIn : ℤ → ℕ × ℕ → Bool
+codeIn (pos c) r = leb (r .0) c && leb c (r .1)
+codeIn (negsuc c) r = false
+
 -- C-Valid: the code of a string of length 1, and of any other
 unfoldable pub codeBy : Bool → ℕ → ℤ → Bool
-codeBy true n (pos c) = leb c (lastCharacter n)
-codeBy true n (negsuc c) = false
+codeBy true n c = any (codeIn c) (codeRanges n)
 codeBy false n c = eqℤ c (negsuc 0)
 
 abbrev pub codeFits : ℕ → ℤ → ℤ → Bool

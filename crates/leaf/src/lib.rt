@@ -165,7 +165,7 @@ fn has_room(n: usize, k: usize, size: usize) -> bool
     if n <= 1 {
         return false;
     }
-    let least = classes::least_power(n, k);
+    let least = card::least_power(n, k);
     least <= size
 }
 

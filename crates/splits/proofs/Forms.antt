@@ -5,16 +5,18 @@ use native.Mathlib.Decide.{ℕ-discrete, decLt}
 use mathlib.Core.Path.{_≡_, refl, sym, _∙_, ap, ap₂}
 use mathlib.Core.Bool.{Bool, true, false, _&&_}
 use mathlib.Core.Option.{some}
-use mathlib.Core.List.{List, [], _∷_, _++_, append-assoc}
+use mathlib.Core.List.{List, [], _∷_, _++_, append-assoc, map}
 use borrow.Author.Tests.{le-leb, lt-leb, eq-eqb, ne-eqb}
 use lib.ListN.{length, set, drop, getElem?}
 use lib.Dec.{eqb, leb}
 use lib.IntN.{ℤ, pos, negsuc, negℤ, natAbs}
 use Rattle.calculus.specs.Limits.{numberLimit}
+use Rattle.calculus.specs.Alphabet.{characterCount}
 use Rattle.calculus.specs.LinearForms.{number}
 use Rattle.calculus.specs.Facts.{Fact, same, notSame, isLiteral, arithmetic, ge, eq, ne}
-use Rattle.calculus.specs.Children.{childAt, apartChildren, cValidChildren, boundChild}
+use Rattle.calculus.specs.Children.{childAt, apartChildren, codelessChild, codeChild, cValidChildren, boundChild}
 use Rattle.calculus.specs.Rules.{then, apartOf, leastPower, lastChild}
+use Rattle.calculus.proofs.Alphabet.{count-is, ranges-are}
 use Rattle.format.specs.Checking.{fits, orNone, factWithin}
 use Rattle.format.specs.Fields.{allWithin}
 use Rattle.format.proofs.Faults.{not-both}
@@ -91,10 +93,16 @@ ge-form row e h =
 
 -- ---- C-Valid
 
+-- one range of codes
+one-range : (s : Progress) (x : ℕ) → cValidChildren (numbered s) x ≡ codelessChild (numbered s) x ∷ codeChild (numbered s) x (0, s .n - 1) ∷ []
+one-range s x = ap (λ (rs : List (ℕ × ℕ)). codelessChild (numbered s) x ∷ map (codeChild (numbered s) x) rs) (ranges-are (s .n))
+
 module _ (s : Progress) (x len code : ℕ) (el : len ≡ columnAt (s .p) (s .q) 0 x) (ec : code ≡ columnAt (s .p) (s .q) 1 x) (hl : len < 48) (hc : code < 48) where
   pub c-valid-children : cValidChildren (numbered s) x ≡ codeless len code ∷ coded len code 0 (s .n - 1) ∷ []
   unfolding columnAt
-  c-valid-children = rw (sym el, sym ec, above-column len hl, minus-number code hc (negsuc 0), number-minus code hc (pos (s .n - 1)), column-single code hc)
+  c-valid-children =
+      one-range s x
+      ∙ rw (sym el, sym ec, above-column len hl, minus-number code hc (negsuc 0), number-minus code hc (pos (s .n - 1)), column-single code hc)
 
   pub c-valid-one : (k : ℕ) → k ≡ 1 → codeless len code ≡ orNone (childAt (cValidChildren (numbered s) x) k)
   c-valid-one k e = child-one _ _ k e ∙ sym (ap (λ (cs : List (List Fact)). orNone (childAt cs k)) c-valid-children)
@@ -102,11 +110,14 @@ module _ (s : Progress) (x len code : ℕ) (el : len ≡ columnAt (s .p) (s .q) 
   pub c-valid-two : (k : ℕ) → k ≡ 2 → coded len code 0 (s .n - 1) ≡ orNone (childAt (cValidChildren (numbered s) x) k)
   c-valid-two k e = child-two _ _ _ k e ∙ sym (ap (λ (cs : List (List Fact)). orNone (childAt cs k)) c-valid-children)
 
+pub c-valid-count : (s : Progress) (x : ℕ) → length (cValidChildren (numbered s) x) ≡ 2
+c-valid-count s x = ap length (one-range s x)
+
 -- its first child adds two facts, its second three
 pub c-valid-size : (s : Progress) (x k : ℕ) → 1 ≤ k → k ≤ 2 → length (orNone (childAt (cValidChildren (numbered s) x) k)) ≡ k + 1
 c-valid-size s x zero h g = absurd (omega arith)
-c-valid-size s x (suc zero) h g = refl
-c-valid-size s x (suc (suc zero)) h g = refl
+c-valid-size s x (suc zero) h g = ap (λ (cs : List (List Fact)). length (orNone (childAt cs 1))) (one-range s x)
+c-valid-size s x (suc (suc zero)) h g = ap (λ (cs : List (List Fact)). length (orNone (childAt cs 2))) (one-range s x)
 c-valid-size s x (suc (suc (suc k))) h g = absurd (omega arith)
 
 -- ---- facts put one behind the other
@@ -129,19 +140,29 @@ put-three v x y k f g h p q =
 
 -- ---- Card's last child
 
+-- over so many characters
+abbrev lastOver : Progress → ℕ → ℕ → ℕ → List (List Fact)
+lastOver s x m n = elim (leb n 1) [ true ↦ [] | false ↦ boundChild (numbered s) x (leastPower m n m 0) ]
+
+last-by : (s : Progress) (x m : ℕ) → lastChild (numbered s) x m ≡ lastOver s x m (s .n)
+last-by s x m = ap (lastOver s x m) (count-is (s .n))
+
 pub last-is : (s : Progress) (x m : ℕ) → 2 ≤ s .n → s .q + x < 48
     → lastChild (numbered s) x m ≡ (arithmetic ge (single (negℤ (pos (leastPower m (s .n) m 0))) (s .q + x) (pos 1)) ∷ []) ∷ []
 last-is s x m h g =
-    ap (λ (t : Bool). elim t [ true ↦ [] | false ↦ boundChild (numbered s) x (leastPower m (s .n) m 0) ]) (lt-leb (s .n) 1 (omega arith))
+    last-by s x m
+    ∙ ap (λ (t : Bool). elim t [ true ↦ [] | false ↦ boundChild (numbered s) x (leastPower m (s .n) m 0) ]) (lt-leb (s .n) 1 (omega arith))
     ∙ ap (λ (e : List ℤ). (arithmetic ge e ∷ []) ∷ []) (minus-number (s .q + x) g (pos (leastPower m (s .n) m 0)))
 
 pub last-none : (s : Progress) (x m : ℕ) → s .n ≤ 1 → lastChild (numbered s) x m ≡ []
-last-none s x m h = ap (λ (t : Bool). elim t [ true ↦ [] | false ↦ boundChild (numbered s) x (leastPower m (s .n) m 0) ]) (le-leb (s .n) 1 h)
+last-none s x m h = last-by s x m ∙ ap (λ (t : Bool). elim t [ true ↦ [] | false ↦ boundChild (numbered s) x (leastPower m (s .n) m 0) ]) (le-leb (s .n) 1 h)
 
 pub last-short : (s : Progress) (x m : ℕ) → length (lastChild (numbered s) x m) ≤ 1
-last-short s x m = go (leb (s .n) 1)
+last-short s x m = go (leb (characterCount (s .n)) 1)
   where
-    go : (t : Bool) → length {A = List Fact} (elim t as (λ _. List (List Fact)) [ true ↦ [] | false ↦ boundChild (numbered s) x (leastPower m (s .n) m 0) ]) ≤ 1
+    go : (t : Bool)
+        → length {A = List Fact}
+        (elim t as (λ _. List (List Fact)) [ true ↦ [] | false ↦ boundChild (numbered s) x (leastPower m (characterCount (s .n)) m 0) ]) ≤ 1
     go true = omega arith
     go false = omega arith
 

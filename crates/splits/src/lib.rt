@@ -249,7 +249,7 @@ fn put_bound(work: &mut [i64], count: usize, s: Progress, x: usize, m: usize)
     requires { ⌜ (x < variableLimit) × (m ≤ variableLimit) × (2 ≤ s .n) × (s .n ≤ alphabetLimit) × (s .p ≤ variableLimit) × (s .q ≤ variableLimit) ⌝ }
     ensures { λ _. ⌜ branchOf (now (work .exit)) (count + 1) ≡ extended (now (work .entry)) count (lastChild (numbered s) x m) 1 ⌝ }
 {
-    let bound = classes::least_power(s.n, m) as i64;
+    let bound = card::least_power(s.n, m) as i64;
     rows::put_single(work, count, GE, 0 - bound, column_of(s.p, s.q, LEN, x), 1);
 }
 

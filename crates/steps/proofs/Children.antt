@@ -4,13 +4,14 @@ use native.Mathlib.Omega.{arith}
 use native.Mathlib.Nat.{mul-suc, suc-mul, mul-le-mul, div-eq-of-eq-mul-right}
 use mathlib.Core.Path.{_≡_, refl, sym, _∙_, ap}
 use mathlib.Core.Bool.{true, false}
-use mathlib.Core.List.{List, [], _∷_}
+use mathlib.Core.List.{List, [], _∷_, map}
 use lib.ListN.{length, getD, replicate, length-replicate}
 use lib.Dec.{leb, eqb}
 use borrow.Author.Tests.{le-leb, lt-leb, ne-eqb}
 use Rattle.lists.specs.Lists.{All}
 use Rattle.lists.proofs.Lists.{down}
 use Rattle.calculus.specs.Alphabet.{characterCount}
+use Rattle.calculus.proofs.Alphabet.{ranges-are}
 use Rattle.calculus.specs.Steps.{pairCount, lastCount, shape}
 use Rattle.format.specs.StepForms.{Rule, sum, branch, apart, aConf, sConf, sProp, lIntro, lValid, cCollapse, cValid, cInj, card}
 use Rattle.format.specs.StepForms.{join, unknown, formFor, fitsForm, rule, lengthFits, cardVariables, stepOf, stepAt, isChild}
@@ -64,6 +65,11 @@ card-count b n body m =
     length-replicate (pairCount (length (cardVariables b body m)) + lastCount (characterCount n)) 1
     ∙ ap (λ k. pairCount k + lastCount (characterCount n)) (length-u16s b (body + 4) ((m - 4) / 2))
 
+-- C-Valid's first child adds two facts, its second three
+pub c-valid-shape : (b : List ℕ) (n body m : ℕ) → shape n (stepOf b cValid body m) ≡ 2 ∷ 3 ∷ []
+unfolding shape stepOf
+c-valid-shape b n body m = ap (λ (rs : List (ℕ × ℕ)). 2 ∷ map (λ r. 3) rs) (ranges-are n)
+
 -- ---- how many there are
 
 last-few : (n : ℕ) → lastCount n ≤ 1
@@ -93,7 +99,7 @@ few-children b n body m f = go (rule b body) f
     go lIntro f = omega arith
     go lValid f = omega arith
     go cCollapse f = omega arith
-    go cValid f = omega arith
+    go cValid f = let two = ap length (c-valid-shape b n body m) in omega arith
     go cInj f = omega arith
     go card f = card-few b n body m f
     go join f = omega arith
@@ -128,20 +134,15 @@ module _ (b : List ℕ) (n body m : ℕ) where
   one-each join e = (refl, tt)
   one-each unknown e = tt
 
-  -- C-Valid's first child adds two facts, its second three
-  pub c-valid-shape : shape n (stepOf b cValid body m) ≡ 2 ∷ 3 ∷ []
-  unfolding shape stepOf
-  c-valid-shape = refl
-
   module _ (r : Rule) (k : ℕ) where
     pub adds-one : oneEach r ≡ true → 1 ≤ k → k ≤ length (shape n (stepOf b r body m)) → 1 ≡ getD (shape n (stepOf b r body m)) (k - 1) 0
     adds-one e l h = one-at (shape n (stepOf b r body m)) (k - 1) (one-each r e) (omega arith)
 
     pub adds-two : r ≡ cValid → k ≡ 1 → 2 ≡ getD (shape n (stepOf b r body m)) (k - 1) 0
-    adds-two f g = rw (f, c-valid-shape, g)
+    adds-two f g = rw (f, c-valid-shape b n body m, g)
 
     pub adds-three : r ≡ cValid → (k ≡ 1 → ⊥) → 1 ≤ k → k ≤ length (shape n (stepOf b r body m)) → 3 ≡ getD (shape n (stepOf b r body m)) (k - 1) 0
     adds-three f g l h =
-        let two : k ≤ 2 = rw (f, c-valid-shape) at h in
+        let two : k ≤ 2 = rw (f, c-valid-shape b n body m) at h in
         let second : k ≡ 2 = omega arith in
-        rw (f, c-valid-shape, second)
+        rw (f, c-valid-shape b n body m, second)

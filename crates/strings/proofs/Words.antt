@@ -11,9 +11,18 @@ use lib.ListN.{length, getD, take, drop, set, replicate, length-set, drop-of-len
 use lib.Seq.{take-set-lt, take-set-le, take-take, drop-cons, getD-set-same, drop-set-lt, length-take-le}
 use Rattle.lists.proofs.Lists.{down, eq-list-step, eq-list-done, eq-list-lengths}
 use Rattle.lists.proofs.Every.{take-zero}
+use Rattle.calculus.specs.Alphabet.{character}
 use Rattle.calculus.specs.Strings.{word, eqString, given, freshFrom}
+use Rattle.calculus.proofs.Alphabet.{count-is, character-is}
 
--- ---- the last character of a word is the remainder by n
+-- ---- the first character of a word is the quotient by a power of n
+
+word-more : (n m k : ℕ) → word n (suc m) k ≡ k / n ^ m ∷ word n m (k % n ^ m)
+word-more n m k =
+    ap (λ (c : ℕ). character n (k / c ^ m) ∷ word n m (k % c ^ m)) (count-is n)
+    ∙ ap (λ (c : ℕ). c ∷ word n m (k % n ^ m)) (character-is n (k / n ^ m))
+
+-- ---- the last is the remainder by n
 
 module _ (n : ℕ) (p : 1 ≤ n) where
   digits : (m k : ℕ) → k % n ^ suc m ≡ (k / n % n ^ m) * n + k % n
@@ -30,14 +39,20 @@ module _ (n : ℕ) (p : 1 ≤ n) where
 
   behind : (m k : ℕ) → word n (suc m) (k % n ^ suc m) ≡ word n m (k / n % n ^ m) ++ (k % n ∷ [])
   behind zero k =
-      ap (λ c. c ∷ []) (ap (λ z. k % n ^ 1 / z) (pow-zero n) ∙ div-one (k % n ^ 1) ∙ ap (λ z. k % z) (pow-succ' n 0 ∙ ap (λ z. n * z) (pow-zero n) ∙ mul-one n))
+      word-more n 0 (k % n ^ 1)
+      ∙ ap (λ c. c ∷ []) (ap (λ z. k % n ^ 1 / z) (pow-zero n) ∙ div-one (k % n ^ 1) ∙ ap (λ z. k % z) (pow-succ' n 0 ∙ ap (λ z. n * z) (pow-zero n) ∙ mul-one n))
   behind (suc m) k =
       let j = k % n ^ suc (suc m) in
-      ap₂ _∷_ (first m j ∙ ap (λ z. z / n ^ m) (high (suc m) k))
+      word-more n (suc m) j
+      ∙ ap₂ _∷_ (first m j ∙ ap (λ z. z / n ^ m) (high (suc m) k))
       (behind m j ∙ ap₂ (λ a c. word n m (a % n ^ m) ++ (c ∷ [])) (high (suc m) k) (low (suc m) k))
+      ∙ sym (ap (λ (w : List ℕ). w ++ (k % n ∷ [])) (word-more n m (k / n % n ^ suc m)))
 
   word-snoc : (m k : ℕ) → word n (suc (suc m)) k ≡ word n (suc m) (k / n) ++ (k % n ∷ [])
-  word-snoc m k = ap₂ _∷_ (first m k) (behind m k)
+  word-snoc m k =
+      word-more n (suc m) k
+      ∙ ap₂ _∷_ (first m k) (behind m k)
+      ∙ sym (ap (λ (w : List ℕ). w ++ (k % n ∷ [])) (word-more n m (k / n)))
 
 -- ---- filling from the right
 
@@ -73,7 +88,8 @@ pub digits-done : (n m k i rest : ℕ) (out : List ℕ) → 1 ≤ i → i ≤ 1 
 digits-done n m k zero rest out g h l r e = absurd (omega arith)
 digits-done n m k (suc zero) rest out g h l r e =
     filled-left out m 0 rest (omega arith) r
-    ∙ sym (ap (λ (c : ℕ). c ∷ drop 1 (take m out)) (ap (λ (z : ℕ). rest / z) (pow-zero n) ∙ div-one rest))
+    ∙ sym (ap (λ (w : List ℕ). w ++ drop 1 (take m out)) (word-more n 0 rest)
+    ∙ ap (λ (c : ℕ). c ∷ drop 1 (take m out)) (ap (λ (z : ℕ). rest / z) (pow-zero n) ∙ div-one rest))
     ∙ e
 digits-done n m k (suc (suc i)) rest out g h l r e = absurd (omega arith)
 
@@ -93,7 +109,7 @@ zeros-left out i v e =
 
 zero-word : (n m : ℕ) → word n m 0 ≡ replicate m 0
 zero-word n zero = refl
-zero-word n (suc m) = ap₂ _∷_ (zero-div (n ^ m)) (ap (λ (k : ℕ). word n m k) (zero-mod (n ^ m)) ∙ zero-word n m)
+zero-word n (suc m) = word-more n m 0 ∙ ap₂ _∷_ (zero-div (n ^ m)) (ap (λ (k : ℕ). word n m k) (zero-mod (n ^ m)) ∙ zero-word n m)
 
 -- nothing is left of the number
 pub digits-over : (n m k i rest : ℕ) (out : List ℕ) → rest ≡ 0 → i ≤ m → take i out ≡ replicate i 0

@@ -3,8 +3,8 @@ use borrow.Author.Needs.{needs}
 use lib.Dec.{leb}
 use lib.IntN.{natAbs, negsuc, pos, ℤ}
 use mathlib.Core.Path.{_∙_, _≡_, ap, sym}
+use Prim.Native.Nat.{_-_}
 use native.Mathlib.Omega.{arith}
-use Rattle.calculus.specs.Alphabet.{lastCharacter}
 use Rattle.calculus.specs.LinearForms.{eqℤ}
 use Rattle.leaf.proofs.Laws.{code-character, code-longer, code-negative}
 use Rattle.integers.proofs.Machine.{negative, not-negative}
@@ -39,7 +39,7 @@ returns-2 : tie.Need-returns-2
 returns-2 c =
     let s = c .before .before .before in
     let w = not-negative (s .args .code) (s .fits .code) (c .if2 .left) in
-    ap (λ (z : ℤ). leb (natAbs z) (lastCharacter (s .args .n))) (w .2)
+    ap (λ (z : ℤ). leb (natAbs z) (s .args .n - 1)) (w .2)
     ∙ sym (ap (codeFits (s .args .n) (s .args .len)) (w .3)
     ∙ code-character (s .args .n) (s .args .len) (w .0) (sym (single (c .before .before)) ∙ c .before .if1 .taken))
 

@@ -25,7 +25,7 @@ use Rattle.steps.proofs.Bodies.{before, given, c-valid-variable, is-rule, shape
 use Rattle.steps.proofs.Children.{adds-one}
 use Rattle.steps.proofs.Offered.{step-fits, number-of, in-shape, child-size, its-shape, taken-fits, taken-within, taken-room}
 use Rattle.steps.proofs.Rules.{passes, not-several}
-use Rattle.splits.proofs.Forms.{c-valid-size}
+use Rattle.splits.proofs.Forms.{c-valid-count, c-valid-size}
 use Rattle.splits.proofs.Limits.{fine-added}
 use Rattle.splits.proofs.Operands.{c-valid-child}
 use Rattle.splits.proofs.put_child.Statement.{statement}
@@ -72,10 +72,11 @@ put-c-valid-requires c κs =
     let few = stands .few-strings in
     let o = c-valid-child h e in
     let n = number-of (given h) (s .args .k) (there s) _ o in
+    let two : s .args .k ≤ 2 = omega (arith, n .1, c-valid-count (s .args .s) (u16 b (s .args .body + 4))) in
     let size =
     ap (λ (p : Option (List (List Fact))). length (orNone (childIn p (s .args .k)))) o
-    ∙ c-valid-size (s .args .s) (u16 b (s .args .body + 4)) (s .args .k) (n .0) (n .1) in
-    ((omega (arith, size, roomy s), h .fine .room, n .0, n .1, omega arith), (few, stands .few-integers, some-character (h .posed), stands .few-characters))
+    ∙ c-valid-size (s .args .s) (u16 b (s .args .body + 4)) (s .args .k) (n .0) two in
+    ((omega (arith, size, roomy s), h .fine .room, n .0, two, omega arith), (few, stands .few-integers, some-character (h .posed), stands .few-characters))
 
 put-fact-requires : tie.Need-put-fact-requires
 put-fact-requires c κs =

@@ -1,6 +1,9 @@
 -- `steps::card_children` meets its contract.
 use borrow.Author.Needs.{needs}
+use mathlib.Core.Path.{ap}
 use native.Mathlib.Omega.{arith}
+use Rattle.calculus.specs.Steps.{lastCount}
+use Rattle.calculus.proofs.Alphabet.{count-is}
 use Rattle.steps.proofs.Children.{pairs-few, pairs-halved, last-left-out, last-there}
 use Rattle.steps.proofs.card_children.Statement.{statement}
 use Rattle.steps.proofs.card_children.Tie as tie
@@ -15,10 +18,14 @@ add-result : tie.Need-add-result
 add-result c = record { fits = omega (arith, pairs-few (c .before .args .m) (c .before .pre .1)) }
 
 returns : tie.Need-returns
-returns c = omega (arith, pairs-halved (c .before .args .m), last-left-out (c .before .args .n) (c .if1 .taken))
+returns c =
+    let n = c .before .args .n in
+    omega (arith, pairs-halved (c .before .args .m), ap lastCount (count-is n), last-left-out n (c .if1 .taken))
 
 returns-2 : tie.Need-returns-2
-returns-2 c = omega (arith, pairs-halved (c .before .args .m), last-there (c .before .args .n) (c .if1 .left))
+returns-2 c =
+    let n = c .before .args .n in
+    omega (arith, pairs-halved (c .before .args .m), ap lastCount (count-is n), last-there n (c .if1 .left))
 
 pub card-children-spec : {M : Type 1} → statement M
 card-children-spec = tie.close (tie.spec sub-pairs mul-pairs add-result returns returns-2)

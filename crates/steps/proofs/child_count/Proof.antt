@@ -12,7 +12,7 @@ use Rattle.steps.specs.declared.Rule.{Rule}
 use Rattle.steps.specs.Rules.{ruleNamed, shapeOf}
 use Rattle.steps.proofs.Rules.{in-arm}
 use Rattle.steps.proofs.Table.{at-most}
-use Rattle.steps.proofs.Children.{card-count}
+use Rattle.steps.proofs.Children.{card-count, c-valid-shape}
 use Rattle.steps.proofs.child_count.Statement.{statement}
 use Rattle.steps.proofs.child_count.Tie as tie
 
@@ -45,8 +45,8 @@ returns-2 : tie.Need-returns-2
 unfolding shape stepOf
 returns-2 c =
     let a = c .before .args in
-    λ b body. in-arm (λ (r : Rule). 2 ≡ length (shapeOf r (a .n) b body (a .size))) (1 ∷ 2 ∷ 7 ∷ 9 ∷ []) (a .rule) (refl, (refl, (refl, (refl, tt))))
-    (c .match .keys2)
+    λ b body. in-arm (λ (r : Rule). 2 ≡ length (shapeOf r (a .n) b body (a .size))) (1 ∷ 2 ∷ 7 ∷ 9 ∷ []) (a .rule)
+    (refl, (refl, (refl, (sym (ap length (c-valid-shape b (a .n) body (a .size))), tt)))) (c .match .keys2)
 
 returns-3 : tie.Need-returns-3
 unfolding shape stepOf

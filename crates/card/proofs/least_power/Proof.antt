@@ -1,4 +1,4 @@
--- `classes::least_power` meets its contract.
+-- `card::least_power` meets its contract.
 use Prim.Native.Nat.{_*_, _+_, _-_, _<_, _^_, _≤_, ℕ}
 use borrow.Author.Needs.{needs}
 use mathlib.Core.Path.{_∙_, _≡_, ap, sym}
@@ -6,9 +6,9 @@ use native.Mathlib.Nat.{mul-le-mul, pow-suc, pow-zero}
 use native.Mathlib.Numerals.{add-one}
 use native.Mathlib.Omega.{arith}
 use Rattle.calculus.specs.Rules.{leastPower}
-use Rattle.classes.proofs.Laws.{least-power-done, least-power-no, least-power-yes}
-use Rattle.classes.proofs.least_power.Statement.{statement}
-use Rattle.classes.proofs.least_power.Tie as tie
+use Rattle.card.proofs.Laws.{least-power-done, least-power-no, least-power-yes}
+use Rattle.card.proofs.least_power.Statement.{statement}
+use Rattle.card.proofs.least_power.Tie as tie
 
 abbrev Inv-loop : tie.InvT-loop
 Inv-loop n m power₀ k₀ power k = (k ≤ m) × (power ≡ n ^ k) × (leastPower (m - k) n m k ≡ leastPower m n m 0)
