@@ -6,7 +6,11 @@ use mathlib.Core.Logic.{inl, inr}
 use mathlib.Core.List.{[], _∷_}
 use lib.Dec.{T, ltb, ltb→lt, lt→ltb}
 use Rattle.lists.specs.Lists.{Any}
-use Rattle.calculus.specs.Alphabet.{characterCount, character, codeRanges, InCodes, Character, isCharacter}
+use Rattle.calculus.specs.Alphabet.{characterCount, character, codeRanges, Character, isCharacter}
+
+-- the code c is in a range, by its first and last
+abbrev pub InCodes : ℕ → ℕ × ℕ → Type 0
+InCodes c r = (r .0 ≤ c) × (c ≤ r .1)
 
 -- ---- characters and their places
 

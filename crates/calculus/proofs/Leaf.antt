@@ -12,7 +12,7 @@ use lib.Signed.{_≤ℤ_, ≤ℤ-refl}
 use Rattle.integers.proofs.Laws.{≤ℤ-pos, pos-≤ℤ, ≤ℤ-trans, -ℤ-zero→, →-ℤ-zero, -ℤ-nonneg→, abs-nonneg}
 use Rattle.lists.specs.Lists.{All, Any}
 use Rattle.lists.proofs.Options.{some-injective, none-some}
-use Rattle.calculus.specs.Alphabet.{codeRanges, InCodes, Character}
+use Rattle.calculus.specs.Alphabet.{codeRanges, Character}
 use Rattle.calculus.specs.LinearForms.{number, minus, less, above, valueIn}
 use Rattle.calculus.specs.Facts.{Question, Fact, Branch, Function, len, code, literal, apply, valueOf}
 use Rattle.calculus.specs.Chains.{OneClass, ClassHolds, Counts}
@@ -22,7 +22,7 @@ use Rattle.calculus.specs.Instances.{Instance}
 use Rattle.calculus.specs.Model.{modelValue}
 use Rattle.calculus.specs.Saturation.{HoldsAlready, SomeChild}
 use Rattle.calculus.proofs.LinearForms.{dot-minus, dot-number, dot-column, dot-less, dot-above}
-use Rattle.calculus.proofs.Alphabet.{ranges→}
+use Rattle.calculus.proofs.Alphabet.{InCodes, ranges→}
 
 -- ---- some child holds already
 

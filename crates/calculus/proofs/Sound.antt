@@ -14,7 +14,7 @@ use Rattle.integers.proofs.Laws.{minus-one-*ℤ, pos-injective, pos-≤ℤ, ≤
 use Rattle.integers.proofs.Laws.{→-ℤ-zero, →-ℤ-nonneg, neg-nonneg→, branch-cases, apart-cases, tighten}
 use Rattle.lists.specs.Lists.{All, Distinct, Any}
 use Rattle.lists.proofs.Lists.{all-at, distinct-at}
-use Rattle.calculus.specs.Alphabet.{characterCount, codeRanges, InCodes, Over}
+use Rattle.calculus.specs.Alphabet.{characterCount, codeRanges, Over}
 use Rattle.calculus.specs.LinearForms.{scale, number, minus, less, above, below, dot}
 use Rattle.calculus.specs.Facts.{Question, Fact, same, notSame, isLiteral, arithmetic, Branch, Relation, ge}
 use Rattle.calculus.specs.Facts.{eq, ne, Holds, Function, len, code, literal, columnOf, apply, codeOf, valueOf}
@@ -25,7 +25,7 @@ use Rattle.calculus.specs.Instances.{entry, FactAt, Multiplier, Summands
 use Rattle.calculus.specs.Instances.{IsClassLiteral, LengthsStated, Neighbours, LastChild, IsCard, IsJoin, Instance, StepInRange}
 use Rattle.calculus.specs.Meaning.{Assignment, str, For, columns, value, Meets, Met}
 use Rattle.calculus.proofs.LinearForms.{dot-plus, dot-scale, dot-neg, dot-minus, dot-number, dot-column, dot-less, dot-above, dot-below}
-use Rattle.calculus.proofs.Alphabet.{→ranges}
+use Rattle.calculus.proofs.Alphabet.{InCodes, →ranges}
 use Rattle.calculus.proofs.Entries.{entry-scale, entry-tail, dot-entries, dot-split, summed, entry-summed}
 use Rattle.calculus.proofs.Powers.{one-power}
 use Rattle.calculus.proofs.Columns.{column-value}

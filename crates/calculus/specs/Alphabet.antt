@@ -1,6 +1,6 @@
 -- The alphabet: "an alphabet of n characters numbered 0 to n−1". Characters and their number are spoken of by these names alone; what holds of them is in
 -- proofs/Alphabet.
-use Prim.Native.Nat.{ℕ, _-_, _<_, _≤_}
+use Prim.Native.Nat.{ℕ, _-_, _<_}
 use mathlib.Core.Bool.{Bool}
 use mathlib.Core.List.{List, [], _∷_}
 use lib.Dec.{ltb}
@@ -17,10 +17,6 @@ character n k = k
 -- the ranges of characters in rising order, each by its first and last code
 unfoldable pub codeRanges : ℕ → List (ℕ × ℕ)
 codeRanges n = (0, n - 1) ∷ []
-
--- the code c is in a range
-abbrev pub InCodes : ℕ → ℕ × ℕ → Type 0
-InCodes c r = (r .0 ≤ c) × (c ≤ r .1)
 
 -- c is a character
 unfoldable pub Character : ℕ → ℕ → Type 0

@@ -95,11 +95,12 @@ statesDifference i j f = statesZero (minus (column i) (column j)) f || statesZer
 abbrev pub lowestDifference : Branch → ℕ → ℕ → Option ℕ
 lowestDifference b i j = lowestFact (statesDifference i j) b
 
--- there is one
+-- a search found one
 abbrev pub found : Option ℕ → Bool
 found none = false
 found (some k) = true
 
+-- a fact of the branch states it
 unfoldable pub statesEqual : Branch → ℕ → ℕ → Bool
 statesEqual b i j = found (lowestDifference b i j)
 

@@ -16,7 +16,7 @@ use Rattle.calculus.specs.Chains.{OneClass}
 use Rattle.calculus.specs.Derivations.{Closes, WithinLimits, Path, PathWithinLimits}
 use Rattle.calculus.specs.Saturation.{AcceptedLeaf}
 use Rattle.calculus.specs.Meaning.{Assignment, str, For, Meets, Met}
-use Rattle.format.specs.Question.{question, questionIn, questionOf}
+use Rattle.format.specs.Question.{judgedQuestion, questionIn, questionOf}
 use Rattle.format.specs.Answer.{encode, assignmentOf}
 use Rattle.format.specs.Checking.{Outcome, Refused, NoSolution, Strings, largeEnough, verdict}
 use Rattle.format.specs.ProperForm.{ProperNo, ProperStrings, steps, stepsWithChild}
@@ -73,7 +73,7 @@ TH-3 = (b v : List ℕ) (j : Judgement) → Says (judging b v) j → (u : Questi
 
 -- and it judges every assignment that an answer can hold: no 15 or 16 for the bytes of one with strings of at most 64 characters and integers in range
 abbrev pub TH-3-all : Type 0
-TH-3-all = (b : List ℕ) (u : Question) (a : Assignment) → questionIn (question b) ≡ some u → For u a → All (λ s. length s ≤ lengthLimit) (a .strs)
+TH-3-all = (b : List ℕ) (u : Question) (a : Assignment) → questionIn (judgedQuestion b) ≡ some u → For u a → All (λ s. length s ≤ lengthLimit) (a .strs)
     → All (Small valueLimit) (a .ints) → judging b (encode a) ≡ Judged u a
 
 -- ---- TH-4, demand 3: whatever the bytes, where checking says "no solution", no assignment meets all constraints

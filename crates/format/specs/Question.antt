@@ -55,7 +55,7 @@ rankOf k =
 abbrev pub isConstraint : ℕ → Bool
 isConstraint r = ltb literalRank r
 
--- by a record's rank: what holds for a head, for a literal, and for a constraint
+-- by a record's rank: what holds for a head, for a literal, and for a constraint, and for a rank that has no place, which is refused before
 abbrev pub byRank : {A : Type 0} → ℕ → A → A → A → A
 byRank r head literal constraint = cond (eqb r headRank) head (cond (eqb r literalRank) literal constraint)
 
@@ -153,7 +153,7 @@ constraintFault b p l c k at m =
     (cond (eqb k arithmeticKind) (arithmeticFault b c at m)
     4)
 
--- what the body says where it has no fault
+-- what the body says where it has no fault; every kind without a row here is read as arithmetic, and those that are no constraint's have a fault
 abbrev pub constraintOf : List ℕ → ℕ → ℕ → ℕ → Fact
 constraintOf b k at m =
     cond (eqb k stringKind) (stringFact (u16 b at) (u16 b (at + 2)) (u16 b (at + 4)))
@@ -167,14 +167,15 @@ pub record Manner : Type 0 where
   -- the greatest rank that is taken: a kind of a greater one is out of its place
   pub greatest : ℕ
 
--- "2 to 7 and 10 for the question": in checking and in judging
+-- "10 when facts .. would pass theirs"
 abbrev pub checkingManner : Manner
 checkingManner = record { limited = true; greatest = arithmeticRank }
 
+-- "2 to 7 and 10 for the question"
 abbrev pub judgingManner : Manner
 judgingManner = record { limited = true; greatest = arithmeticRank }
 
--- proper form asks for "none of 2 to 7"
+-- proper form asks for "none of 2 to 7", of the kinds that checking takes
 abbrev pub formManner : Manner
 formManner = record { limited = false; greatest = arithmeticRank }
 
@@ -190,7 +191,7 @@ rankInPlace greatest last literals r =
 abbrev pub inPlace : ℕ → Progress → ℕ → Bool
 inPlace greatest s k = rankInPlace greatest (s .last) (length (s .question .literals)) (rankOf k)
 
--- the first of 5 to 7 that applies to a body of kind k, of m bytes at a position
+-- the first of 5 to 7 that applies to a body of kind k, of m bytes at a position; 4 for a kind without a place
 abbrev pub questionBodyFault : List ℕ → Question → ℕ → ℕ → ℕ → ℕ
 questionBodyFault b u k at m =
     byRank (rankOf k)

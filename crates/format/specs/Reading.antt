@@ -12,7 +12,7 @@ use Rattle.calculus.specs.Steps.{Step}
 use Rattle.calculus.specs.Walk.{Waiting, Walk, working, closed, enter}
 use Rattle.format.specs.Fields.{u16, i32s, allWithin}
 use Rattle.format.specs.Records.{size, kind, next, whole, records, need}
-use Rattle.format.specs.Question.{Progress, Reading, Stopped, Ended}
+use Rattle.format.specs.Question.{Progress, Reading, Stopped, Ended, headRead}
 use Rattle.format.specs.StepForms.{rule, childField, lengthFits, operandsInRange, stepAt, childInRange}
 
 -- what stands behind the claim: the walk under claim 1; the branch under claim 2; the leaf and its model.
@@ -22,7 +22,7 @@ pub data State (B C : Type 0) : Type 0 where
   taking : B → State B C
   modelled : B → List ℤ → State B C
 
--- 11 does not apply: "when the end comes before every branch closed, or before a model"
+-- false where 11 applies: "when the end comes before every branch closed, or before a model"
 abbrev pub complete : {B C : Type 0} → State B C → Bool
 complete (proving (working br ss)) = false
 complete (proving closed) = true
@@ -122,7 +122,7 @@ claimAt b at = u16 b (at + 6)
 
 abbrev pub claimFault : List ℕ → Progress → ℕ → ℕ
 claimFault b s at =
-    need 3 (whole b at) (need 4 (leb 1 (s .last) && eqb (kind b at) 5) (need 5 (eqb (size b at) 2) (need 6 (leb 1 (claimAt b at) && leb (claimAt b at) 2) 0)))
+    need 3 (whole b at) (need 4 (headRead s && eqb (kind b at) 5) (need 5 (eqb (size b at) 2) (need 6 (leb 1 (claimAt b at) && leb (claimAt b at) 2) 0)))
 
 abbrev pub begin : {B C : Type 0} → Method B C → ℕ → State B C
 begin w claim = cond (eqb claim 1) (proving (working (w .root) [])) (taking (w .root))

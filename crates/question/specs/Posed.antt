@@ -17,7 +17,7 @@ asked b s = progressOf b s .question
 abbrev pub numbered : Progress → Question
 numbered s = blank (s .n) (s .p) (s .q)
 
--- it stands, with its head, in a ticket that is not too long, and leaves room for every constraint on a branch
+-- it stands, with its head, in a ticket that is not too long, and a branch has room for its constraints; a manner without 10 does not give this
 pub record PosedTo (greatest : ℕ) (b : List ℕ) (s : Progress) : Type 0 where
   pub to : ℕ
   pub stands : StandsTo greatest b s to

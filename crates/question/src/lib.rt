@@ -11,7 +11,9 @@ ghost use Rattle.calculus.specs.Facts.{codeOf};
 ghost use Rattle.calculus.specs.Strings.{eqString, given};
 ghost use Rattle.format.specs.Fields.{u32s, signed, pairsAt};
 ghost use Rattle.format.specs.Records.{kind as kindAt, size as sizeAt};
-ghost use Rattle.format.specs.Question.{literalRank, rankOf, headFault, textOf, literalFault, stringRange, stringFault, coefficientInRange, pairInRange, rising, formRange, arithmeticFault, constraintFault, rankInPlace, questionBodyFault, roomFor, questionFault, questionAdvanced, ending, readBy};
+ghost use Rattle.format.specs.Question.{literalRank, rankOf, headFault, textOf, literalFault, stringRange, stringFault, coefficientInRange, pairInRange};
+ghost use Rattle.format.specs.Question.{rising, formRange, arithmeticFault, constraintFault, rankInPlace, questionBodyFault, roomFor, questionFault};
+ghost use Rattle.format.specs.Question.{questionAdvanced, ending, readBy};
 ghost use Rattle.format.specs.Places.{skip, texts, literalsFrom};
 ghost use Rattle.question.specs.Progress.{mannerOf, progressOf, readingOf};
 ghost use Rattle.question.specs.Standing.{StandsTo, NextAt};
@@ -335,7 +337,7 @@ pub struct Manner {
     pub greatest: usize,
 }
 
-// "2 to 7 and 10 for the question": in checking and in judging.
+// Checking looks for 10, and judging: "2 to 7 and 10 for the question".
 pub const CHECKING: Manner = Manner {
     limited: true,
     greatest: ARITHMETIC_RANK,

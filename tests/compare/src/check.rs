@@ -128,7 +128,7 @@ fn check(parts: &[Vec<u8>], lent: &mut Buffers) -> Reply {
     write(&reference(&parts[0], WORK_AREA, lent.answer.len()), &mut lent.answer)
 }
 
-/// The reference in the place of `check_in`: "The whole work area .. is zero after every call, except that 1 does not touch it."
+/// The reference in the place of `nuldwich_check_in`: "The whole work area .. is zero after every call, except that 1 does not touch it."
 fn check_in(parts: &[Vec<u8>], lent: &mut Buffers) -> Reply {
     let reply = write(&reference(&parts[0], lent.work.len(), lent.answer.len()), &mut lent.answer);
     if reply[0] != 1 {
