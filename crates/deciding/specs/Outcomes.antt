@@ -1,17 +1,20 @@
 -- What a ticket comes to on buffers that are large enough, as the code tells it.
 use mathlib.Core.Path.{_≡_}
 use mathlib.Core.List.{List, []}
-use Prim.Native.Nat.{ℕ}
+use Prim.Native.Nat.{ℕ, _+_, _≤_}
+use lib.ListN.{length}
 use lib.IntN.{ℤ}
+use Rattle.calculus.specs.Limits.{ticketBytes, factLimit}
 use Rattle.calculus.specs.Facts.{Fact, Branch}
 use Rattle.calculus.specs.Walk.{working}
-use Rattle.format.specs.Question.{question}
+use Rattle.format.specs.Question.{checkingManner, question}
 use Rattle.format.specs.Reading.{State, proving, taking, stepsOn, readClaim, readBehind}
 use Rattle.format.specs.Checking as format
 use Rattle.format.specs.Checking.{checker, outcomeOf}
 use Rattle.format.specs.Demands.{answerAfter}
 use Rattle.question.specs.declared.Progress.{Progress}
 use Rattle.question.specs.Progress.{progressOf}
+use Rattle.question.specs.Standing.{StandsTo}
 use Rattle.question.specs.Posed.{asked, Posed}
 use Rattle.rows.specs.Rows.{branchOf}
 use Rattle.rows.specs.Work.{Fine}
@@ -41,6 +44,11 @@ claimedFrom b s at r = outcomeOf (readClaim checker b (progressOf b s) at r)
 
 abbrev pub readWhole : List ℕ → format.Outcome
 readWhole b = outcomeOf (readBehind checker b (question b))
+
+-- a question that was read as checking reads it, up to record r at a position, where six bytes of the next record stand
+abbrev pub ReadTo : List ℕ → Progress → ℕ → ℕ → Type 0
+ReadTo b s at r =
+    StandsTo (checkingManner .greatest) b s at × (at + 6 ≤ length b) × (length b ≤ ticketBytes) × (s .constraints ≤ factLimit) × (r ≤ at)
 
 -- a question that was read, with its constraints in their rows
 abbrev pub Loaded : List ℕ → Progress → List ℤ → Type 0

@@ -1,17 +1,15 @@
 // What a ticket comes to, on buffers that are large enough: the question, the claim, the steps and the end, 2 to 14 in their order.
 ghost use mathlib.Core.Path.{_≡_};
 ghost use mathlib.Core.List.{List};
-ghost use Prim.Native.Nat.{ℕ, _+_, _≤_};
+ghost use Prim.Native.Nat.{ℕ, _≤_};
 ghost use lib.ListN.{length};
-ghost use Rattle.calculus.specs.Limits.{workNumbers, answerBytes, ticketBytes, factLimit};
+ghost use Rattle.calculus.specs.Limits.{workNumbers, answerBytes};
 ghost use Rattle.format.specs.Records.{kind, next};
-ghost use Rattle.format.specs.Question.{checkingManner};
 ghost use Rattle.format.specs.Reading.{taking};
 ghost use Rattle.question.specs.Posed.{Posed};
-ghost use Rattle.question.specs.Standing.{StandsTo};
 ghost use Rattle.rows.specs.Rows.{branchOf};
 ghost use Rattle.rows.specs.Work.{Fine};
-ghost use Rattle.deciding.specs.Outcomes.{outcomeFrom, provedFrom, followedFrom, claimedFrom, readWhole, Loaded, Decided};
+ghost use Rattle.deciding.specs.Outcomes.{outcomeFrom, provedFrom, followedFrom, claimedFrom, readWhole, ReadTo, Loaded, Decided};
 use claims::Followed;
 use claims::Walked;
 use claims::follow;
@@ -117,7 +115,7 @@ fn behind_question(
     work: &mut [i64],
     answer: &mut [u8],
 ) -> Outcome
-    requires { ⌜ StandsTo (checkingManner .greatest) (now ticket) s at × (at + 6 ≤ length (now ticket)) × (length (now ticket) ≤ ticketBytes) × (s .constraints ≤ factLimit) × (r ≤ at) ⌝ }
+    requires { ⌜ ReadTo (now ticket) s at r ⌝ }
     requires { ⌜ (workNumbers ≤ length (now work)) × (answerBytes ≤ length (now answer)) ⌝ }
     ensures { λ o. ⌜ Decided (claimedFrom (now (ticket .entry)) s at r) (now (answer .entry)) (now (answer .exit)) o ⌝ }
 {
