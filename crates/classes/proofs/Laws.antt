@@ -1,5 +1,5 @@
 -- Laws of labels, rows and tests below a bound, in the form that a loop asks.
-use mathlib.Core.Path.{_≡_, refl, sym, _∙_, ap}
+use mathlib.Core.Path.{_≡_, refl, sym, _∙_, ap, ap₂}
 use mathlib.Core.Bool.{Bool, true, false, cond, _||_, or-true, or-false, or-assoc}
 use mathlib.Core.Option.{none, some}
 use mathlib.Core.List.{List, [], _∷_, _++_}
@@ -7,8 +7,9 @@ use Prim.Native.Nat.{ℕ, zero, suc, _+_, _-_, _≤_, _<_}
 use native.Mathlib.Numerals.{add-one}
 use native.Mathlib.Omega.{arith}
 use native.Mathlib.Decide.{decLt}
+use borrow.Author.Tests.{eqb-true}
 use lib.Dec.{eqb}
-use lib.ListN.{length, getD}
+use lib.ListN.{length, getD, take}
 use lib.IntN.{ℤ, pos}
 use Rattle.lists.specs.Lists.{anyBelow}
 use Rattle.lists.proofs.Options.{some-injective, none-some}
@@ -17,9 +18,12 @@ use Rattle.calculus.specs.Facts.{Fact, Branch, same, notSame, isLiteral, arithm
 use Rattle.calculus.specs.Chains.{varNode, litNode}
 use Rattle.calculus.specs.Classes.{upFrom, relabel, mergeNodes, mergeFact, labelsFrom, labels, sameClass, lowestLiteral, sidesMeet}
 use Rattle.calculus.specs.SaturationTest.{lowestFrom}
-use Rattle.rows.specs.Rows.{index, factOf}
+use Rattle.rows.specs.Rows.{index, factOf, branchOf}
 use Rattle.rows.specs.Work.{tagOf}
+use Rattle.rows.proofs.Branches.{branch-take}
 use Rattle.rows.proofs.Tags.{row-string}
+use Rattle.classes.specs.declared.Known.{Known}
+use Rattle.classes.specs.Classes.{Knows}
 
 -- ---- labels
 
@@ -28,12 +32,34 @@ getD-relabel old new [] i d h = absurd (omega arith)
 getD-relabel old new (c ∷ ls) zero d h = refl
 getD-relabel old new (c ∷ ls) (suc i) d h = getD-relabel old new ls i d (omega arith)
 
+-- a label that becomes itself
+pub relabel-same : (l : ℕ) (ls : List ℕ) → relabel l l ls ≡ ls
+relabel-same l [] = refl
+relabel-same l (c ∷ ls) = ap₂ _∷_ (go (eqb c l) refl) (relabel-same l ls)
+  where
+    go : (t : Bool) → eqb c l ≡ t → cond t l c ≡ c
+    go true e = sym (eqb-true c l e)
+    go false e = refl
+
 from-snoc : (ls : List ℕ) (b : Branch) (f : Fact) → labelsFrom ls (b ++ f ∷ []) ≡ mergeFact (labelsFrom ls b) f
 from-snoc ls [] f = refl
 from-snoc ls (g ∷ b) f = from-snoc (mergeFact ls g) b f
 
 pub labels-snoc : (b : Branch) (f : Fact) → labels (b ++ f ∷ []) ≡ mergeFact (labels b) f
 labels-snoc b f = from-snoc (upFrom 0 32) b f
+
+-- ---- labels that are kept
+
+-- beside facts that stay
+pub knows-kept : {w v : List ℤ} {count : ℕ} {k : Known} → branchOf v count ≡ branchOf w count → Knows w count k → Knows v count k
+knows-kept {w} {v} {count} {k} e h =
+    let same : branchOf w (k .upto) ≡ branchOf v (k .upto) =
+    sym (branch-take w count (k .upto) (h .few)) ∙ ap (take (k .upto)) (sym e) ∙ branch-take v count (k .upto) (h .few) in
+    record { few = h .few; labelled = h .labelled ∙ ap labels same }
+
+-- beside more facts
+pub knows-more : {w : List ℤ} {count more : ℕ} {k : Known} → Knows w count k → count ≤ more → Knows w more k
+knows-more h l = let few = h .few in record { few = omega arith; labelled = h .labelled }
 
 -- ---- the lowest literal
 

@@ -1,10 +1,11 @@
 // Classes of variables and literals: labels of the 32 nodes, from the rows of a branch.
 ghost use mathlib.Core.Path.{_≡_};
 ghost use mathlib.Core.Bool.{cond};
-ghost use mathlib.Core.List.{[], _∷_};
-ghost use Prim.Native.Nat.{_*_, _≤_, _<_};
+ghost use mathlib.Core.List.{List, [], _∷_};
+ghost use Prim.Native.Nat.{ℕ, _*_, _≤_, _<_};
 ghost use lib.ListN.{length};
 ghost use lib.Dec.{eqb};
+ghost use lib.IntN.{ℤ};
 ghost use Rattle.lists.specs.Lists.{anyBelow};
 ghost use Rattle.calculus.specs.Limits.{variableLimit, factLimit};
 ghost use Rattle.calculus.specs.Chains.{varNode, litNode};
@@ -12,7 +13,7 @@ ghost use Rattle.calculus.specs.Classes as classes;
 ghost use Rattle.calculus.specs.Classes.{nodeCount, upFrom, mergeNodes, mergeFact, sameClass, lowestLiteral, sidesMeet, literalMeets, clash};
 ghost use Rattle.calculus.specs.SaturationTest.{lowestVariable};
 ghost use Rattle.rows.specs.Rows.{rowLength, factOf, branchOf};
-ghost use Rattle.classes.specs.Classes.{literalOf};
+ghost use Rattle.classes.specs.Classes.{literalOf, Knows};
 use limits::NODE_COUNT;
 use rows::FIRST;
 use rows::SECOND;
@@ -23,6 +24,12 @@ use rows::literal_at;
 use rows::row_at;
 use rows::tag_of;
 use rows::variable_at;
+
+// The labels of the first `upto` facts of a branch.
+pub struct Known {
+    pub labels: [u8; NODE_COUNT],
+    pub upto: usize,
+}
 
 // The lowest literal of a class, if it holds one.
 pub enum Lowest {
@@ -121,6 +128,9 @@ fn merge(labels: [u8; NODE_COUNT], i: usize, j: usize) -> [u8; NODE_COUNT]
 {
     let new = labels[i];
     let old = labels[j];
+    if old == new {
+        return labels;
+    }
     relabel(old, new, labels)
 }
 
@@ -143,19 +153,52 @@ fn merge_row(row: &[i64], labels: [u8; NODE_COUNT]) -> [u8; NODE_COUNT]
     labels
 }
 
-// The labels of a branch of `count` facts.
-pub fn labels(work: &[i64], count: usize) -> [u8; NODE_COUNT]
-    requires { ⌜ (count ≤ factLimit) × (rowLength * count ≤ length (now work)) ⌝ }
-    ensures { λ r. ⌜ r ≡ classes.labels (branchOf (now (work .entry)) count) ⌝ }
+// The labels of a branch without facts.
+fn nothing_known() -> Known
+    ensures { λ r. ⌜ ((w : List ℤ) (count : ℕ) → Knows w count r) ⌝ }
 {
-    let mut out = first_labels();
-    let mut k = 0;
+    Known {
+        labels: first_labels(),
+        upto: 0,
+    }
+}
+
+// What is known of the first `count` facts, from what is known of some of them: the facts behind those are added.
+pub fn bring_up(known: Known, work: &[i64], count: usize) -> Known
+    requires { ⌜ Knows (now work) count known ⌝ }
+    requires { ⌜ (count ≤ factLimit) × (rowLength * count ≤ length (now work)) ⌝ }
+    ensures upto { λ r. ⌜ r .upto ≡ count ⌝ }
+    ensures labels { λ r. ⌜ r .labels ≡ classes.labels (branchOf (now (work .entry)) count) ⌝ }
+{
+    let mut out = known.labels;
+    let mut k = known.upto;
     while k < count {
         let next = merge_row(row_at(work, k), out);
         out = next;
         k += 1;
     }
-    out
+    Known {
+        labels: out,
+        upto: count,
+    }
+}
+
+// What is known of the first `mark` facts: what was kept, or, where that goes further, what is known of the question's constraints.
+pub fn set_back(known: Known, first: Known, mark: usize) -> Known
+    ensures { λ r. ⌜ ((w : List ℤ) (count : ℕ) → Knows w count known → Knows w mark first → Knows w mark r) ⌝ }
+{
+    if known.upto <= mark {
+        return known;
+    }
+    first
+}
+
+// The labels of a branch of `count` facts.
+pub fn labels(work: &[i64], count: usize) -> [u8; NODE_COUNT]
+    requires { ⌜ (count ≤ factLimit) × (rowLength * count ≤ length (now work)) ⌝ }
+    ensures { λ r. ⌜ r ≡ classes.labels (branchOf (now (work .entry)) count) ⌝ }
+{
+    bring_up(nothing_known(), work, count).labels
 }
 
 // ---- classes
