@@ -6,9 +6,9 @@ use native.Mathlib.Decide.{decLt}
 use mathlib.Core.Path.{_≡_, refl, sym, _∙_, ap, ap₂}
 use mathlib.Core.Option.{none, some}
 use mathlib.Core.List.{List, [], _∷_, _++_}
-use lib.ListN.{length, take, drop, getElem?, length-take, length-drop}
-use lib.Seq.{take-append-le, take-all, take-at, drop-at, drop-drop, take-take, length-take-le}
-use lib.IntN.{ℤ}
+use lib.ListN.{length, getD, take, drop, set, getElem?, length-take, length-drop}
+use lib.Seq.{take-append-le, take-all, take-at, drop-at, drop-drop, take-take, length-take-le, take-set-le, take-set-lt, drop-set-add, getD-take, getD-drop}
+use lib.IntN.{ℤ, pos}
 use Rattle.calculus.specs.Facts.{Fact}
 use Rattle.lists.proofs.Filled.{drop-take}
 use Rattle.lists.proofs.Lists.{element-none, length-upTo, element-upTo}
@@ -65,17 +65,20 @@ branch-take w (suc k) m h = go (λ l. branch-take w k m l) (decLt m (suc k))
 
 -- ---- a row is put in its own stretch
 
+-- row k states f, and the rows before it are as they were
+pub branch-stated : (w v : List ℤ) (k : ℕ) (f : Fact) → take (rowLength * k) v ≡ take (rowLength * k) w → factOf (rowAt v k) ≡ f
+    → branchOf v (k + 1) ≡ branchOf w k ++ (f ∷ [])
+branch-stated w v k f same e = branch-more v k ∙ ap₂ (λ (b : List Fact) (g : Fact). b ++ (g ∷ [])) (branch-same v w k same) e
+
 pub branch-put : (w row : List ℤ) (k : ℕ) → rowLength * k + rowLength ≤ length w → length row ≡ rowLength
     → branchOf (take (rowLength * k) w ++ (row ++ drop (rowLength * k + rowLength) w)) (k + 1) ≡ branchOf w k ++ (factOf row ∷ [])
 branch-put w row k h n =
     let front : length (take (rowLength * k) w) ≡ rowLength * k = length-take-le (rowLength * k) w (omega arith) in
     let rest = row ++ drop (rowLength * k + rowLength) w in
-    let new = take (rowLength * k) w ++ rest in
-    let same : branchOf new k ≡ branchOf w k = branch-same new w k (take-at (take (rowLength * k) w) rest (rowLength * k) front) in
-    let its : rowAt new k ≡ row =
+    let its : rowAt (take (rowLength * k) w ++ rest) k ≡ row =
     ap (λ (l : List ℤ). take rowLength l) (drop-at (take (rowLength * k) w) rest (rowLength * k) front)
     ∙ take-at row (drop (rowLength * k + rowLength) w) rowLength n in
-    branch-more new k ∙ ap₂ (λ (b : List Fact) (r : List ℤ). b ++ (factOf r ∷ [])) same its
+    branch-stated w (take (rowLength * k) w ++ rest) k (factOf row) (take-at (take (rowLength * k) w) rest (rowLength * k) front) (ap factOf its)
 
 -- a row's own stretch is lent and comes back as a row that states f: the facts before it and f
 pub branch-filled : (w row : List ℤ) (k : ℕ) (f : Fact) → rowLength * k + rowLength ≤ length w → length row ≡ rowLength → factOf row ≡ f
@@ -83,3 +86,24 @@ pub branch-filled : (w row : List ℤ) (k : ℕ) (f : Fact) → rowLength * k + 
 branch-filled w row k f h n e =
     let m : rowLength * k + rowLength - rowLength * k ≡ rowLength = omega arith in
     rw (m, drop-drop) (branch-put w row k h n) ∙ ap (λ (g : Fact). branchOf w k ++ (g ∷ [])) e
+
+-- ---- a row is filled number by number
+
+-- a number is stored in row k
+pub row-set : (w : List ℤ) (k j : ℕ) (x : ℤ) → j < rowLength → rowAt (set w (rowLength * k + j) x) k ≡ set (rowAt w k) j x
+row-set w k j x h =
+    ap (λ (l : List ℤ). take rowLength l) (drop-set-add (rowLength * k) w j x) ∙ take-set-lt rowLength (drop (rowLength * k) w) j x h
+
+-- the rows before it are as they were
+pub before-set : (w v : List ℤ) (k j : ℕ) (x : ℤ) → take (rowLength * k) v ≡ take (rowLength * k) w
+    → take (rowLength * k) (set v (rowLength * k + j) x) ≡ take (rowLength * k) w
+before-set w v k j x e = take-set-le (rowLength * k) v (rowLength * k + j) x (omega arith) ∙ e
+
+-- a number of a row before it
+pub before-at : (w v : List ℤ) (k i j : ℕ) → i < k → j < rowLength → take (rowLength * k) v ≡ take (rowLength * k) w
+    → getD v (rowLength * i + j) (pos 0) ≡ getD (rowAt w i) j (pos 0)
+before-at w v k i j h l e =
+    sym (getD-take (rowLength * k) v (rowLength * i + j) (pos 0) (omega arith))
+    ∙ ap (λ (m : List ℤ). getD m (rowLength * i + j) (pos 0)) e
+    ∙ getD-take (rowLength * k) w (rowLength * i + j) (pos 0) (omega arith)
+    ∙ sym (getD-take rowLength (drop (rowLength * i) w) j (pos 0) l ∙ getD-drop (rowLength * i) w j (pos 0))

@@ -4,7 +4,7 @@ ghost use mathlib.Core.Logic.{_≢_};
 ghost use mathlib.Core.Bool.{true, _||_};
 ghost use mathlib.Core.List.{_∷_};
 ghost use Prim.Native.Nat.{_+_, _*_, _≤_, _<_};
-ghost use lib.ListN.{length, getD, drop};
+ghost use lib.ListN.{length, getD, take, drop};
 ghost use lib.IntN.{pos, negsuc};
 ghost use Rattle.calculus.specs.Limits.{variableLimit, columnLimit, numberLimit, valueLimit, factLimit, workNumbers};
 ghost use Rattle.calculus.specs.LinearForms.{zeros, column, scale, minus, above, below, allZero, eqIntegers, valueIn};
@@ -297,6 +297,33 @@ pub fn put_difference(work: &mut [i64], k: usize, relation: usize, i: usize, j: 
     let from = ROW_LENGTH * k;
     let to = from + ROW_LENGTH;
     fill_difference(&mut work[from..to], relation, i, j);
+}
+
+// ---- facts derived from an earlier fact, each written straight into its own stretch of the work area
+
+// Row k becomes an earlier row.
+fn copy_row(work: &mut [i64], k: usize, from: usize)
+    requires { ⌜ (from < k) × (k < factLimit) × (workNumbers ≤ length (now work)) ⌝ }
+    ensures row { λ _. ⌜ rowAt (now (work .exit)) k ≡ rowAt (now (work .entry)) from ⌝ }
+    ensures before { λ _. ⌜ take (rowLength * k) (now (work .exit)) ≡ take (rowLength * k) (now (work .entry)) ⌝ }
+{
+    let source = ROW_LENGTH * from;
+    let target = ROW_LENGTH * k;
+    let mut j = 0;
+    while j < ROW_LENGTH {
+        let x = work[source + j];
+        work[target + j] = x;
+        j += 1;
+    }
+}
+
+// e = 0, of the earlier row of e, behind the first k facts.
+pub fn put_equation(work: &mut [i64], k: usize, from: usize)
+    requires { ⌜ (from < k) × (k < factLimit) × (workNumbers ≤ length (now work)) ⌝ }
+    ensures { λ _. ⌜ Behind (now (work .entry)) k (arithmetic eq (drop 1 (rowAt (now (work .entry)) from))) (now (work .exit)) ⌝ }
+{
+    copy_row(work, k, from);
+    work[ROW_LENGTH * k + TAG] = TAG_EQ as i64;
 }
 
 // ---- the limit
