@@ -154,7 +154,7 @@ fn merge_row(row: &[i64], labels: [u8; NODE_COUNT]) -> [u8; NODE_COUNT]
 }
 
 // The labels of a branch without facts.
-fn nothing_known() -> Known
+pub fn nothing_known() -> Known
     ensures { λ r. ⌜ ((w : List ℤ) (count : ℕ) → Knows w count r) ⌝ }
 {
     Known {

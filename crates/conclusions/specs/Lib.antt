@@ -1,2 +1,3 @@
+pub mod Labels
 pub mod Made
 pub mod Sums

@@ -1,47 +1,69 @@
 -- `conclusions::sum` meets its contract.
 use Prim.Native.Nat.{_+_, ℕ}
 use borrow.Author.Needs.{needs}
+use borrow.Author.Tests.{not-false, not-true}
 use denote.Ref.{now}
-use mathlib.Core.Path.{_∙_, ap}
+use lib.IntN.{ℤ}
+use mathlib.Core.List.{List}
+use mathlib.Core.Path.{_∙_, _≡_, ap, sym}
 use native.Mathlib.Omega.{arith}
 use Rattle.calculus.specs.Facts.{Question}
 use Rattle.conclusions.proofs.Forms.{SumBody, sum-body}
-use Rattle.conclusions.proofs.Laws.{sum-made}
+use Rattle.conclusions.proofs.Laws.{sum-adds, sum-none}
+use Rattle.conclusions.proofs.Tried.{concluded, eight, nine, ten}
 use Rattle.format.specs.Fields.{u32}
 use Rattle.format.specs.StepForms.{sumPairs}
 use Rattle.rows.specs.Rows.{branchOf}
-use Rattle.sums.specs.Sums.{sumFact}
+use Rattle.sums.specs.Sums.{factIn, sumFact}
 use Rattle.conclusions.proofs.sum.Statement.{statement}
 use Rattle.conclusions.proofs.sum.Tie as tie
 
 -- the body by its fields
 body : (c : tie.After-shared-slice-known) → SumBody (now (c .before .args .ticket)) (c .before .args .body) (c .before .args .size)
-body c = sum-body (now (c .before .args .ticket)) (c .before .args .body) (c .before .args .size) 0 0 (c .before .pre .1 .0 .1) (c .before .pre .1 .0 .2)
+body c = sum-body (now (c .before .args .ticket)) (c .before .args .body) (c .before .args .size) 0 0 (c .before .pre .0 .1) (c .before .pre .0 .2)
+
+-- the row that was filled, and its fact
+abbrev row : (c : tie.After-sum-row) → List ℤ
+row c = c .sum-row .last .0
+
+summed : (c : tie.After-sum-row) →
+    let a = c .before .before .before .before .before .args in
+    factIn (c .sum-row .result) (row c)
+    ≡ sumFact (branchOf (now (a .work)) (a .count)) (u32 (now (a .ticket)) (a .body + 4)) (sumPairs (now (a .ticket)) (a .body) (a .size))
+summed c =
+    let a = c .before .before .before .before .before .args in
+    c .sum-row .ensures
+    ∙ ap (λ (d : ℕ). sumFact (branchOf (now (a .work)) (a .count)) d (sumPairs (now (a .ticket)) (a .body) (a .size)))
+    (c .before .before .before .u32-at .ensures .0)
 
 add-u32-at : tie.Need-add-u32-at
-add-u32-at c = omega (arith, c .before .pre .1 .0 .0, body c .some-pair)
+add-u32-at c = search needs
 
 u32-at-requires : tie.Need-u32-at-requires
-u32-at-requires c κs = omega (arith, c .before .pre .1 .0 .0, body c .some-pair)
+u32-at-requires c κs = omega (arith, c .before .pre .0 .0, body c .some-pair)
+
+sub-pairs : tie.Need-sub-pairs
+sub-pairs c = omega (arith, body (c .before) .some-pair)
+
+slice-aggregate-sum-row : tie.Need-slice-aggregate-sum-row
+slice-aggregate-sum-row c = search needs
 
 add-sum-row : tie.Need-add-sum-row
-add-sum-row c = omega (arith, c .before .before .before .pre .1 .0 .0, body (c .before .before) .some-pair)
-
-sub-sum-row : tie.Need-sub-sum-row
-sub-sum-row c = omega (arith, c .before .before .before .pre .1 .0 .0, body (c .before .before) .some-pair)
+add-sum-row c = search needs
 
 sum-row-requires : tie.Need-sum-row-requires
 sum-row-requires c κs =
-    let s = c .before .before .before in
-    let h = body (c .before .before) in
+    let u32-at = c .before .before .u32-at in
+    let known = c .before .before .before in
+    let h = body known in
     let some-pair = h .some-pair in
     let few-pairs = h .few-pairs in (
-      s .pre .0,
+      search needs,
       (
-        (omega arith, omega arith, omega (arith, s .pre .1 .0 .0)),
+        (omega arith, omega arith, omega (arith, known .before .pre .0 .0)),
         (
-          (omega (arith, h .some-divisor, c .before .u32-at .ensures .0), omega (arith, h .small-divisor, c .before .u32-at .ensures .0)),
-          (h .multipliers, s .pre .1 .1),
+          (omega (arith, h .some-divisor, u32-at .ensures .0), omega (arith, h .small-divisor, u32-at .ensures .0)),
+          (h .multipliers, known .before .pre .1),
         ),
       ),
     )
@@ -51,12 +73,62 @@ same-length c = search needs
 
 returns : tie.Need-returns
 returns c =
-    let a = c .before .before .before .before .before .args in
-    let b = now (a .ticket) in
-    λ (u : Question). sum-made u (branchOf (now (a .work)) (a .count)) (u32 b (a .body + 4)) (sumPairs b (a .body) (a .size)) (c .before .sum-row .result)
-    (c .before .sum-row .last .0)
-    (c .before .sum-row .ensures
-    ∙ ap (λ (d : ℕ). sumFact (branchOf (now (a .work)) (a .count)) d (sumPairs b (a .body) (a .size))) (c .before .before .before .u32-at .ensures .0))
+    let after-sum = c .before .before in
+    let a = after-sum .before .before .before .before .before .args in
+    λ (u : Question). eight (now (a .work)) _ (a .count) _
+    (sum-none u _ _ _ (after-sum .sum-row .result) (row after-sum) (summed after-sum) (not-true _ (c .if1 .taken)))
+
+slice-aggregate-fact-within : tie.Need-slice-aggregate-fact-within
+slice-aggregate-fact-within c = search needs
+
+fact-within-requires : tie.Need-fact-within-requires
+fact-within-requires c κs = search needs
+
+same-length-2 : tie.Need-same-length-2
+same-length-2 c = search needs
+
+returns-2 : tie.Need-returns-2
+returns-2 c =
+    let if1 = c .before .before .before .if1 in
+    let after-sum = c .before .before .before .before .before in
+    let a = after-sum .before .before .before .before .before .args in
+    λ (u : Question). nine (now (a .work)) _ (a .count) _ _
+    (sum-adds u _ _ _ (after-sum .sum-row .result) (row after-sum) (summed after-sum) (not-false _ (if1 .left)))
+    (sym (c .before .fact-within .ensures) ∙ not-true _ (c .if2 .taken))
+
+same-length-3 : tie.Need-same-length-3
+same-length-3 c = search needs
+
+returns-3 : tie.Need-returns-3
+returns-3 c =
+    let if1 = c .before .before .before .before .if1 in
+    let after-sum = c .before .before .before .before .before .before in
+    let a = after-sum .before .before .before .before .before .args in
+    λ (u : Question). ten (now (a .work)) _ (a .count) _ _
+    (sum-adds u _ _ _ (after-sum .sum-row .result) (row after-sum) (summed after-sum) (not-false _ (if1 .left)))
+    (sym (c .before .before .fact-within .ensures) ∙ not-false _ (c .before .if2 .left)) (c .if3 .taken)
+
+slice-aggregate-put-row : tie.Need-slice-aggregate-put-row
+slice-aggregate-put-row c = search needs
+
+put-row-requires : tie.Need-put-row-requires
+put-row-requires c κs = search needs
+
+same-length-4 : tie.Need-same-length-4
+same-length-4 c = search needs
+
+returns-4 : tie.Need-returns-4
+returns-4 c =
+    let if3 = c .before .before .before .before .if3 in
+    let if2 = c .before .before .before .before .before .if2 in
+    let fact-within = c .before .before .before .before .before .before .fact-within in
+    let if1 = c .before .before .before .before .before .before .before .before .if1 in
+    let after-sum = c .before .before .before .before .before .before .before .before .before .before in
+    let s = after-sum .before .before .before .before .before in
+    let a = s .args in
+    λ (u : Question). concluded (now (a .work)) _ (a .count) _ _
+    (sum-adds u _ _ _ (after-sum .sum-row .result) (row after-sum) (summed after-sum) (not-false _ (if1 .left)))
+    (sym (fact-within .ensures) ∙ not-false _ (if2 .left)) (s .pre .1) (omega (arith, if3 .left)) (search needs) (c .before .put-row .ensures)
 
 pub sum-spec : {M : Type 1} → statement M
 sum-spec =
@@ -64,8 +136,19 @@ sum-spec =
     (tie.spec
     add-u32-at
     u32-at-requires
+    sub-pairs
+    slice-aggregate-sum-row
     add-sum-row
-    sub-sum-row
     sum-row-requires
     same-length
-    returns)
+    returns
+    slice-aggregate-fact-within
+    fact-within-requires
+    same-length-2
+    returns-2
+    same-length-3
+    returns-3
+    slice-aggregate-put-row
+    put-row-requires
+    same-length-4
+    returns-4)
