@@ -1,91 +1,93 @@
--- The numbers of a record behind the claim, from what its kind and its place say.
+-- The numbers of a whole record where a branch is open, from what its kind, its place and its form say.
 use Prim.Native.Nat.{ℕ, _+_, _≤_}
-use mathlib.Core.Path.{_≡_, refl, sym, _∙_, ap}
+use mathlib.Core.Path.{_≡_, refl, sym, _∙_, ap, ap₂}
 use mathlib.Core.Bool.{Bool, true, false, cond}
 use mathlib.Core.List.{List}
 use lib.ListN.{length}
 use lib.Dec.{eqb}
-use borrow.Author.Tests.{le-leb, ne-eqb}
-use Rattle.calculus.specs.Facts.{Question, Fact, Branch}
-use Rattle.calculus.specs.Walk.{Waiting, working}
+use lib.IntN.{ℤ}
+use borrow.Author.Tests.{le-leb}
+use Rattle.calculus.specs.Facts.{Fact, Branch}
+use Rattle.calculus.specs.Walk.{Waiting}
 use Rattle.format.specs.Records.{size, kind, next, need}
-use Rattle.format.specs.StepForms.{childField, stepAt, childInRange}
-use Rattle.format.specs.Reading.{proving, taking, stepFault, fault, endForm}
-use Rattle.format.specs.Checking.{childIn, allTried, takenTried, checker}
+use Rattle.format.specs.Reading.{stepFault, fault, endForm}
+use Rattle.format.specs.Checking.{checker}
+use Rattle.rows.specs.Rows.{branchOf}
+use Rattle.question.specs.declared.Progress.{Progress}
+use Rattle.question.specs.Posed.{asked}
+use Rattle.steps.specs.Forms.{Formed}
+use Rattle.steps.specs.Faults.{fieldFits}
 use Rattle.steps.specs.Offered.{offered}
-use Rattle.steps.proofs.Faults.{applies, neither-applies}
-use Rattle.derivation.specs.State.{offeredIn}
+use Rattle.steps.proofs.Faults.{applies, neither-applies, formed, child-passed}
+use Rattle.delimiters.specs.declared.Claim.{Claim}
+use Rattle.delimiters.specs.declared.Claim.the-variants.{NoSolution, Strings}
+use Rattle.delimiters.specs.Claims.{openUnder}
 use Rattle.delimiters.specs.Numbers.{openFault}
-use Rattle.delimiters.proofs.Open.{open-other, open-step, at-step}
+use Rattle.delimiters.proofs.Open.{open-form, open-step, at-step}
+use Rattle.derivation.specs.State.{recordFault}
+use Rattle.records.proofs.Finding.{all-there}
+use Rattle.claims.specs.Outcomes.{endsAt}
 
--- ---- claim 1, at a whole record
+-- on the branch of the first count rows of the work area w
+module _ (b : List ℕ) (s : Progress) (w : List ℤ) (count : ℕ) (ss : List (Waiting Branch (List Fact))) (at : ℕ) where
+  abbrev itsFault : Claim → ℕ
+  itsFault claim = fault (checker (asked b s)) b (asked b s) (openUnder claim (branchOf w count) ss) at
 
-module _ (b : List ℕ) (u : Question) (br : Branch) (ss : List (Waiting Branch (List Fact))) (at : ℕ) (h : next b at ≤ length b) where
-  abbrev walkFault : ℕ
-  walkFault = fault (checker u) b u (proving (working br ss)) at
+  -- the number of its form, then what is asked next
+  abbrev form : Claim → ℕ → ℕ → ℕ
+  form claim m later = stepFault b (asked b s) (fieldFits claim b (s .n) (at + 6) m) later (at + 6) m
 
-  abbrev formOne : ℕ → ℕ
-  formOne later = stepFault b u (eqb (childField b (at + 6)) 0) later (at + 6) (size b at)
-
-  walk-fault : walkFault ≡ openFault (length b) (next b at) (kind b at) (size b at) (formOne (allTried br (length ss) (offeredIn b u br at)))
-  unfolding fault offered
-  walk-fault = rw (le-leb (next b at) (length b) h)
-
-  -- no number: a step
-  pub walk-kind : walkFault ≡ 0 → kind b at ≡ 6
-  walk-kind e = open-step (length b) (next b at) (kind b at) (size b at) _ (sym walk-fault ∙ e)
-
-  pub walk-place : (f : ℕ) → f ≡ openFault (length b) (next b at) (kind b at) (size b at) 0 → (f ≡ 0 → ⊥) → f ≡ walkFault
-  walk-place f e n = open-other (eqb (kind b at) 8) (eqb (kind b at) 6) f _ _ e n ∙ sym walk-fault
-
-  module _ (k : kind b at ≡ 6) where
-    walk-formed : walkFault ≡ formOne (allTried br (length ss) (offeredIn b u br at))
-    walk-formed = walk-fault ∙ at-step (length b) (next b at) (kind b at) (size b at) _ k
-
-    pub walk-form : (f : ℕ) → f ≡ formOne 0 → (f ≡ 0 → ⊥) → f ≡ walkFault
-    walk-form f e n = applies b u (eqb (childField b (at + 6)) 0) (at + 6) (size b at) f _ e n ∙ sym walk-formed
-
-    pub walk-step : 0 ≡ formOne 0 → allTried br (length ss) (offeredIn b u br at) ≡ walkFault
-    walk-step e = neither-applies b u (eqb (childField b (at + 6)) 0) (at + 6) (size b at) _ e ∙ sym walk-formed
-
--- ---- claim 2, at a whole record that is no model
-
-module _ (b : List ℕ) (u : Question) (br : Branch) (at : ℕ) (h : next b at ≤ length b) (k7 : kind b at ≡ 7 → ⊥) where
-  abbrev pathFault : ℕ
-  pathFault = fault (checker u) b u (taking br) at
-
-  abbrev itsChild : Bool
-  itsChild = childInRange (u .n) (stepAt b (at + 6) (size b at)) (childField b (at + 6))
-
-  abbrev formTwo : ℕ → ℕ
-  formTwo later = stepFault b u itsChild later (at + 6) (size b at)
-
-  abbrev tried : ℕ
-  tried = takenTried br (childIn (offered b u br (at + 6) (size b at)) (childField b (at + 6)))
+  abbrev tried : Claim → ℕ
+  tried claim = recordFault claim b s at w count (length ss)
 
   no-model : (y : Bool) (step later : ℕ) → cond y step (need 4 false later) ≡ need 4 y step
   no-model true step later = refl
   no-model false step later = refl
 
-  path-fault : pathFault ≡ openFault (length b) (next b at) (kind b at) (size b at) (formTwo tried)
-  unfolding fault offered
-  path-fault =
-      rw (le-leb (next b at) (length b) h, ne-eqb (kind b at) 7 k7)
+  by-claim : (claim : Claim) → endsAt claim (kind b at) ≡ false → next b at ≤ length b
+      → itsFault claim ≡ openFault (length b) (next b at) (kind b at) (size b at) (form claim (size b at) (tried claim))
+  unfolding fault offered asked
+  by-claim NoSolution e h = rw (le-leb (next b at) (length b) h)
+  by-claim Strings e h =
+      rw (le-leb (next b at) (length b) h, e)
       (ap (λ f. cond (eqb (kind b at) 8) (endForm (length b) (next b at) (size b at) 11) f) (no-model (eqb (kind b at) 6) _ 0))
 
-  -- no number: a step
-  pub path-kind : pathFault ≡ 0 → kind b at ≡ 6
-  path-kind e = open-step (length b) (next b at) (kind b at) (size b at) _ (sym path-fault ∙ e)
+  -- a record of kind k with a body of m bytes
+  module _ (claim : Claim) (k m : ℕ) (r : (k ≡ kind b at) × (m ≡ size b at) × (at + 6 + m ≤ length b)) (e : endsAt claim k ≡ false) where
+    abbrev number : ℕ → ℕ
+    number later = openFault (length b) (at + 6 + m) k m (form claim m later)
 
-  pub path-place : (f : ℕ) → f ≡ openFault (length b) (next b at) (kind b at) (size b at) 0 → (f ≡ 0 → ⊥) → f ≡ pathFault
-  path-place f e n = open-other (eqb (kind b at) 8) (eqb (kind b at) 6) f _ _ e n ∙ sym path-fault
+    its-number : number (tried claim) ≡ itsFault claim
+    its-number =
+        ap₂ (λ (j n : ℕ). openFault (length b) (at + 6 + n) j n (form claim n (tried claim))) (r .0) (r .1)
+        ∙ sym (by-claim claim (ap (endsAt claim) (sym (r .0)) ∙ e) (all-there b at k m r))
 
-  module _ (k : kind b at ≡ 6) where
-    path-formed : pathFault ≡ formTwo tried
-    path-formed = path-fault ∙ at-step (length b) (next b at) (kind b at) (size b at) _ k
+    -- its place or its form is refused
+    pub form-refused : (f : ℕ) → f ≡ number 0 → (f ≡ 0 → ⊥) → f ≡ itsFault claim
+    form-refused f q n =
+        open-form (eqb k 8) (eqb k 6) f _ _ _ q
+        (λ g. applies b (asked b s) (fieldFits claim b (s .n) (at + 6) m) (at + 6) m f (tried claim) g n)
+        ∙ its-number
 
-    pub path-form : (f : ℕ) → f ≡ formTwo 0 → (f ≡ 0 → ⊥) → f ≡ pathFault
-    path-form f e n = applies b u itsChild (at + 6) (size b at) f _ e n ∙ sym path-formed
+    -- neither is: a step
+    module _ (z : 0 ≡ number 0) where
+      step : k ≡ 6
+      step = open-step (length b) (at + 6 + m) k m _ (sym z)
 
-    pub path-step : 0 ≡ formTwo 0 → tried ≡ pathFault
-    path-step e = neither-applies b u itsChild (at + 6) (size b at) _ e ∙ sym path-formed
+      pub its-kind : kind b at ≡ 6
+      its-kind = sym (r .0) ∙ step
+
+      at-form : 0 ≡ form claim m 0
+      at-form = z ∙ at-step (length b) (at + 6 + m) k m _ step
+
+      pub its-form : Formed b (asked b s) (at + 6) m
+      its-form = formed b (asked b s) (fieldFits claim b (s .n) (at + 6) m) (at + 6) m (r .2) at-form
+
+      pub its-field : fieldFits claim b (s .n) (at + 6) m ≡ true
+      its-field = child-passed b (asked b s) (fieldFits claim b (s .n) (at + 6) m) (at + 6) m at-form
+
+      pub its-trial : tried claim ≡ itsFault claim
+      its-trial =
+          neither-applies b (asked b s) (fieldFits claim b (s .n) (at + 6) m) (at + 6) m (tried claim) at-form
+          ∙ sym (at-step (length b) (at + 6 + m) k m _ step)
+          ∙ its-number

@@ -9,14 +9,13 @@ use lib.Dec.{leb, eqb}
 use borrow.Author.Tests.{leb-true, leb-false, lt-leb}
 use Rattle.calculus.specs.Facts.{Question, Fact, Branch}
 use Rattle.calculus.specs.Walk.{Waiting, working}
-use Rattle.format.specs.Records.{size, kind, next}
+use Rattle.format.specs.Records.{kind, next}
 use Rattle.format.specs.StepForms.{childField}
 use Rattle.format.specs.Reading.{State, proving, taking, modelled, modelAt, fault, advanced, Ticket, Faulty, stepsOn}
 use Rattle.format.specs.Checking.{checker}
 use Rattle.format.proofs.StepTurns.{steps-none, steps-faulty, steps-more}
-use Rattle.steps.specs.Offered.{offered, offeredChild}
-use Rattle.derivation.specs.State.{steppedOn}
-use Rattle.claims.proofs.Numbers.{walk-kind, path-kind}
+use Rattle.steps.specs.Offered.{offered}
+use Rattle.derivation.specs.State.{steppedOn, childOn}
 
 no-end : (k : ℕ) → k ≡ 6 → eqb k 8 ≡ false
 no-end k e = ap (λ j. eqb j 8) e
@@ -43,30 +42,29 @@ module _ (b : List ℕ) (u : Question) where
     turn-faulty st zero e n = absurd (n refl)
     turn-faulty st (suc c) e n = steps-faulty (checker u) b u st r at c headed (sym e)
 
-    -- ---- claim 1
+    -- a step that is taken
+    module _ (k : kind b at ≡ 6) where
+      moved : (st : State Branch (List Fact))
+          → fault (checker u) b u st at ≡ 0
+          → on st r at ≡ on (advanced (checker u) b u st at) (suc r) (next b at)
+      moved st f = steps-more (checker u) b u st r at headed f (no-end (kind b at) k)
 
-    module _ (br : Branch) (ss : List (Waiting Branch (List Fact))) where
-      entered : advanced (checker u) b u (proving (working br ss)) at ≡ proving (steppedOn b u br ss at)
-      unfolding advanced offered
-      entered = refl
+      -- claim 1
+      module _ (br : Branch) (ss : List (Waiting Branch (List Fact))) where
+        entered : advanced (checker u) b u (proving (working br ss)) at ≡ proving (steppedOn b u br ss at)
+        unfolding advanced offered
+        entered = refl
 
-      pub turn-moved : 0 ≡ fault (checker u) b u (proving (working br ss)) at
-          → on (proving (working br ss)) r at ≡ on (proving (steppedOn b u br ss at)) (suc r) (next b at)
-      turn-moved f =
-          steps-more (checker u) b u (proving (working br ss)) r at headed (sym f) (no-end (kind b at) (walk-kind b u br ss at h (sym f)))
-          ∙ ap (λ (st : State Branch (List Fact)). on st (suc r) (next b at)) entered
+        pub turn-moved : fault (checker u) b u (proving (working br ss)) at ≡ 0
+            → on (proving (working br ss)) r at ≡ on (proving (steppedOn b u br ss at)) (suc r) (next b at)
+        turn-moved f = moved (proving (working br ss)) f ∙ ap (λ (st : State Branch (List Fact)). on st (suc r) (next b at)) entered
 
-    -- ---- claim 2
+      -- claim 2
+      module _ (br : Branch) where
+        taken-on : advanced (checker u) b u (taking br) at ≡ taking (br ++ childOn b u br at (childField b (at + 6)))
+        unfolding advanced offered
+        taken-on = ap (λ j. cond (eqb j 6) (taking (br ++ childOn b u br at (childField b (at + 6)))) (modelled br (modelAt b u (at + 6)))) k
 
-    module _ (br : Branch) where
-      taken-on : kind b at ≡ 6 → advanced (checker u) b u (taking br) at ≡ taking (br ++ offeredChild b u br (at + 6) (size b at) (childField b (at + 6)))
-      unfolding advanced offered
-      taken-on k =
-          ap (λ j. cond (eqb j 6) (taking (br ++ offeredChild b u br (at + 6) (size b at) (childField b (at + 6)))) (modelled br (modelAt b u (at + 6)))) k
-
-      pub turn-taken : (kind b at ≡ 7 → ⊥) → fault (checker u) b u (taking br) at ≡ 0
-          → on (taking br) r at ≡ on (taking (br ++ offeredChild b u br (at + 6) (size b at) (childField b (at + 6)))) (suc r) (next b at)
-      turn-taken k7 f =
-          let k = path-kind b u br at h k7 f in
-          steps-more (checker u) b u (taking br) r at headed f (no-end (kind b at) k)
-          ∙ ap (λ (st : State Branch (List Fact)). on st (suc r) (next b at)) (taken-on k)
+        pub turn-taken : fault (checker u) b u (taking br) at ≡ 0
+            → on (taking br) r at ≡ on (taking (br ++ childOn b u br at (childField b (at + 6)))) (suc r) (next b at)
+        turn-taken f = moved (taking br) f ∙ ap (λ (st : State Branch (List Fact)). on st (suc r) (next b at)) taken-on

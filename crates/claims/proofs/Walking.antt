@@ -1,154 +1,380 @@
--- Claim 1's loop: what is left to read where the walk stands equals the whole.
+-- The loop over the steps: what is left to read where the walk stands equals the whole.
 use Prim.Native.Nat.{ℕ, _+_, _≤_, _<_}
 use native.Mathlib.Omega.{arith}
 use native.Mathlib.Numerals.{add-one}
 use mathlib.Core.Path.{_≡_, refl, sym, _∙_, ap, ap₂, subst}
+use mathlib.Core.Bool.{true, false}
 use mathlib.Core.List.{List, [], _∷_, _++_}
-use lib.ListN.{length}
+use lib.ListN.{length, take, length-append}
+use lib.Seq.{take-length, take-at}
 use lib.IntN.{ℤ}
+use borrow.Author.Tests.{eqb-true}
+use Rattle.calculus.specs.Limits.{ticketBytes, factLimit, pendingLimit}
+use Rattle.calculus.specs.Classes.{labels}
 use Rattle.calculus.specs.Facts.{Fact, Branch}
-use Rattle.calculus.specs.Walk.{Waiting, Walk, working, closed, cutBack}
+use Rattle.calculus.specs.Walk.{Waiting, Walk, closed, cutBack}
 use Rattle.format.specs.Records.{size, kind, next}
-use Rattle.format.specs.Reading.{proving, fault, Ticket, stepsOn}
+use Rattle.format.specs.StepForms.{childField}
+use Rattle.format.specs.Reading.{State, proving, taking, fault, Ticket, stepsOn}
 use Rattle.format.specs.Checking.{checker}
 use Rattle.rows.specs.Rows.{branchOf}
 use Rattle.rows.specs.Work.{Fine}
-use Rattle.rows.proofs.Branches.{length-branch}
+use Rattle.rows.proofs.Branches.{length-branch, branch-take}
+use Rattle.classes.specs.declared.Known.{Known}
+use Rattle.classes.specs.Classes.{Knows}
+use Rattle.classes.proofs.Laws.{knows-kept, knows-more}
 use Rattle.question.specs.declared.Progress.{Progress}
 use Rattle.question.specs.Posed.{asked, Posed}
 use Rattle.branch.specs.declared.Branch as code
-use Rattle.branch.specs.Stack.{split, stack}
-use Rattle.derivation.specs.State.{waitings, stateOf}
-use Rattle.derivation.specs.Ok.{AllPend, InOrder}
-use Rattle.derivation.specs.Actions.{numberOf, Acts}
+use Rattle.branch.specs.Stack.{split, stack, latestOf}
+use Rattle.delimiters.specs.declared.Claim.{Claim}
+use Rattle.delimiters.specs.declared.Claim.the-variants.{NoSolution, Strings}
+use Rattle.delimiters.specs.Claims.{openUnder}
+use Rattle.derivation.specs.State.{childOn, waitings, stateOf, recordFault, KeepsBelow}
+use Rattle.derivation.specs.Ok.{Rooted, AllPend, InOrder}
+use Rattle.derivation.specs.Actions.{numberOf, Follows, Acts}
 use Rattle.derivation.specs.declared.Action.{Action}
 use Rattle.derivation.specs.declared.Action.the-variants.{Refused, Closes, Extends, Splits}
-use Rattle.derivation.proofs.Holding.{waiting}
-use Rattle.derivation.proofs.Acting.{entered, entered-closed, entered-next, entered-one, entered-more}
+use Rattle.derivation.proofs.Holding.{fine, waiting}
+use Rattle.derivation.proofs.Closing.{rooted-mark}
+use Rattle.derivation.proofs.Acting as acting
+use Rattle.derivation.proofs.Acting.{entered, same-rows, holds-closed, entered-closed, entered-next, extended, entered-one, split-up, few-split, entered-more}
 use Rattle.claims.specs.declared.Walked as walked
-use Rattle.claims.specs.Outcomes.{walkedOf}
-use Rattle.records.proofs.Finding.{all-there}
-use Rattle.claims.proofs.Turns.{turn-none, turn-faulty, turn-moved}
+use Rattle.claims.specs.Outcomes.{endsAt, walkedOf, LeafAt}
+use Rattle.format.proofs.Faults.{not-both}
+use Rattle.claims.proofs.Turns.{turn-none, turn-faulty, turn-moved, turn-taken}
+
+-- the state that the loop's branch is in order for, under each claim
+unfoldable pub Holds : Claim → List ℕ → Progress → List ℤ → code.Branch → Type 0
+Holds NoSolution b s w c = InOrder b s w c
+Holds Strings b s w c = Fine w (c .count)
+
+pub fine-rows : (claim : Claim) (b : List ℕ) (s : Progress) (w : List ℤ) (c : code.Branch) → Holds claim b s w c → Fine w (c .count)
+unfolding Holds
+fine-rows NoSolution b s w c h = fine h
+fine-rows Strings b s w c h = h
+
+-- what is kept of the classes holds of a branch that has grown
+grown : {w v : List ℤ} {count more : ℕ} {known : Known} (c : Branch) → branchOf v more ≡ branchOf w count ++ c → Knows w count known → Knows v more known
+grown {w} {v} {count} {more} c e h =
+    let long : count ≤ more =
+    omega (arith, sym (length-branch v more) ∙ ap length e ∙ length-append (branchOf w count) c, length-branch w count) in
+    knows-more (knows-kept (sym (branch-take v more count long) ∙ ap (take count) e ∙ take-at (branchOf w count) c count (length-branch w count)) h) long
 
 module _ (b : List ℕ) (s : Progress) where
-  abbrev pub left : Walk Branch (List Fact) → ℕ → ℕ → Ticket Branch (List Fact)
-  left x r at = stepsOn (checker (asked b s)) b (asked b s) (proving x) r at
+  abbrev on : State Branch (List Fact) → ℕ → ℕ → Ticket Branch (List Fact)
+  on st r at = stepsOn (checker (asked b s)) b (asked b s) st r at
 
-  -- where the walk stands, with the work area w: n is its length, and the outcome is fixed
-  pub record Going (n : ℕ) (outcome : Ticket Branch (List Fact)) (w : List ℤ) (c : code.Branch) (i k : ℕ) : Type 0 where
+  abbrev pub pendingOn : List ℤ → code.Branch → List (Waiting Branch (List Fact))
+  pendingOn w c = waitings b (asked b s) (branchOf w (c .count)) (stack c)
+
+  abbrev pub standsAt : Claim → List ℤ → code.Branch → State Branch (List Fact)
+  standsAt claim w c = openUnder claim (branchOf w (c .count)) (pendingOn w c)
+
+  abbrev faultAt : Claim → List ℤ → code.Branch → ℕ → ℕ
+  faultAt claim w c i = fault (checker (asked b s)) b (asked b s) (standsAt claim w c) i
+
+  -- where the loop stands, with the work area w: n is its length, and the outcome is fixed
+  pub record Going (claim : Claim) (n : ℕ) (outcome : Ticket Branch (List Fact)) (w : List ℤ) (c : code.Branch) (known : Known) (i k : ℕ) : Type 0 where
     pub kept : length w ≡ n
     pub low : k ≤ i
-    pub holds : InOrder b s w c
-    pub rest : left (stateOf b (asked b s) w c) k i ≡ outcome
+    pub holds : Holds claim b s w c
+    pub knows : Knows w (c .count) known
+    pub rest : on (standsAt claim w c) k i ≡ outcome
 
   -- a state by other names
-  pub going-same : {n : ℕ} {outcome : Ticket Branch (List Fact)} {i k : ℕ} {x y : List ℤ} {c d : code.Branch}
+  pub going-same : {claim : Claim} {n : ℕ} {outcome : Ticket Branch (List Fact)} {i k : ℕ} {x y : List ℤ} {c d : code.Branch} {f g : Known}
       → x ≡ y
       → c ≡ d
-      → Going n outcome y d i k
-      → Going n outcome x c i k
-  going-same e q g = rw (e, q) g
+      → f ≡ g
+      → Going claim n outcome y d g i k
+      → Going claim n outcome x c f i k
+  going-same e q p g = rw (e, q, p) g
 
   -- ---- the start
 
-  pub starts : (w : List ℤ) (c : code.Branch) (r at : ℕ) → Posed b s → Fine w (s .constraints) → branchOf w (s .constraints) ≡ asked b s .constraints
-      → c .count ≡ s .constraints → stack c ≡ [] → r ≤ at → Going (length w) (left (working (asked b s .constraints) []) r at) w c at r
-  unfolding stateOf waitings AllPend
-  starts w c r at p f e n none low =
-      let all : branchOf w (c .count) ≡ asked b s .constraints = ap (branchOf w) n ∙ e in
-      let small = subst (λ j. Fine w j) (sym n) f in
-      record {
-        kept = refl;
-        low = low;
-        holds = record {
-          posed = p;
-          room = f .room;
-          ok = rw none (record {
-            few = omega (arith, length-branch w (c .count), small .few);
-            small = small .small;
-            few-pending = omega arith;
-            pend = tt;
-          });
-        };
-        rest = rw (none, all);
-      }
+  module _ (w : List ℤ) (c : code.Branch) (p : Posed b s) (f : Fine w (s .constraints)) (e : branchOf w (s .constraints) ≡ asked b s .constraints)
+      (n : c .count ≡ s .constraints) (none : stack c ≡ []) where
+    root : branchOf w (c .count) ≡ asked b s .constraints
+    root = ap (branchOf w) n ∙ e
 
-  -- ---- a turn
+    small : Fine w (c .count)
+    small = subst (λ j. Fine w j) (sym n) f
 
-  module _ (n : ℕ) (outcome : Ticket Branch (List Fact)) (w : List ℤ) (c : code.Branch) (i k : ℕ) (g : Going n outcome w c i k) where
-    abbrev br : Branch
-    br = branchOf w (c .count)
+    in-order : InOrder b s w c
+    unfolding AllPend
+    in-order = record {
+      posed = p;
+      room = f .room;
+      ok = rw none (record {
+        rooted =
+            record { long = omega (arith, ap length root); first = ap (take (length (asked b s .constraints))) root ∙ take-length (asked b s .constraints) };
+        few = omega (arith, length-branch w (c .count), small .few);
+        small = small .small;
+        few-pending = omega arith;
+        pend = tt;
+      });
+    }
 
-    abbrev pending : List (Waiting Branch (List Fact))
-    pending = waitings b (asked b s) br (stack c)
+    holds-first : (claim : Claim) → Holds claim b s w c
+    unfolding Holds
+    holds-first NoSolution = in-order
+    holds-first Strings = small
 
-    pub going-none : length b < next b i → walkedOf b (asked b s) (walked.the-variants.Refused 3 k) ≡ outcome
+    open-first : (claim : Claim) → standsAt claim w c ≡ openUnder claim (asked b s .constraints) []
+    unfolding waitings
+    open-first NoSolution = rw (none, root)
+    open-first Strings = ap taking root
+
+    pub starts : (claim : Claim) (r at : ℕ) (known : Known) → r ≤ at → Knows w (s .constraints) known
+        → Going claim (length w) (on (openUnder claim (asked b s .constraints) []) r at) w c known at r
+    starts claim r at known low h = record {
+      kept = refl;
+      low = low;
+      holds = holds-first claim;
+      knows = subst (λ j. Knows w j known) (sym n) h;
+      rest = ap (λ (st : State Branch (List Fact)). on st r at) (open-first claim);
+    }
+
+  -- ---- a record that ends the steps
+
+  module _ {claim : Claim} {n : ℕ} {outcome : Ticket Branch (List Fact)} {w : List ℤ} {c : code.Branch} {known : Known} {i k : ℕ}
+      (g : Going claim n outcome w c known i k) (v : List ℤ) where
+    pub going-none : length b < next b i → walkedOf b s v (walked.the-variants.Refused 3 k) ≡ outcome
     unfolding walkedOf
-    going-none h = sym (turn-none b (asked b s) (proving (stateOf b (asked b s) w c)) k i h) ∙ g .rest
+    going-none h = sym (turn-none b (asked b s) (standsAt claim w c) k i h) ∙ g .rest
 
-    -- a whole record, with the work area v behind it
-    module _ (j m : ℕ) (r : (j ≡ kind b i) × (m ≡ size b i) × (i + 6 + m ≤ length b)) (v : List ℤ) (a : Action)
-        (e : (ss : List (Waiting Branch (List Fact)))
-        → length ss ≡ c .depth
-        → numberOf a ≡ fault (checker (asked b s)) b (asked b s) (proving (working br ss)) i)
-        (acts : Acts b (asked b s) i (c .depth) w (c .count) v a) where
-      its-number : numberOf a ≡ fault (checker (asked b s)) b (asked b s) (proving (working br pending)) i
-      its-number = e pending (waiting (g .holds))
+    pub going-refused : next b i ≤ length b
+        → (f : ℕ)
+        → f ≡ faultAt claim w c i
+        → (f ≡ 0 → ⊥)
+        → walkedOf b s v (walked.the-variants.Refused f k) ≡ outcome
+    unfolding walkedOf
+    going-refused h f e z = sym (turn-faulty b (asked b s) k i h (standsAt claim w c) f e z) ∙ g .rest
 
-      pub going-refused : (f : ℕ) → a ≡ Refused f → walkedOf b (asked b s) (walked.the-variants.Refused f k) ≡ outcome
-      unfolding walkedOf stateOf Acts
-      going-refused f q =
-          sym (turn-faulty b (asked b s) k i (all-there b i j m r) (proving (working br pending)) f (ap numberOf (sym q) ∙ its-number)
-          (subst (Acts b (asked b s) i (c .depth) w (c .count) v) q acts))
-          ∙ g .rest
+  pub going-model : (claim : Claim) (n : ℕ) (outcome : Ticket Branch (List Fact)) (w : List ℤ) (c : code.Branch) (known : Known) (i k j : ℕ)
+      → Going claim n outcome w c known i k
+      → endsAt claim j ≡ true
+      → walkedOf b s w (walked.the-variants.Model i k (c .count)) ≡ outcome
+  unfolding walkedOf
+  going-model NoSolution n outcome w c known i k j g e = absurd (not-both false e refl)
+  going-model Strings n outcome w c known i k j g e = g .rest
 
-      -- the step is taken, and the walk enters it
-      on-from : (x : Walk Branch (List Fact)) → x ≡ entered (g .holds) i v a acts → numberOf a ≡ 0 → left x (k + 1) (i + 6 + m) ≡ outcome
-      unfolding stateOf
+  pub leaf-here : (claim : Claim) (n : ℕ) (outcome : Ticket Branch (List Fact)) (w : List ℤ) (c : code.Branch) (known : Known) (i k j : ℕ)
+      → Going claim n outcome w c known i k
+      → endsAt claim j ≡ true
+      → j ≡ kind b i
+      → next b i ≤ length b
+      → LeafAt b w (walked.the-variants.Model i k (c .count))
+  unfolding LeafAt Holds
+  leaf-here NoSolution n outcome w c known i k j g e q h = absurd (not-both false e refl)
+  leaf-here Strings n outcome w c known i k j g e q h = record { model = sym q ∙ eqb-true j 7 e; whole = h; fine = g .holds; low = g .low }
+
+  -- ---- a step
+
+  -- the step in a record of m bytes at a position, with the work area v behind it
+  pub record Stepped (claim : Claim) (w : List ℤ) (c : code.Branch) (i m : ℕ) (v : List ℤ) (a : Action) : Type 0 where
+    pub sized : m ≡ size b i
+    pub whole : next b i ≤ length b
+    pub step : kind b i ≡ 6
+    pub number : numberOf a ≡ faultAt claim w c i
+    pub acts : Acts claim b (asked b s) i (c .depth) w (c .count) v a
+
+  -- the number that it was tried for is the record's: under claim 1 as many splits are pending as the depth says
+  pub same-pending : (claim : Claim) (w : List ℤ) (c : code.Branch) (i : ℕ)
+      → Holds claim b s w c
+      → recordFault claim b s i w (c .count) (c .depth) ≡ recordFault claim b s i w (c .count) (length (pendingOn w c))
+  unfolding Holds
+  same-pending NoSolution w c i h = ap (λ (j : ℕ). recordFault NoSolution b s i w (c .count) j) (sym (waiting h))
+  same-pending Strings w c i h = refl
+
+  pub some-number : (claim : Claim) (w : List ℤ) (c : code.Branch) (i : ℕ) (v : List ℤ) (f : ℕ)
+      → Acts claim b (asked b s) i (c .depth) w (c .count) v (Refused f)
+      → f ≡ 0
+      → ⊥
+  unfolding Acts
+  some-number NoSolution w c i v f h = h
+  some-number Strings w c i v f h = h
+
+  -- under claim 2 no branch closes and none splits: the child taken follows
+  module _ {w : List ℤ} {c : code.Branch} {i m : ℕ} {v : List ℤ} {a : Action} (t : Stepped Strings w c i m v a) where
+    abbrev Does : Action → Type 0
+    Does x = Acts Strings b (asked b s) i (c .depth) w (c .count) v x
+
+    closes-alone : a ≡ Closes → ⊥
+    unfolding Acts
+    closes-alone q = subst Does q (t .acts)
+
+    follows-alone : (f : ℕ) → a ≡ Extends f → Follows b (asked b s) (branchOf w (c .count)) i v f
+    unfolding Acts
+    follows-alone f q = subst Does q (t .acts)
+
+    splits-alone : (f l : ℕ) → a ≡ Splits f l → ⊥
+    unfolding Acts
+    splits-alone f l q = subst Does q (t .acts)
+
+  module _ {n : ℕ} {outcome : Ticket Branch (List Fact)} {w : List ℤ} {c : code.Branch} {known : Known} {i k : ℕ} {m : ℕ} {v : List ℤ} {a : Action} where
+    -- ---- claim 1
+
+    module _ (g : Going NoSolution n outcome w c known i k) (t : Stepped NoSolution w c i m v a) where
+      held : InOrder b s w c
+      unfolding Holds
+      held = g .holds
+
+      abbrev into : Walk Branch (List Fact)
+      into = entered held i v a (t .acts)
+
+      -- the walk enters it
+      on-from : (x : Walk Branch (List Fact)) → x ≡ into → numberOf a ≡ 0 → on (proving x) (k + 1) (i + 6 + m) ≡ outcome
       on-from x q z =
-          ap (λ (y : Walk Branch (List Fact)). left y (k + 1) (i + 6 + m)) q
-          ∙ ap₂ (λ (l t : ℕ). left (entered (g .holds) i v a acts) t (i + 6 + l)) (r .1) (add-one k)
-          ∙ sym (turn-moved b (asked b s) k i (all-there b i j m r) br pending (sym z ∙ its-number))
+          ap (λ (y : Walk Branch (List Fact)). on (proving y) (k + 1) (i + 6 + m)) q
+          ∙ ap₂ (λ (l r : ℕ). on (proving into) r (i + 6 + l)) (t .sized) (add-one k)
+          ∙ sym (turn-moved b (asked b s) k i (t .whole) (t .step) (branchOf w (c .count)) (pendingOn w c) (sym (t .number) ∙ z))
           ∙ g .rest
 
-      going-on : (x : List ℤ) (d : code.Branch)
-          → (stateOf b (asked b s) x d ≡ entered (g .holds) i v a acts) × InOrder b s x d
+      going-on : (x : List ℤ) (d : code.Branch) (known' : Known)
+          → (stateOf b (asked b s) x d ≡ into) × InOrder b s x d
           → numberOf a ≡ 0
+          → Knows x (d .count) known'
           → length x ≡ length w
-          → Going n outcome x d (i + 6 + m) (k + 1)
-      going-on x d q z same = record {
+          → Going NoSolution n outcome x d known' (i + 6 + m) (k + 1)
+      unfolding Holds stateOf
+      going-on x d known' q z h same = record {
         kept = same ∙ g .kept;
         low = omega (arith, g .low);
         holds = q .1;
+        knows = h;
         rest = on-from (stateOf b (asked b s) x d) (q .0) z;
       }
 
-      pub going-closed : a ≡ Closes → c .depth ≡ 0 → walkedOf b (asked b s) (walked.the-variants.Closed (i + 6 + m) (k + 1)) ≡ outcome
-      unfolding walkedOf
-      going-closed q d = on-from closed (entered-closed (g .holds) i v a acts q d) (ap numberOf q)
+    -- ---- claim 2
 
-      pub going-next : a ≡ Closes
-          → (x : List ℤ) (d : code.Branch)
-          → stateOf b (asked b s) x d ≡ cutBack _++_ (waitings b (asked b s) (branchOf v (c .count)) (stack c))
-          → InOrder b s x d
-          → length x ≡ length w
-          → Going n outcome x d (i + 6 + m) (k + 1)
-      going-next q x d p o same = going-on x d (entered-next (g .holds) i v a acts q (stateOf b (asked b s) x d) p, o) (ap numberOf q) same
+    going-taken : Going Strings n outcome w c known i k
+        → Stepped Strings w c i m v a
+        → (d : code.Branch)
+        → Follows b (asked b s) (branchOf w (c .count)) i v (d .count)
+        → numberOf a ≡ 0
+        → length v ≡ length w
+        → Going Strings n outcome v d known (i + 6 + m) (k + 1)
+    unfolding Holds
+    going-taken g t d f z same = record {
+      kept = same ∙ g .kept;
+      low = omega (arith, g .low);
+      holds = f .fine;
+      knows = grown (childOn b (asked b s) (branchOf w (c .count)) i (childField b (i + 6))) (f .rows) (g .knows);
+      rest =
+          ap (λ (l : Branch). on (taking l) (k + 1) (i + 6 + m)) (f .rows)
+          ∙ ap₂ (λ (l r : ℕ). on (taking (branchOf w (c .count) ++ childOn b (asked b s) (branchOf w (c .count)) i (childField b (i + 6)))) r (i + 6 + l))
+          (t .sized) (add-one k)
+          ∙ sym (turn-taken b (asked b s) k i (t .whole) (t .step) (branchOf w (c .count)) (sym (t .number) ∙ z))
+          ∙ g .rest;
+    }
 
-      pub going-one : (f : ℕ)
-          → a ≡ Extends f
-          → (d : code.Branch)
-          → d .count ≡ f
-          → stack d ≡ stack c
-          → length v ≡ length w
-          → Going n outcome v d (i + 6 + m) (k + 1)
-      going-one f q d ed es same = going-on v d (entered-one (g .holds) i v a acts f q d ed es) (ap numberOf q) same
+    -- ---- the branch closes: under claim 1 alone
 
-      pub going-more : (f l : ℕ)
-          → a ≡ Splits f l
-          → (d : code.Branch)
-          → d .count ≡ f
-          → stack d ≡ split (c .count) i 2 l ∷ stack c
-          → length v ≡ length w
-          → Going n outcome v d (i + 6 + m) (k + 1)
-      going-more f l q d ed es same = going-on v d (entered-more (g .holds) i v a acts f l q d ed es) (ap numberOf q) same
+    pub going-closed : (claim : Claim)
+        → Going claim n outcome w c known i k
+        → Stepped claim w c i m v a
+        → a ≡ Closes
+        → c .depth ≡ 0
+        → (x : List ℤ)
+        → walkedOf b s x (walked.the-variants.Closed (i + 6 + m) (k + 1)) ≡ outcome
+    unfolding walkedOf
+    going-closed NoSolution g t q d x = on-from g t closed (entered-closed (held g t) i v a (t .acts) q d) (ap numberOf q)
+    going-closed Strings g t q d x = absurd (closes-alone t q)
+
+    -- the state to cut back from
+    pub still-open : (claim : Claim)
+        → Going claim n outcome w c known i k
+        → Stepped claim w c i m v a
+        → a ≡ Closes
+        → length v ≡ length w
+        → InOrder b s v c × Knows v (c .count) known
+    still-open NoSolution g t q same =
+        (holds-closed (held g t) i v a (t .acts) q same, knows-kept (same-rows (held g t) i v a (t .acts) q) (g .knows))
+    still-open Strings g t q same = absurd (closes-alone t q)
+
+    -- its next child begins
+    pub going-next : (claim : Claim)
+        → Going claim n outcome w c known i k
+        → Stepped claim w c i m v a
+        → a ≡ Closes
+        → (x : List ℤ) (d : code.Branch) (known' : Known)
+        → stateOf b (asked b s) x d ≡ cutBack _++_ (waitings b (asked b s) (branchOf v (c .count)) (stack c))
+        → InOrder b s x d
+        → Knows x (d .count) known'
+        → length x ≡ length w
+        → Going claim n outcome x d known' (i + 6 + m) (k + 1)
+    going-next NoSolution g t q x d known' p o h same =
+        going-on g t x d known' (entered-next (held g t) i v a (t .acts) q (stateOf b (asked b s) x d) p, o) (ap numberOf q) h same
+    going-next Strings g t q x d known' p o h same = absurd (closes-alone t q)
+
+    -- ---- the branch goes on
+
+    pub few-extended : (claim : Claim) (f : ℕ) → Going claim n outcome w c known i k → Stepped claim w c i m v a → a ≡ Extends f → f ≤ factLimit
+    few-extended NoSolution f g t q = acting.few-extended (held g t) i v a (t .acts) f q
+    few-extended Strings f g t q = follows-alone t f q .fine .few
+
+    pub going-one : (claim : Claim) (f : ℕ)
+        → Going claim n outcome w c known i k
+        → Stepped claim w c i m v a
+        → a ≡ Extends f
+        → (d : code.Branch)
+        → d .count ≡ f
+        → stack d ≡ stack c
+        → length v ≡ length w
+        → Going claim n outcome v d known (i + 6 + m) (k + 1)
+    going-one NoSolution f g t q d ed es same =
+        going-on g t v d known (entered-one (held g t) i v a (t .acts) f q d ed es) (ap numberOf q)
+        (subst (λ j. Knows v j known) (sym ed) (grown _ (extended (held g t) i v a (t .acts) f q .rows) (g .knows))) same
+    going-one Strings f g t q d ed es same =
+        going-taken g t d (subst (λ j. Follows b (asked b s) (branchOf w (c .count)) i v j) (sym ed) (follows-alone t f q)) (ap numberOf q) same
+
+    -- ---- the branch splits: under claim 1 alone
+
+    pub can-mark : (claim : Claim) (f l : ℕ)
+        → Going claim n outcome w c known i k
+        → Stepped claim w c i m v a
+        → a ≡ Splits f l
+        → ((c .depth < pendingLimit) × (i ≤ ticketBytes) × (l < 256)) × (f ≤ factLimit)
+    can-mark NoSolution f l g t q = (acting.can-mark (held g t) i v a (t .acts) f l q, few-split (held g t) i v a (t .acts) f l q)
+    can-mark Strings f l g t q = absurd (splits-alone t f l q)
+
+    pub going-more : (claim : Claim) (f l : ℕ)
+        → Going claim n outcome w c known i k
+        → Stepped claim w c i m v a
+        → a ≡ Splits f l
+        → (d : code.Branch)
+        → d .count ≡ f
+        → stack d ≡ split (c .count) i 2 l ∷ stack c
+        → length v ≡ length w
+        → Going claim n outcome v d known (i + 6 + m) (k + 1)
+    going-more NoSolution f l g t q d ed es same =
+        going-on g t v d known (entered-more (held g t) i v a (t .acts) f l q d ed es) (ap numberOf q)
+        (subst (λ j. Knows v j known) (sym ed) (grown _ (split-up (held g t) i v a (t .acts) f l q .0 .rows) (g .knows))) same
+    going-more Strings f l g t q d ed es same = absurd (splits-alone t f l q)
+
+  -- ---- classes that are set back
+
+  -- what is known of the question's constraints holds at the mark of the last pending split
+  pub first-known : (w : List ℤ) (c : code.Branch) (first : Known)
+      → InOrder b s w c
+      → 0 < c .depth
+      → length (asked b s .constraints) ≡ s .constraints
+      → first .upto ≡ s .constraints
+      → first .labels ≡ labels (asked b s .constraints)
+      → Knows w (latestOf (stack c) .mark) first
+  first-known w c first h d n up e =
+      let r : Rooted (asked b s) (branchOf w (c .count)) = h .ok .rooted in
+      let l : first .upto ≤ c .count = omega (arith, r .long, length-branch w (c .count)) in
+      record {
+        few = omega (arith, rooted-mark h d (latestOf (stack c)) refl);
+        labelled =
+            e
+            ∙ ap labels (sym (r .first))
+            ∙ ap labels (ap (λ (j : ℕ). take j (branchOf w (c .count))) (n ∙ sym up) ∙ branch-take w (c .count) (first .upto) l);
+      }
+
+  -- and what was set back there on the branch of the next child
+  pub known-below : (v w : List ℤ) (mark : ℕ) (d : code.Branch) (known : Known) → KeepsBelow mark v w d → Knows v mark known → Knows w (d .count) known
+  known-below v w mark d known k h = knows-more (knows-kept (k .below) h) (k .behind)

@@ -1,12 +1,19 @@
-// The steps of a derivation: claim 1's walk over every branch, claim 2's path to its leaf.
+// The steps of a derivation under either claim: claim 1's walk over every branch, claim 2's path to its leaf.
 ghost use mathlib.Core.Path.{_≡_};
-ghost use Prim.Native.Nat.{_≤_};
+ghost use Prim.Native.Nat.{_+_, _≤_};
+ghost use lib.ListN.{length};
 ghost use Rattle.rows.specs.Rows.{branchOf};
 ghost use Rattle.rows.specs.Work.{Fine};
 ghost use Rattle.question.specs.Posed.{asked, Posed};
-ghost use Rattle.derivation.specs.Actions.{ActsOn};
-ghost use Rattle.claims.specs.Outcomes.{WholeRecord, HasNumber, TakesRecord, walkFrom, pathFrom, walkedOf, followedOf, LeafAt};
+ghost use Rattle.steps.specs.Faults.{faultUnder};
+ghost use Rattle.delimiters.specs.Numbers.{openFault};
+ghost use Rattle.claims.specs.Outcomes.{WholeRecord, endsAt, walkFrom, walkedOf, LeafAt};
 use branch::Branch;
+use classes::bring_up;
+use classes::nothing_known;
+use classes::set_back;
+use conclusions::classes_for;
+use delimiters::Claim;
 use delimiters::open_fault;
 use derivation::Action;
 use derivation::next_child;
@@ -16,54 +23,68 @@ use encoding::RECORD_HEAD;
 use question::Progress;
 use records::Found;
 use records::read_at;
-use steps::step_fault_one;
-use steps::step_fault_two;
-use trials::Taken;
-use trials::take_child;
+use records::u16_at;
+use steps::rule_of;
+use steps::step_fault;
 
-// ---- claim 1: every branch is walked until it closes
+// ---- one record
 
-// One whole record on the open branch of the first rows, with so many splits pending.
-fn walk_record(
+// Does a record of a kind end the steps: the model, under claim 2?
+fn ends_steps(claim: Claim, kind: usize) -> bool
+    ensures { λ r. ⌜ r ≡ endsAt claim kind ⌝ }
+{
+    match claim {
+        Claim::NoSolution => false,
+        Claim::Strings => kind == KIND_MODEL,
+    }
+}
+
+// A whole record where a branch is open: its place, then its form. 0 for a step that may be taken.
+fn record_fault(
     ticket: &[u8],
     s: Progress,
+    claim: Claim,
     record: usize,
     kind: usize,
     size: usize,
-    work: &mut [i64],
-    count: usize,
-    pending: usize,
-) -> Action
-    requires { ⌜ Posed (now ticket) s ⌝ }
-    requires { ⌜ Fine (now work) count ⌝ }
-    requires { ⌜ WholeRecord (now ticket) «record» kind size ⌝ }
-    ensures number { λ r. ⌜ HasNumber (now (ticket .entry)) s «record» pending (now (work .entry)) count r ⌝ }
-    ensures acts { λ r. ⌜ ActsOn (now (ticket .entry)) s «record» pending (now (work .entry)) count (now (work .exit)) r ⌝ }
+) -> usize
+    requires { ⌜ Posed (now ticket) s × WholeRecord (now ticket) «record» kind size ⌝ }
+    ensures { λ r. ⌜ r ≡ openFault (length (now (ticket .entry))) («record» + 6 + size) kind size
+        (faultUnder claim (now (ticket .entry)) s («record» + 6) size) ⌝ }
 {
     let place = open_fault(ticket.len(), record + RECORD_HEAD + size, kind, size);
     if place != 0 {
-        return Action::Refused(place);
+        return place;
     }
-    let form = step_fault_one(ticket, s, record + RECORD_HEAD, size);
-    if form != 0 {
-        return Action::Refused(form);
-    }
-    take_step(ticket, s, record, size, work, count, pending)
+    step_fault(ticket, s, claim, record + RECORD_HEAD, size)
 }
 
-// Refused: the number and the record. Closed: every branch is closed; the position and the number of the record behind.
+// ---- all of them
+
+// Refused: the number and the record. Closed: every branch is closed; the position and the number of the record behind. Model: the position and the
+// number of the model's record, and how many facts stand on the branch.
 pub enum Walked {
     Refused(usize, usize),
     Closed(usize, usize),
+    Model(usize, usize, usize),
 }
 
-// The records from the one behind the claim, record r at a position, on the question's constraints.
-pub fn walk(ticket: &[u8], s: Progress, record: usize, r: usize, work: &mut [i64]) -> Walked
-    requires { ⌜ Posed (now ticket) s ⌝ }
+// The records from the one behind the claim, record r at a position, on the question's constraints: until every branch is closed, or up to the model.
+pub fn walk(
+    ticket: &[u8],
+    s: Progress,
+    claim: Claim,
+    record: usize,
+    r: usize,
+    work: &mut [i64],
+) -> Walked
+    requires { ⌜ Posed (now ticket) s × (r ≤ «record») ⌝ }
     requires { ⌜ Fine (now work) (s .constraints) × (branchOf (now work) (s .constraints) ≡ asked (now ticket) s .constraints) ⌝ }
-    requires { ⌜ r ≤ «record» ⌝ }
-    ensures { λ x. ⌜ walkedOf (now (ticket .entry)) (asked (now (ticket .entry)) s) x ≡ walkFrom (now (ticket .entry)) s r «record» ⌝ }
+    ensures walked { λ x. ⌜ walkedOf (now (ticket .entry)) s (now (work .exit)) x ≡ walkFrom claim (now (ticket .entry)) s r «record» ⌝ }
+    ensures leaf { λ x. ⌜ LeafAt (now (ticket .entry)) (now (work .exit)) x ⌝ }
 {
+    let first = bring_up(nothing_known(), work, s.constraints);
+    let mut known = first;
     let mut b = Branch::new(s.constraints);
     let mut i = record;
     let mut k = r;
@@ -72,90 +93,29 @@ pub fn walk(ticket: &[u8], s: Progress, record: usize, r: usize, work: &mut [i64
             return Walked::Refused(3, k);
         };
         let count = b.count as usize;
-        let pending = b.depth as usize;
-        let action = walk_record(ticket, s, i, kind, size, work, count, pending);
-        match action {
+        if ends_steps(claim, kind) {
+            return Walked::Model(i, k, count);
+        }
+        let fault = record_fault(ticket, s, claim, i, kind, size);
+        if fault != 0 {
+            return Walked::Refused(fault, k);
+        }
+        let rule = rule_of(u16_at(ticket, i + RECORD_HEAD));
+        known = classes_for(rule, known, work, count);
+        let labels = known.labels;
+        let d = b.depth as usize;
+        match take_step(ticket, s, claim, rule, i, size, work, count, d, labels) {
             Action::Refused(c) => return Walked::Refused(c, k),
             Action::Closes => {
-                if pending == 0 {
+                if d == 0 {
                     return Walked::Closed(i + RECORD_HEAD + size, k + 1);
                 }
+                known = set_back(known, first, b.latest().mark as usize);
                 b = next_child(ticket, s, work, b);
             }
-            Action::Extends(facts) => {
-                b = b.extend(facts);
-            }
-            Action::Splits(facts, last) => {
-                b = b.mark(i, last);
-                b = b.extend(facts);
-            }
+            Action::Extends(facts) => b = b.extend(facts),
+            Action::Splits(facts, last) => b = b.mark(i, last).extend(facts),
         }
-        i = i + RECORD_HEAD + size;
-        k += 1;
-    }
-}
-
-// ---- claim 2: the branch of the children taken
-
-// One whole record, no model, on the branch of the first rows.
-fn follow_record(
-    ticket: &[u8],
-    s: Progress,
-    record: usize,
-    kind: usize,
-    size: usize,
-    work: &mut [i64],
-    count: usize,
-) -> Taken
-    requires { ⌜ Posed (now ticket) s ⌝ }
-    requires { ⌜ Fine (now work) count ⌝ }
-    requires { ⌜ WholeRecord (now ticket) «record» kind size × (kind ≡ 7 → ⊥) ⌝ }
-    ensures { λ r. ⌜ TakesRecord (now (ticket .entry)) s «record» size (now (work .entry)) count (now (work .exit)) r ⌝ }
-{
-    let place = open_fault(ticket.len(), record + RECORD_HEAD + size, kind, size);
-    if place != 0 {
-        return Taken {
-            fault: place,
-            count,
-        };
-    }
-    let form = step_fault_two(ticket, s, record + RECORD_HEAD, size);
-    if form != 0 {
-        return Taken { fault: form, count };
-    }
-    take_child(ticket, s, record + RECORD_HEAD, size, work, count)
-}
-
-// Refused: the number and the record. Model: the position and the number of the model's record, and how many facts stand on the branch.
-pub enum Followed {
-    Refused(usize, usize),
-    Model(usize, usize, usize),
-}
-
-// The records from the one behind the claim, record r at a position, on the question's constraints, up to a whole model's record.
-pub fn follow(ticket: &[u8], s: Progress, record: usize, r: usize, work: &mut [i64]) -> Followed
-    requires { ⌜ Posed (now ticket) s ⌝ }
-    requires { ⌜ Fine (now work) (s .constraints) × (branchOf (now work) (s .constraints) ≡ asked (now ticket) s .constraints) ⌝ }
-    requires { ⌜ r ≤ «record» ⌝ }
-    ensures followed { λ x. ⌜ followedOf (now (ticket .entry)) (asked (now (ticket .entry)) s) (now (work .exit)) x ≡ pathFrom (now (ticket .entry)) s r «record» ⌝ }
-    ensures leaf { λ x. ⌜ LeafAt (now (ticket .entry)) (now (work .exit)) x ⌝ }
-{
-    let mut count = s.constraints;
-    let mut i = record;
-    let mut k = r;
-    loop {
-        let Found::Whole(kind, size) = read_at(ticket, i) else {
-            return Followed::Refused(3, k);
-        };
-        if kind == KIND_MODEL {
-            return Followed::Model(i, k, count);
-        }
-        let taken = follow_record(ticket, s, i, kind, size, work, count);
-        let fault = taken.fault;
-        if fault != 0 {
-            return Followed::Refused(fault, k);
-        }
-        count = taken.count;
         i = i + RECORD_HEAD + size;
         k += 1;
     }

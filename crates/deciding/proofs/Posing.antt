@@ -3,23 +3,25 @@ use Prim.Native.Nat.{ℕ, zero, suc, _+_, _≤_}
 use native.Mathlib.Omega.{arith}
 use native.Mathlib.Numerals.{add-one}
 use mathlib.Core.Path.{_≡_, refl, sym, _∙_, ap, ap₂}
-use mathlib.Core.Bool.{Bool, true, false}
+use mathlib.Core.Bool.{Bool, true, false, cond}
 use mathlib.Core.List.{List, []}
 use lib.ListN.{length}
-use lib.Dec.{leb}
-use borrow.Author.Tests.{leb-true, leb-false, eqb-true, eq-eqb, ne-eqb}
+use lib.Dec.{leb, eqb}
+use borrow.Author.Tests.{leb-true, leb-false, eqb-true}
 use Rattle.lists.proofs.Tests.{and-both}
 use Rattle.calculus.specs.Limits.{ticketBytes, factLimit}
 use Rattle.calculus.specs.Facts.{Fact, Branch}
-use Rattle.calculus.specs.Walk.{working}
 use Rattle.format.specs.Records.{kind, size, next}
 use Rattle.format.specs.Question as format
 use Rattle.format.specs.Question.{checkingManner, questionFault, unread, ending, readOn, question, questionAdvanced}
-use Rattle.format.specs.Reading.{State, proving, taking, Ticket, claimFault, claimAt, begin, readClaim, stepsOn}
+use Rattle.format.specs.Reading.{State, Ticket, claimFault, claimAt, begin, readClaim, stepsOn}
 use Rattle.format.specs.Checking.{checker}
 use Rattle.format.proofs.Faults.{none-applies, clash}
 use Rattle.format.proofs.Turns.{read-none, read-ended, read-stopped, read-more, read-begin}
 use Rattle.format.proofs.StepTurns.{claim-clean}
+use Rattle.delimiters.specs.declared.Claim.{Claim}
+use Rattle.delimiters.specs.declared.Claim.the-variants.{NoSolution, Strings}
+use Rattle.delimiters.specs.Claims.{claimOf, openUnder}
 use Rattle.question.specs.declared.Progress.{Progress}
 use Rattle.question.specs.Progress.{progressOf}
 use Rattle.question.specs.Standing.{StandsTo}
@@ -72,12 +74,12 @@ read-question b s at r e =
 -- ---- the claim
 
 -- a claim without fault
-pub record Claim (b : List ℕ) (last at : ℕ) : Type 0 where
+pub record GoodClaim (b : List ℕ) (last at : ℕ) : Type 0 where
   pub whole : next b at ≤ length b
   pub head : 1 ≤ last
   pub two : size b at ≡ 2
 
-pub claim-good : (b : List ℕ) (s : format.Progress) (at : ℕ) → claimFault b s at ≡ 0 → Claim b (s .last) at
+pub claim-good : (b : List ℕ) (s : format.Progress) (at : ℕ) → claimFault b s at ≡ 0 → GoodClaim b (s .last) at
 claim-good b s at e =
     let (whole, e4) = none-applies 2 _ _ e in
     let (placed, e5) = none-applies 3 _ _ e4 in
@@ -102,17 +104,23 @@ module _ (b : List ℕ) (s : Progress) (at r : ℕ) (e : claimFault b (progressO
   abbrev started : State Branch (List Fact) → ℕ → ℕ → Ticket Branch (List Fact)
   started = stepsOn (checker (asked b s)) b (asked b s)
 
-  behind : (st : State Branch (List Fact))
-      → begin (checker (asked b s)) (claimAt b at) ≡ st
-      → readClaim checker b (progressOf b s) at r ≡ started st (r + 1) (at + 8)
+  abbrev opened : Claim → State Branch (List Fact)
+  opened claim = openUnder claim (asked b s .constraints) []
+
+  opens : (k : ℕ) → begin (checker (asked b s)) k ≡ opened (claimOf k)
+  opens k = go (eqb k 1)
+    where
+      go : (t : Bool) → cond t (opened NoSolution) (opened Strings) ≡ opened (cond t NoSolution Strings)
+      go true = refl
+      go false = refl
+
+  pub claims-so : (claim : Claim)
+      → claim ≡ claimOf (claimAt b at)
+      → readClaim checker b (progressOf b s) at r ≡ started (opened claim) (r + 1) (at + 8)
   unfolding asked
-  behind st f =
-      let claim = claim-good b (progressOf b s) at e in
-      let to : next b at ≡ at + 8 = omega (arith, claim .two) in
-      claim-clean checker b (progressOf b s) at r e ∙ ap (λ st. started st (suc r) (next b at)) f ∙ ap₂ (started st) (sym (add-one r)) to
-
-  pub claims-none : claimAt b at ≡ 1 → readClaim checker b (progressOf b s) at r ≡ started (proving (working (asked b s .constraints) [])) (r + 1) (at + 8)
-  claims-none c = behind (proving (working (asked b s .constraints) [])) (rw (eq-eqb (claimAt b at) 1 c))
-
-  pub claims-strings : (claimAt b at ≡ 1 → ⊥) → readClaim checker b (progressOf b s) at r ≡ started (taking (asked b s .constraints)) (r + 1) (at + 8)
-  claims-strings c = behind (taking (asked b s .constraints)) (rw (ne-eqb (claimAt b at) 1 c))
+  claims-so claim f =
+      let good = claim-good b (progressOf b s) at e in
+      let to : next b at ≡ at + 8 = omega (arith, good .two) in
+      claim-clean checker b (progressOf b s) at r e
+      ∙ ap (λ st. started st (suc r) (next b at)) (opens (claimAt b at) ∙ ap opened (sym f))
+      ∙ ap₂ (started (opened claim)) (sym (add-one r)) to

@@ -6,12 +6,13 @@ use lib.ListN.{length}
 use lib.IntN.{ℤ}
 use Rattle.calculus.specs.Limits.{ticketBytes, factLimit}
 use Rattle.calculus.specs.Facts.{Fact, Branch}
-use Rattle.calculus.specs.Walk.{working}
 use Rattle.format.specs.Question.{checkingManner, question}
-use Rattle.format.specs.Reading.{State, proving, taking, stepsOn, readClaim, readBehind}
+use Rattle.format.specs.Reading.{State, stepsOn, readClaim, readBehind}
 use Rattle.format.specs.Checking as format
 use Rattle.format.specs.Checking.{checker, outcomeOf}
 use Rattle.format.specs.Demands.{answerAfter}
+use Rattle.delimiters.specs.declared.Claim.{Claim}
+use Rattle.delimiters.specs.Claims.{openUnder}
 use Rattle.question.specs.declared.Progress.{Progress}
 use Rattle.question.specs.Progress.{progressOf}
 use Rattle.question.specs.Standing.{StandsTo}
@@ -32,12 +33,9 @@ told (format.Strings s) = Strings
 abbrev pub outcomeFrom : List ℕ → Progress → State Branch (List Fact) → ℕ → ℕ → format.Outcome
 outcomeFrom b s st r at = outcomeOf (stepsOn (checker (asked b s)) b (asked b s) st r at)
 
--- behind claim 1, behind claim 2, at the claim, and at the first record
-abbrev pub provedFrom : List ℕ → Progress → ℕ → ℕ → format.Outcome
-provedFrom b s r at = outcomeFrom b s (proving (working (asked b s .constraints) [])) r at
-
-abbrev pub followedFrom : List ℕ → Progress → ℕ → ℕ → format.Outcome
-followedFrom b s r at = outcomeFrom b s (taking (asked b s .constraints)) r at
+-- behind a claim, at the claim, and at the first record
+abbrev pub steppedFrom : Claim → List ℕ → Progress → ℕ → ℕ → format.Outcome
+steppedFrom claim b s r at = outcomeFrom b s (openUnder claim (asked b s .constraints) []) r at
 
 abbrev pub claimedFrom : List ℕ → Progress → ℕ → ℕ → format.Outcome
 claimedFrom b s at r = outcomeOf (readClaim checker b (progressOf b s) at r)

@@ -5,19 +5,20 @@ ghost use Prim.Native.Nat.{ℕ, _≤_};
 ghost use lib.ListN.{length};
 ghost use Rattle.calculus.specs.Limits.{workNumbers, answerBytes};
 ghost use Rattle.format.specs.Records.{kind, next};
-ghost use Rattle.format.specs.Reading.{taking};
+ghost use Rattle.calculus.specs.Walk.{closed};
+ghost use Rattle.format.specs.Reading.{proving, taking};
+ghost use Rattle.question.specs.declared.Progress.{Progress};
 ghost use Rattle.question.specs.Posed.{Posed};
 ghost use Rattle.rows.specs.Rows.{branchOf};
 ghost use Rattle.rows.specs.Work.{Fine};
-ghost use Rattle.deciding.specs.Outcomes.{outcomeFrom, provedFrom, followedFrom, claimedFrom, readWhole, ReadTo, Loaded, Decided};
-use claims::Followed;
+ghost use Rattle.deciding.specs.Outcomes.{outcomeFrom, steppedFrom, claimedFrom, readWhole, ReadTo, Loaded, Decided};
 use claims::Walked;
-use claims::follow;
 use claims::walk;
 use constraints::load;
+use delimiters::Claim;
 use delimiters::claim_fault;
+use delimiters::claim_of;
 use delimiters::end_fault;
-use encoding::CLAIM_NO_SOLUTION;
 use encoding::RECORD_HEAD;
 use model::settle;
 use model::write;
@@ -36,26 +37,18 @@ pub enum Outcome {
     Strings,
 }
 
-// ---- claim 1
+// ---- behind the steps
 
-// The steps, up to the last closed branch, and the end behind it. No answer buffer is written.
-fn prove(ticket: &[u8], s: Progress, at: usize, r: usize, work: &mut [i64]) -> Outcome
-    requires { ⌜ Loaded (now ticket) s (now work) × (r ≤ at) ⌝ }
-    ensures { λ o. ⌜ ((answer : List ℕ) → Decided (provedFrom (now (ticket .entry)) s r at) answer answer o) ⌝ }
+// Behind the last closed branch: the end. No answer buffer is written.
+fn at_end(ticket: &[u8], at: usize, r: usize) -> Outcome
+    ensures { λ o. ⌜ ((s : Progress) (answer : List ℕ) → Decided (outcomeFrom (now (ticket .entry)) s (proving closed) r at) answer answer o) ⌝ }
 {
-    match walk(ticket, s, at, r, work) {
-        Walked::Refused(c, k) => Outcome::Refused(c, k),
-        Walked::Closed(to, k) => {
-            let c = end_fault(ticket, to);
-            if c != 0 {
-                return Outcome::Refused(c, k);
-            }
-            Outcome::NoSolution
-        }
+    let c = end_fault(ticket, at);
+    if c != 0 {
+        return Outcome::Refused(c, r);
     }
+    Outcome::NoSolution
 }
-
-// ---- claim 2
 
 // The model's record, the end behind it, and the answer, which is written when both are good.
 fn at_model(
@@ -86,25 +79,27 @@ fn at_model(
     Outcome::Strings
 }
 
-// The steps up to the model, and what stands there.
-fn give_answer(
+// ---- the whole ticket
+
+// The steps, and what stands behind them.
+fn behind_claim(
     ticket: &[u8],
     s: Progress,
+    claim: Claim,
     at: usize,
     r: usize,
     work: &mut [i64],
     answer: &mut [u8],
 ) -> Outcome
     requires { ⌜ Loaded (now ticket) s (now work) × (r ≤ at) × (answerBytes ≤ length (now answer)) ⌝ }
-    ensures { λ o. ⌜ Decided (followedFrom (now (ticket .entry)) s r at) (now (answer .entry)) (now (answer .exit)) o ⌝ }
+    ensures { λ o. ⌜ Decided (steppedFrom claim (now (ticket .entry)) s r at) (now (answer .entry)) (now (answer .exit)) o ⌝ }
 {
-    match follow(ticket, s, at, r, work) {
-        Followed::Refused(c, k) => Outcome::Refused(c, k),
-        Followed::Model(to, k, count) => at_model(ticket, s, to, k, work, count, answer),
+    match walk(ticket, s, claim, at, r, work) {
+        Walked::Refused(c, k) => Outcome::Refused(c, k),
+        Walked::Closed(to, k) => at_end(ticket, to, k),
+        Walked::Model(to, k, count) => at_model(ticket, s, to, k, work, count, answer),
     }
 }
-
-// ---- the whole ticket
 
 // The claim and what stands behind it, where reading of the question ended. Record r stands there.
 fn behind_question(
@@ -124,11 +119,8 @@ fn behind_question(
         return Outcome::Refused(c, r);
     }
     load(ticket, s, work);
-    let claim = u16_at(ticket, at + RECORD_HEAD);
-    if claim == CLAIM_NO_SOLUTION {
-        return prove(ticket, s, at + 8, r + 1, work);
-    }
-    give_answer(ticket, s, at + 8, r + 1, work, answer)
+    let claim = claim_of(u16_at(ticket, at + RECORD_HEAD));
+    behind_claim(ticket, s, claim, at + 8, r + 1, work, answer)
 }
 
 // The outcome on buffers that are large enough. Anything may be left in the work area.

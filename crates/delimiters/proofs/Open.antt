@@ -9,11 +9,14 @@ use Rattle.format.specs.Records.{need}
 use Rattle.format.specs.Reading.{endForm}
 use Rattle.delimiters.specs.Numbers.{openFault}
 
--- a number at a record that is no step stands whatever a step comes to
-pub open-other : (x y : Bool) (f last step : ℕ) → f ≡ cond x last (need 4 y 0) → (f ≡ 0 → ⊥) → f ≡ cond x last (need 4 y step)
-open-other true y f last step e n = e
-open-other false true f last step e n = absurd (n e)
-open-other false false f last step e n = e
+-- a number at a record stands whatever is asked of a step behind it
+pub open-form : (x y : Bool) (f last step later : ℕ)
+    → f ≡ cond x last (need 4 y step)
+    → (f ≡ step → f ≡ later)
+    → f ≡ cond x last (need 4 y later)
+open-form true y f last step later e h = e
+open-form false true f last step later e h = h e
+open-form false false f last step later e h = e
 
 end-some : (x y : Bool) → need 4 x (need 5 y 11) ≡ 0 → ⊥
 end-some true true e = omega arith

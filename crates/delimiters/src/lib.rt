@@ -3,6 +3,7 @@ ghost use mathlib.Core.Path.{_≡_};
 ghost use Rattle.format.specs.Reading.{claimFault, endForm};
 ghost use Rattle.question.specs.Progress.{progressOf};
 ghost use Rattle.delimiters.specs.Numbers.{openFault, endFault};
+ghost use Rattle.delimiters.specs.Claims.{claimOf};
 use encoding::CLAIM_NO_SOLUTION;
 use encoding::CLAIM_STRINGS;
 use encoding::KIND_CLAIM;
@@ -41,6 +42,22 @@ pub fn claim_fault(ticket: &[u8], s: Progress, at: usize) -> usize
         return 6;
     }
     0
+}
+
+// What a ticket claims.
+pub enum Claim {
+    NoSolution,
+    Strings,
+}
+
+// A claim by its number, any but 1 being that of strings.
+pub fn claim_of(number: usize) -> Claim
+    ensures { λ r. ⌜ r ≡ claimOf number ⌝ }
+{
+    if number == CLAIM_NO_SOLUTION {
+        return Claim::NoSolution;
+    }
+    Claim::Strings
 }
 
 // ---- the end

@@ -1,4 +1,4 @@
--- What an action makes of the walk's state: the walk enters the step in the record at a position.
+-- What an action under claim 1 makes of the walk's state: the walk enters the step in the record at a position.
 use Prim.Native.Nat.{ℕ, _+_, _≤_, _<_}
 use native.Mathlib.Omega.{arith}
 use mathlib.Core.Path.{_≡_, refl, sym, _∙_, ap, subst}
@@ -11,6 +11,7 @@ use Rattle.calculus.specs.Facts.{Fact, Branch}
 use Rattle.calculus.specs.Walk.{Walk, closed, cutBack, enter}
 use Rattle.format.specs.Checking.{orNone}
 use Rattle.rows.specs.Rows.{branchOf}
+use Rattle.delimiters.specs.declared.Claim.the-variants.{NoSolution}
 use Rattle.question.specs.declared.Progress.{Progress}
 use Rattle.question.specs.Posed.{asked}
 use Rattle.branch.specs.declared.Branch as code
@@ -24,7 +25,7 @@ use Rattle.derivation.proofs.Closing.{none-left}
 use Rattle.derivation.proofs.Beginning.{begins-one, begins-more}
 
 module _ {b : List ℕ} {s : Progress} {w : List ℤ} {c : code.Branch} (h : InOrder b s w c) (at : ℕ) (v : List ℤ) (a : Action)
-    (acts : Acts b (asked b s) at (c .depth) w (c .count) v a) where
+    (acts : Acts NoSolution b (asked b s) at (c .depth) w (c .count) v a) where
   abbrev br : Branch
   br = branchOf w (c .count)
 
@@ -34,15 +35,15 @@ module _ {b : List ℕ} {s : Progress} {w : List ℤ} {c : code.Branch} (h : InO
   -- ---- the branch is closed
 
   module _ (e : a ≡ Closes) where
-    same-rows : branchOf v (c .count) ≡ br
+    pub same-rows : branchOf v (c .count) ≡ br
     unfolding Acts
-    same-rows = subst (Acts b (asked b s) at (c .depth) w (c .count) v) e acts .1
+    same-rows = subst (Acts NoSolution b (asked b s) at (c .depth) w (c .count) v) e acts .1
 
     cuts-back : cutBack _++_ (waitings b (asked b s) br (stack c)) ≡ entered
     unfolding Acts
     cuts-back =
         ap (λ (o : Option (List (List Fact))). enter _++_ br (orNone o) (waitings b (asked b s) br (stack c)))
-        (sym (subst (Acts b (asked b s) at (c .depth) w (c .count) v) e acts .0))
+        (sym (subst (Acts NoSolution b (asked b s) at (c .depth) w (c .count) v) e acts .0))
 
     pub holds-closed : length v ≡ length w → InOrder b s v c
     holds-closed n = record {
@@ -62,9 +63,9 @@ module _ {b : List ℕ} {s : Progress} {w : List ℤ} {c : code.Branch} (h : InO
   -- ---- the branch goes on
 
   module _ (k : ℕ) (e : a ≡ Extends k) where
-    extended : Begins b (asked b s) br at 1 v k
+    pub extended : Begins b (asked b s) br at 1 v k
     unfolding Acts
-    extended = subst (Acts b (asked b s) at (c .depth) w (c .count) v) e acts
+    extended = subst (Acts NoSolution b (asked b s) at (c .depth) w (c .count) v) e acts
 
     pub few-extended : k ≤ factLimit
     few-extended = extended .fine .few
@@ -75,9 +76,9 @@ module _ {b : List ℕ} {s : Progress} {w : List ℤ} {c : code.Branch} (h : InO
   -- ---- the branch splits
 
   module _ (k n : ℕ) (e : a ≡ Splits k n) where
-    split-up : Begins b (asked b s) br at n v k × Branches b at n (c .depth)
+    pub split-up : Begins b (asked b s) br at n v k × Branches b at n (c .depth)
     unfolding Acts
-    split-up = subst (Acts b (asked b s) at (c .depth) w (c .count) v) e acts
+    split-up = subst (Acts NoSolution b (asked b s) at (c .depth) w (c .count) v) e acts
 
     pub few-split : k ≤ factLimit
     few-split = split-up .0 .fine .few

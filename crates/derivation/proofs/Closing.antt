@@ -3,7 +3,8 @@ use Prim.Native.Nat.{ℕ, _+_, _-_, _≤_, _<_}
 use native.Mathlib.Omega.{arith}
 use mathlib.Core.Path.{_≡_, sym, _∙_, ap, ap₂, subst}
 use mathlib.Core.List.{List, _∷_, _++_}
-use lib.ListN.{length, take}
+use lib.ListN.{length, take, length-append}
+use lib.Seq.{take-at}
 use lib.IntN.{ℤ}
 use Rattle.calculus.specs.Facts.{Branch}
 use Rattle.calculus.specs.Walk.{closed, cutBack}
@@ -23,7 +24,7 @@ use Rattle.branch.specs.declared.Split.{Split}
 use Rattle.branch.specs.declared.Branch as code
 use Rattle.branch.specs.Stack.{lastFirst, stack, latestOf, begunOf}
 use Rattle.branch.proofs.Stacks.{stack-top, length-stack}
-use Rattle.derivation.specs.State.{childOn, waitings, walkOf, stateOf}
+use Rattle.derivation.specs.State.{childOn, waitings, walkOf, stateOf, KeepsBelow}
 use Rattle.derivation.specs.Ok.{Splits, Pends, Ok, InOrder}
 use Rattle.derivation.proofs.Pending.{its-pends, within-take, ok-begun}
 use Rattle.derivation.proofs.Walks.{cut-back}
@@ -43,7 +44,7 @@ open-depth c n = omega arith
 pub cut-depth : (c r : code.Branch) → stack r ≡ stack c → r .depth ≡ c .depth
 cut-depth c r q = sym (length-stack r) ∙ ap length q ∙ length-stack c
 
-module _ {b : List ℕ} {s : Progress} {w : List ℤ} {c : code.Branch} (h : InOrder b s w c) (d : 0 < c .depth) (t : Split) (e : t ≡ latestOf (stack c)) where
+module _ {b : List ℕ} {s : Progress} {w : List ℤ} {c : code.Branch} (h : InOrder b s w c) (d : 0 < c .depth) (t : Split) (top : t ≡ latestOf (stack c)) where
   abbrev br : Branch
   br = branchOf w (c .count)
 
@@ -52,13 +53,17 @@ module _ {b : List ℕ} {s : Progress} {w : List ℤ} {c : code.Branch} (h : InO
 
   on-top : stack c ≡ t ∷ others
   unfolding stack latestOf
-  on-top = let q = stack-top (c .depth) (c .splits) d in q ∙ ap (λ (x : Split). x ∷ others) (sym (e ∙ ap latestOf q))
+  on-top = let q = stack-top (c .depth) (c .splits) d in q ∙ ap (λ (x : Split). x ∷ others) (sym (top ∙ ap latestOf q))
 
   ok-top : Ok b (asked b s) br (t ∷ others)
   ok-top = subst (λ (l : List Split). Ok b (asked b s) br l) on-top (h .ok)
 
   pends : Pends b (asked b s) br t
   pends = its-pends b (asked b s) br t others ok-top
+
+  -- its mark is behind the question's constraints
+  pub rooted-mark : length (asked b s .constraints) ≤ t .mark
+  rooted-mark = pends .rooted
 
   mark-behind : t .mark ≤ c .count
   mark-behind = omega (arith, pends .behind, length-branch w (c .count))
@@ -114,3 +119,19 @@ module _ {b : List ℕ} {s : Progress} {w : List ℤ} {c : code.Branch} (h : InO
               (ok-begun b u br t others ok-top));
         },
       )
+
+  -- which keeps the facts below the mark
+  pub keeps-below : (v : List ℤ) (r : code.Branch) (m k : ℕ)
+      → r .count ≡ k
+      → branchOf v k ≡ branchOf w (t .mark) ++ offeredChild b (asked b s) (branchOf w (t .mark)) (t .at + 6) m (t .child)
+      → KeepsBelow (latestOf (stack c) .mark) w v r
+  keeps-below v r m k er e =
+      let child = offeredChild b (asked b s) (branchOf w (t .mark)) (t .at + 6) m (t .child) in
+      let long : t .mark ≤ k = omega (arith, sym (length-branch v k) ∙ ap length e ∙ length-append (branchOf w (t .mark)) child, length-branch w (t .mark)) in
+      subst (λ (n : ℕ). KeepsBelow n w v r) (ap (λ (x : Split). x .mark) top) (record {
+        below =
+            sym (branch-take v k (t .mark) long)
+            ∙ ap (take (t .mark)) e
+            ∙ take-at (branchOf w (t .mark)) child (t .mark) (length-branch w (t .mark));
+        behind = omega (arith, long, er);
+      })

@@ -5,7 +5,7 @@ use mathlib.Core.Path.{_≡_, refl, sym, _∙_, ap, ap₂, subst}
 use mathlib.Core.Bool.{Bool, true, false, _&&_, cond}
 use mathlib.Core.List.{List, [], _∷_, _++_}
 use lib.ListN.{length, take, length-append}
-use lib.Seq.{take-append-le, take-append-seam, take-at, length-take-le}
+use lib.Seq.{take-append-le, take-append-seam, take-at, take-take, length-take-le}
 use lib.Dec.{ltb}
 use borrow.Author.Tests.{ltb-true}
 use Rattle.lists.proofs.Every.{every-append, every-take}
@@ -18,8 +18,23 @@ use Rattle.steps.specs.declared.Conclusions.the-variants.{Several}
 use Rattle.branch.specs.declared.Split.{Split}
 use Rattle.branch.specs.Stack.{split, begunOf}
 use Rattle.derivation.specs.State.{childOn, waitingOn, waitings}
-use Rattle.derivation.specs.Ok.{Splits, Pends, AllPend, Ok}
+use Rattle.derivation.specs.Ok.{Splits, Rooted, Pends, AllPend, Ok}
 use Rattle.derivation.proofs.Children.{child-within, child-room}
+
+-- ---- the question's constraints stand first
+
+pub rooted-grown : (u : Question) (br c : Branch) → Rooted u br → Rooted u (br ++ c)
+rooted-grown u br c h = record {
+  long = omega (arith, h .long, length-append br c);
+  first = take-append-le (length (u .constraints)) br c (h .long) ∙ h .first;
+}
+
+-- and do so on a branch that is cut behind them
+pub rooted-cut : (u : Question) (br : Branch) (n : ℕ) → length (u .constraints) ≤ n → n ≤ length br → Rooted u br → Rooted u (take n br)
+rooted-cut u br n l g h = record {
+  long = omega (arith, l, length-take-le n br g);
+  first = take-take (length (u .constraints)) n br l ∙ h .first;
+}
 
 -- ---- a branch that grows
 
@@ -30,6 +45,7 @@ module _ (b : List ℕ) (u : Question) where
   pend-grown br c (s ∷ ss) h =
       let e : take (s .mark) (br ++ c) ≡ take (s .mark) br = take-append-le (s .mark) br c (h .0 .behind) in
       let here : Pends b u (br ++ c) s = record {
+        rooted = h .0 .rooted;
         behind = omega (arith, h .0 .behind, length-append br c);
         several = h .0 .several;
         splits = subst (λ (l : Branch). Splits b u l (s .at) (s .last)) (sym e) (h .0 .splits);
@@ -71,6 +87,7 @@ module _ (b : List ℕ) (u : Question) (br : Branch) (ss : List Split) (at n : �
   -- its only child
   pub ok-one : 1 ≤ n → Ok b u (br ++ childOn b u br at 1) ss
   ok-one h = record {
+    rooted = rooted-grown u br (childOn b u br at 1) (ok .rooted);
     few = few-first h;
     small = small-first h;
     few-pending = ok .few-pending;
@@ -87,6 +104,7 @@ module _ (b : List ℕ) (u : Question) (br : Branch) (ss : List Split) (at n : �
       let c : List Fact = childOn b u br at 1 in
       let e : take (length br) (br ++ c) ≡ br = take-append-seam br c in
       let here : Pends b u (br ++ c) (split (length br) at 2 n) = record {
+        rooted = ok .rooted .long;
         behind = omega (arith, length-append br c);
         several = r;
         splits = subst (λ (l : Branch). Splits b u l at n) (sym e) sp;
@@ -94,6 +112,7 @@ module _ (b : List ℕ) (u : Question) (br : Branch) (ss : List Split) (at n : �
         some-left = h;
       } in
       record {
+        rooted = rooted-grown u br c (ok .rooted);
         few = few-first (omega arith);
         small = small-first (omega arith);
         few-pending = omega arith;
@@ -138,6 +157,7 @@ module _ (b : List ℕ) (u : Question) (br : Branch) (s : Split) (ss : List Spli
   pend-begun true e =
       let more : s .child < s .last = ltb-true (s .child) (s .last) e in
       let here : Pends b u (cutTo br s ++ begunOn b u br s) (split (s .mark) (s .at) (s .child + 1) (s .last)) = record {
+        rooted = its-pends .rooted;
         behind = omega (arith, length-append (cutTo br s) (begunOn b u br s), length-cut);
         several = its-pends .several;
         splits = subst (λ (l : Branch). Splits b u l (s .at) (s .last)) (sym cut-again) (its-pends .splits);
@@ -154,6 +174,7 @@ module _ (b : List ℕ) (u : Question) (br : Branch) (s : Split) (ss : List Spli
   pub ok-begun : Ok b u (cutTo br s ++ begunOn b u br s) (begunOf (s ∷ ss))
   unfolding begunOf
   ok-begun = record {
+    rooted = rooted-grown u (cutTo br s) (begunOn b u br s) (rooted-cut u br (s .mark) (its-pends .rooted) (its-pends .behind) (ok .rooted));
     few = few-begun;
     small = small-begun;
     few-pending = omega (arith, few-left (ltb (s .child) (s .last)), ok .few-pending);

@@ -31,8 +31,14 @@ pub record Splits (b : List ℕ) (u : Question) (br : Branch) (at n : ℕ) : Typ
   pub within : childrenWithin its-children ≡ true
   pub room : roomForAll (length br) its-children ≡ true
 
--- a split, by a rule with several conclusions, is pending on a branch that has grown from its mark
+-- the question's constraints stand first on a branch
+pub record Rooted (u : Question) (br : Branch) : Type 0 where
+  pub long : length (u .constraints) ≤ length br
+  pub first : take (length (u .constraints)) br ≡ u .constraints
+
+-- a split, by a rule with several conclusions, is pending on a branch that has grown from its mark, behind the question's constraints
 pub record Pends (b : List ℕ) (u : Question) (br : Branch) (s : Split) : Type 0 where
+  pub rooted : length (u .constraints) ≤ s .mark
   pub behind : s .mark ≤ length br
   pub several : conclusionsOf (rule b (s .at + 6)) ≡ Several
   pub splits : Splits b u (take (s .mark) br) (s .at) (s .last)
@@ -45,6 +51,7 @@ AllPend b u br [] = Unit {0}
 AllPend b u br (s ∷ ss) = Pends b u br s × AllPend b u (take (s .mark) br) ss
 
 pub record Ok (b : List ℕ) (u : Question) (br : Branch) (ss : List Split) : Type 0 where
+  pub rooted : Rooted u br
   pub few : length br ≤ factLimit
   pub small : factsWithin br ≡ true
   pub few-pending : length ss ≤ pendingLimit

@@ -1,5 +1,5 @@
 -- The walk's state as the code holds it: the facts of the branch are rows of the work area, and a pending split is known by the position of its step's record.
-use Prim.Native.Nat.{ℕ, _+_}
+use Prim.Native.Nat.{ℕ, _+_, _≤_}
 use mathlib.Core.Path.{_≡_}
 use mathlib.Core.Option.{Option}
 use mathlib.Core.List.{List, [], _∷_, _++_}
@@ -8,11 +8,12 @@ use lib.IntN.{ℤ}
 use Rattle.calculus.specs.Facts.{Question, Fact, Branch}
 use Rattle.calculus.specs.Walk.{Waiting, Walk, working, enter, cutBack}
 use Rattle.format.specs.Records.{size}
-use Rattle.format.specs.Checking.{orNone, allTried}
+use Rattle.format.specs.Checking.{orNone}
+use Rattle.delimiters.specs.declared.Claim.{Claim}
 use Rattle.question.specs.declared.Progress.{Progress}
 use Rattle.question.specs.Posed.{asked}
 use Rattle.rows.specs.Rows.{branchOf}
-use Rattle.steps.specs.Offered.{offered, offeredChild}
+use Rattle.steps.specs.Offered.{offered, offeredChild, triedUnder}
 use Rattle.branch.specs.declared.Split.{Split}
 use Rattle.branch.specs.declared.Branch as code
 use Rattle.branch.specs.Stack.{stack}
@@ -28,9 +29,9 @@ childrenOn b u br at = orNone (offeredIn b u br at)
 abbrev pub childOn : List ℕ → Question → Branch → ℕ → ℕ → List Fact
 childOn b u br at k = offeredChild b u br (at + 6) (size b at) k
 
--- the first of 8 to 10 that applies to the step, on the branch of the first count rows of the work area with so many splits pending; 0 for none
-abbrev pub recordFault : List ℕ → Progress → ℕ → List ℤ → ℕ → ℕ → ℕ
-recordFault b s at w count pending = allTried (branchOf w count) pending (offeredIn b (asked b s) (branchOf w count) at)
+-- the first of 8 to 10 that applies to the step under a claim, on the branch of the first count rows of the work area with so many splits pending; 0 for none
+abbrev pub recordFault : Claim → List ℕ → Progress → ℕ → List ℤ → ℕ → ℕ → ℕ
+recordFault claim b s at w count pending = triedUnder claim b s (at + 6) (size b at) w count pending
 
 -- the walk once it is taken on the branch br, where the splits ss are pending: format's `stepped`
 abbrev pub steppedOn : List ℕ → Question → Branch → List (Waiting Branch (List Fact)) → ℕ → Walk Branch (List Fact)
@@ -55,3 +56,8 @@ stateOf b u w c = walkOf b u (branchOf w (c .count)) (stack c)
 -- "a closed branch is cut back to the mark of its last pending split": from c with the work area v to d with w
 abbrev pub CutsBack : List ℕ → Progress → List ℤ → code.Branch → List ℤ → code.Branch → Type 0
 CutsBack b s v c w d = stateOf b (asked b s) w d ≡ cutBack _++_ (waitings b (asked b s) (branchOf v (c .count)) (stack c))
+
+-- and the facts below the mark stand as they did
+pub record KeepsBelow (mark : ℕ) (v w : List ℤ) (d : code.Branch) : Type 0 where
+  pub below : branchOf w mark ≡ branchOf v mark
+  pub behind : mark ≤ d .count

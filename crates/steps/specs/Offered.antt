@@ -5,8 +5,10 @@ use mathlib.Core.List.{List, _++_}
 use lib.IntN.{ℤ}
 use Rattle.calculus.specs.Facts.{Question, Fact, Branch}
 use Rattle.calculus.specs.Rules.{children}
-use Rattle.format.specs.StepForms.{stepAt}
+use Rattle.format.specs.StepForms.{childField, stepAt}
 use Rattle.format.specs.Checking.{orNone, allTried, takenTried, childIn}
+use Rattle.delimiters.specs.declared.Claim.{Claim}
+use Rattle.delimiters.specs.declared.Claim.the-variants.{NoSolution, Strings}
 use Rattle.question.specs.declared.Progress.{Progress}
 use Rattle.question.specs.Posed.{asked}
 use Rattle.rows.specs.Rows.{branchOf}
@@ -38,3 +40,8 @@ childFault b s body m w count k = takenTried (branchOf w count) (childOf b s bod
 
 abbrev pub allFault : List ℕ → Progress → ℕ → ℕ → List ℤ → ℕ → ℕ → ℕ
 allFault b s body m w count pending = allTried (branchOf w count) pending (offeredOn b s body m w count)
+
+-- "Under claim 1 all children of a split are tried for 9 and 10 at the split's own record, under claim 2 only the one taken"
+abbrev pub triedUnder : Claim → List ℕ → Progress → ℕ → ℕ → List ℤ → ℕ → ℕ → ℕ
+triedUnder NoSolution b s body m w count pending = allFault b s body m w count pending
+triedUnder Strings b s body m w count pending = childFault b s body m w count (childField b body)

@@ -10,11 +10,12 @@ ghost use Rattle.calculus.specs.Alphabet.{characterCount};
 ghost use Rattle.calculus.specs.Steps.{pairCount, lastCount};
 ghost use Rattle.format.specs.Fields.{u16s, pairsAt};
 ghost use Rattle.format.specs.StepForms as forms;
-ghost use Rattle.format.specs.StepForms.{ruleOf, formFor, fitsForm, lengthFits, multipliersWithin, areVariables, operandsInRange, isChild};
+ghost use Rattle.format.specs.StepForms.{ruleOf, formFor, fitsForm, lengthFits, multipliersWithin, areVariables, operandsInRange, stepOf, isChild};
 ghost use Rattle.steps.specs.Rules.{ruleNamed, shapeOf};
 ghost use Rattle.steps.specs.Forms.{stepForm};
-ghost use Rattle.steps.specs.Faults.{faultBut, faultOne, faultTwo};
+ghost use Rattle.steps.specs.Faults.{childFieldFits, faultBut, faultUnder};
 ghost use Rattle.steps.specs.Conclusions.{conclusionsOf};
+use delimiters::Claim;
 use encoding::CODE;
 use limits::COLUMN_LIMIT;
 use limits::NUMBER_LIMIT;
@@ -338,26 +339,21 @@ fn operands_fault(b: &[u8], s: Progress, body: usize, size: usize) -> usize
     }
 }
 
-// Claim 1: "the child field is 0".
-pub fn step_fault_one(b: &[u8], s: Progress, body: usize, size: usize) -> usize
-    requires { ⌜ (body + size ≤ length (now b)) × (s .p ≤ variableLimit) × (s .q ≤ variableLimit) ⌝ }
-    ensures { λ r. ⌜ r ≡ faultOne (now (b .entry)) s body size ⌝ }
+// The child field under a claim: "Under claim 1 the child field is 0", "Under claim 2 it is the child taken".
+fn child_field_fits(claim: Claim, rule: Rule, n: usize, size: usize, k: usize) -> bool
+    requires { ⌜ fitsForm (formFor (ruleNamed rule)) size ≡ true ⌝ }
+    ensures { λ r. ⌜ ((b : List ℕ) (body : ℕ) → r ≡ childFieldFits claim n (stepOf b (ruleNamed rule) body size) k) ⌝ }
 {
-    let f = operands_fault(b, s, body, size);
-    if f != 0 {
-        return f;
-    }
-    if u16_at(b, body + CHILD_FIELD) == 0 {
-        0
-    } else {
-        6
+    match claim {
+        Claim::NoSolution => k == 0,
+        Claim::Strings => child_in_range(rule, n, size, k),
     }
 }
 
-// Claim 2: the child taken.
-pub fn step_fault_two(b: &[u8], s: Progress, body: usize, size: usize) -> usize
+// The whole body.
+pub fn step_fault(b: &[u8], s: Progress, claim: Claim, body: usize, size: usize) -> usize
     requires { ⌜ (body + size ≤ length (now b)) × (s .p ≤ variableLimit) × (s .q ≤ variableLimit) ⌝ }
-    ensures { λ r. ⌜ r ≡ faultTwo (now (b .entry)) s body size ⌝ }
+    ensures { λ r. ⌜ r ≡ faultUnder claim (now (b .entry)) s body size ⌝ }
 {
     let f = operands_fault(b, s, body, size);
     if f != 0 {
@@ -365,7 +361,7 @@ pub fn step_fault_two(b: &[u8], s: Progress, body: usize, size: usize) -> usize
     }
     let rule = rule_of(u16_at(b, body));
     let k = u16_at(b, body + CHILD_FIELD);
-    if child_in_range(rule, s.n, size, k) {
+    if child_field_fits(claim, rule, s.n, size, k) {
         0
     } else {
         6

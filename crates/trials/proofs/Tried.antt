@@ -11,18 +11,20 @@ use Rattle.calculus.specs.Facts.{Fact, Branch}
 use Rattle.calculus.specs.Steps.{shape}
 use Rattle.calculus.proofs.Shapes.{children-shape}
 use Rattle.format.specs.Records.{need}
-use Rattle.format.specs.StepForms.{rule, stepAt, childInRange}
+use Rattle.format.specs.StepForms.{rule, childField, stepAt, childInRange}
 use Rattle.format.specs.Checking.{fits, orNone, factsWithin, childrenWithin, room, roomForAll, roomToPend, allTried, takenTried, childIn}
 use Rattle.format.proofs.Faults.{clash}
+use Rattle.delimiters.specs.declared.Claim.{Claim}
+use Rattle.delimiters.specs.declared.Claim.the-variants.{NoSolution, Strings}
 use Rattle.question.specs.declared.Progress.{Progress}
 use Rattle.question.specs.Posed.{asked}
 use Rattle.steps.specs.Conclusions.{conclusionsOf}
 use Rattle.steps.specs.declared.Conclusions.the-variants.{Nothing, Several}
-use Rattle.steps.specs.Offered.{offered}
+use Rattle.steps.specs.Offered.{offered, triedUnder}
 use Rattle.steps.specs.Ready.{Ready}
 use Rattle.steps.proofs.Concluding.{no-child, some-child, child-between}
 use Rattle.steps.proofs.Bodies.{before, given}
-use Rattle.steps.proofs.Offered.{child-in-there, its-shape}
+use Rattle.steps.proofs.Offered.{none-there, child-in-there, its-shape}
 
 -- ---- claim 1
 
@@ -80,3 +82,11 @@ module _ {b : List ℕ} {s : Progress} {body m : ℕ} {w : List ℤ} {count : �
   taken-there several e f =
       let (l, g) = child-between (shape (s .n) (stepAt b body m)) k (some-child b (s .n) body m (h .formed .fits) several) e in
       child-in-there (given h) k f l (omega (arith, length-map (orNone (given h)) length, ap length (its-shape h f)))
+
+-- ---- under either claim
+
+module _ {b : List ℕ} {s : Progress} {body m : ℕ} {w : List ℤ} {count : ℕ} (h : Ready b s body m w count) (pending : ℕ) where
+  -- a step that does not fit
+  pub none-fits : (claim : Claim) → fits (given h) ≡ false → 8 ≡ triedUnder claim b s body m w count pending
+  none-fits NoSolution e = split-eight (before h) pending (given h) e
+  none-fits Strings e = taken-eight (before h) (childIn (given h) (childField b body)) (none-there (given h) (childField b body) e)

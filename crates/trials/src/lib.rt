@@ -1,4 +1,4 @@
-// Trials of a step: the numbers 8 to 10 of a split under claim 1 and of the child taken under claim 2, whose facts go behind those of the branch.
+// Trials of a split: the numbers 8 to 10 of all its children under claim 1, of the child taken under claim 2.
 ghost use mathlib.Core.Path.{_≡_};
 ghost use mathlib.Core.Bool.{true};
 ghost use mathlib.Core.List.{List, map};
@@ -6,21 +6,21 @@ ghost use Prim.Native.Nat.{ℕ, _≤_};
 ghost use lib.ListN.{length};
 ghost use Rattle.calculus.specs.Limits.{factLimit};
 ghost use Rattle.calculus.specs.Facts.{Fact};
-ghost use Rattle.format.specs.StepForms.{formFor, fitsForm, childField, stepAt, childInRange};
-ghost use Rattle.format.specs.Checking.{roomForAll, roomToPend};
+ghost use Rattle.format.specs.StepForms.{formFor, fitsForm, stepAt, childInRange};
+ghost use Rattle.format.specs.Checking.{fits, roomForAll, roomToPend};
 ghost use Rattle.steps.specs.Rules.{ruleNamed, shapeOf};
 ghost use Rattle.steps.specs.Conclusions.{conclusionsOf};
-ghost use Rattle.steps.specs.declared.Conclusions.the-variants.{One, Several};
-ghost use Rattle.steps.specs.Offered.{childFault, allFault};
-ghost use Rattle.steps.specs.Ready.{Ready, ReadyBy};
+ghost use Rattle.steps.specs.declared.Conclusions.the-variants.{Several};
+ghost use Rattle.steps.specs.Faults.{fieldFits};
+ghost use Rattle.steps.specs.Offered.{offeredOn, childFault, allFault, triedUnder};
+ghost use Rattle.steps.specs.Ready.{ReadyBy};
 ghost use Rattle.trials.specs.Rooms.{ChildrenBy};
-ghost use Rattle.trials.specs.Takes.{TakesChild};
+use delimiters::Claim;
 use limits::FACT_LIMIT;
 use limits::PENDING_LIMIT;
 use question::Progress;
 use records::u16_at;
 use steps::CHILD_FIELD;
-use steps::Conclusions;
 use steps::Rule;
 
 // ---- a split under claim 1
@@ -51,8 +51,8 @@ fn room_to_pend(rule: Rule, n: usize, size: usize, pending: usize) -> bool
     pending < PENDING_LIMIT
 }
 
-// "Under claim 1 all children of a split are tried for 9 and 10 at the split's own record": the first of 8 to 10 that applies, 0 for none.
-pub fn split_fault(
+// "Under claim 1 all children of a split are tried for 9 and 10 at the split's own record": of a step that fits.
+fn all_fault(
     ticket: &[u8],
     s: Progress,
     rule: Rule,
@@ -63,11 +63,9 @@ pub fn split_fault(
     pending: usize,
 ) -> usize
     requires { ⌜ ReadyBy rule Several (now ticket) s body size (now work) count ⌝ }
+    requires { ⌜ fits (offeredOn (now ticket) s body size (now work) count) ≡ true ⌝ }
     ensures { λ r. ⌜ r ≡ allFault (now (ticket .entry)) s body size (now (work .entry)) count pending ⌝ }
 {
-    if !splits::fits(ticket, s, rule, body, size, work, count) {
-        return 8;
-    }
     if !splits::children_within(ticket, s, rule, body, size, work, count) {
         return 9;
     }
@@ -82,13 +80,7 @@ pub fn split_fault(
 
 // ---- the child taken under claim 2
 
-// What taking a child comes to: the first of 8 to 10 that applies; 0 for none, and then the number of facts.
-pub struct Taken {
-    pub fault: usize,
-    pub count: usize,
-}
-
-// "under claim 2 only the one taken": child k of a split is tried. The first of 8 to 10 that applies, 0 for none.
+// "under claim 2 only the one taken": child k of a step that fits.
 fn taken_fault(
     ticket: &[u8],
     s: Progress,
@@ -100,12 +92,10 @@ fn taken_fault(
     k: usize,
 ) -> usize
     requires { ⌜ ReadyBy rule Several (now ticket) s body size (now work) count ⌝ }
+    requires { ⌜ fits (offeredOn (now ticket) s body size (now work) count) ≡ true ⌝ }
     requires { ⌜ childInRange (s .n) (stepAt (now ticket) body size) k ≡ true ⌝ }
     ensures { λ r. ⌜ r ≡ childFault (now (ticket .entry)) s body size (now (work .entry)) count k ⌝ }
 {
-    if !splits::fits(ticket, s, rule, body, size, work, count) {
-        return 8;
-    }
     if !splits::child_within(ticket, s, rule, body, size, work, count, k) {
         return 9;
     }
@@ -115,69 +105,32 @@ fn taken_fault(
     0
 }
 
-// The child taken of a split.
-fn take_split_child(
+// ---- under either claim
+
+// The first of 8 to 10 that applies to a split, 0 for none.
+pub fn split_fault(
     ticket: &[u8],
     s: Progress,
+    claim: Claim,
     rule: Rule,
     body: usize,
     size: usize,
-    work: &mut [i64],
+    work: &[i64],
     count: usize,
-) -> Taken
+    pending: usize,
+) -> usize
     requires { ⌜ ReadyBy rule Several (now ticket) s body size (now work) count ⌝ }
-    requires { ⌜ childInRange (s .n) (stepAt (now ticket) body size) (childField (now ticket) body) ≡ true ⌝ }
-    ensures { λ r. ⌜ TakesChild (now (ticket .entry)) s body size (now (work .entry)) count (now (work .exit)) r ⌝ }
+    requires { ⌜ fieldFits claim (now ticket) (s .n) body size ≡ true ⌝ }
+    ensures { λ r. ⌜ r ≡ triedUnder claim (now (ticket .entry)) s body size (now (work .entry)) count pending ⌝ }
 {
-    let k = u16_at(ticket, body + CHILD_FIELD);
-    let fault = taken_fault(ticket, s, rule, body, size, work, count, k);
-    if fault != 0 {
-        return Taken { fault, count };
+    if !splits::fits(ticket, s, rule, body, size, work, count) {
+        return 8;
     }
-    Taken {
-        fault: 0,
-        count: splits::put_child(ticket, s, rule, body, size, work, count, k),
-    }
-}
-
-// The child taken of a rule with one conclusion: "it is 1 for a rule with one conclusion or none".
-fn take_only_child(
-    ticket: &[u8],
-    s: Progress,
-    rule: Rule,
-    body: usize,
-    size: usize,
-    work: &mut [i64],
-    count: usize,
-) -> Taken
-    requires { ⌜ ReadyBy rule One (now ticket) s body size (now work) count ⌝ }
-    requires { ⌜ childInRange (s .n) (stepAt (now ticket) body size) (childField (now ticket) body) ≡ true ⌝ }
-    ensures { λ r. ⌜ TakesChild (now (ticket .entry)) s body size (now (work .entry)) count (now (work .exit)) r ⌝ }
-{
-    let fault = conclusions::conclude(ticket, s, rule, body, size, work, count);
-    Taken {
-        fault,
-        count: count + 1,
-    }
-}
-
-// The child taken of a step of any rule, behind the facts of the branch. A rule that closes has no child: 8.
-pub fn take_child(
-    ticket: &[u8],
-    s: Progress,
-    body: usize,
-    size: usize,
-    work: &mut [i64],
-    count: usize,
-) -> Taken
-    requires { ⌜ Ready (now ticket) s body size (now work) count ⌝ }
-    requires { ⌜ childInRange (s .n) (stepAt (now ticket) body size) (childField (now ticket) body) ≡ true ⌝ }
-    ensures { λ r. ⌜ TakesChild (now (ticket .entry)) s body size (now (work .entry)) count (now (work .exit)) r ⌝ }
-{
-    let rule = steps::rule_of(u16_at(ticket, body));
-    match steps::conclusions_of(rule) {
-        Conclusions::Nothing => Taken { fault: 8, count },
-        Conclusions::One => take_only_child(ticket, s, rule, body, size, work, count),
-        Conclusions::Several => take_split_child(ticket, s, rule, body, size, work, count),
+    match claim {
+        Claim::NoSolution => all_fault(ticket, s, rule, body, size, work, count, pending),
+        Claim::Strings => {
+            let k = u16_at(ticket, body + CHILD_FIELD);
+            taken_fault(ticket, s, rule, body, size, work, count, k)
+        }
     }
 }

@@ -1,12 +1,13 @@
 -- `deciding::behind_question` meets its contract.
 use borrow.Author.Needs.{needs}
 use denote.Ref.{now}
-use mathlib.Core.Path.{_∙_, sym}
+use mathlib.Core.Path.{_∙_, ap, sym}
 use native.Mathlib.Omega.{arith}
 use Rattle.deciding.proofs.Outcomes.{decided-by, nonzero, refused}
-use Rattle.deciding.proofs.Posing.{claim-good, claims-none, claims-strings, posed}
+use Rattle.deciding.proofs.Posing.{claim-good, claims-so, posed}
 use Rattle.format.proofs.StepTurns.{claim-faulty}
 use Rattle.format.specs.Checking.{checker}
+use Rattle.delimiters.specs.Claims.{claimOf}
 use Rattle.question.specs.Progress.{progressOf}
 use Rattle.deciding.proofs.behind_question.Statement.{statement}
 use Rattle.deciding.proofs.behind_question.Tie as tie
@@ -40,46 +41,17 @@ u16-at-requires c κs =
     (sym (c .before .before .before .before .claim-fault .ensures) ∙ c .before .before .before .if1 .left) in
     omega (arith, claim .whole, claim .two)
 
-add-prove : tie.Need-add-prove
-add-prove c = search needs
+claim-of-requires : tie.Need-claim-of-requires
+claim-of-requires c κs = search needs
 
-add-prove-2 : tie.Need-add-prove-2
-add-prove-2 c = search needs
+add-behind-claim : tie.Need-add-behind-claim
+add-behind-claim c = search needs
 
-prove-requires : tie.Need-prove-requires
-prove-requires c κs =
-    let loaded = c .before .before .before .before in
-    let tested = loaded .before .before in
-    let s = tested .before .before .before .before in
-    let claimed = sym (tested .before .claim-fault .ensures) ∙ tested .if1 .left in (
-      (
-        posed (now (s .args .ticket)) (s .args .s) (s .args .at) (s .pre .0 .0) (s .pre .0 .2) (s .pre .0 .3) claimed,
-        loaded .load .ensures .1,
-        loaded .load .ensures .0,
-      ),
-      omega arith,
-    )
+add-behind-claim-2 : tie.Need-add-behind-claim-2
+add-behind-claim-2 c = search needs
 
-same-length : tie.Need-same-length
-same-length c = search needs
-
-returns-2 : tie.Need-returns-2
-returns-2 c =
-    let if1 = c .before .before .before .before .before .before .before .before .if1 in
-    let claim-fault = c .before .before .before .before .before .before .before .before .before .claim-fault in
-    let s = c .before .before .before .before .before .before .before .before .before .before .before .before .args in
-    decided-by (claims-none (now (s .ticket)) (s .s) (s .at) (s .r) (sym (claim-fault .ensures) ∙ if1 .left)
-    (sym (c .before .before .before .before .u16-at .ensures .0) ∙ c .before .before .before .if2 .taken))
-    (c .before .prove .ensures (now (s .answer)))
-
-add-give-answer : tie.Need-add-give-answer
-add-give-answer c = search needs
-
-add-give-answer-2 : tie.Need-add-give-answer-2
-add-give-answer-2 c = search needs
-
-give-answer-requires : tie.Need-give-answer-requires
-give-answer-requires c κs =
+behind-claim-requires : tie.Need-behind-claim-requires
+behind-claim-requires c κs =
     let loaded = c .before .before .before .before .before in
     let tested = loaded .before .before in
     let s = tested .before .before .before .before in
@@ -93,21 +65,20 @@ give-answer-requires c κs =
       s .pre .1 .1,
     )
 
+same-length : tie.Need-same-length
+same-length c = search needs
+
 same-length-2 : tie.Need-same-length-2
 same-length-2 c = search needs
 
-same-length-3 : tie.Need-same-length-3
-same-length-3 c = search needs
-
-returns-3 : tie.Need-returns-3
-returns-3 c =
-    let if2 = c .before .before .before .before .before .before .if2 in
-    let u16-at = c .before .before .before .before .before .before .before .u16-at in
-    let if1 = c .before .before .before .before .before .before .before .before .before .before .before .if1 in
-    let claim-fault = c .before .before .before .before .before .before .before .before .before .before .before .before .claim-fault in
-    let s = c .before .before .before .before .before .before .before .before .before .before .before .before .before .before .before .args in
-    decided-by (claims-strings (now (s .ticket)) (s .s) (s .at) (s .r) (sym (claim-fault .ensures) ∙ if1 .left) (λ e. if2 .left (u16-at .ensures .0 ∙ e)))
-    (c .before .before .before .give-answer .ensures)
+returns-2 : tie.Need-returns-2
+returns-2 c =
+    let claim-of = c .before .before .before .before .before .before in
+    let tested = claim-of .before .before .before .before .before in
+    let s = tested .before .before .before .before .args in
+    decided-by (claims-so (now (s .ticket)) (s .s) (s .at) (s .r) (sym (tested .before .claim-fault .ensures) ∙ tested .if1 .left) (claim-of .claim-of .result)
+    (claim-of .claim-of .ensures ∙ ap claimOf (claim-of .before .u16-at .ensures .0)))
+    (c .before .before .before .behind-claim .ensures)
 
 pub behind-question-spec : {M : Type 1} → statement M
 behind-question-spec =
@@ -118,14 +89,10 @@ behind-question-spec =
     load-requires
     add-u16-at
     u16-at-requires
-    add-prove
-    add-prove-2
-    prove-requires
+    claim-of-requires
+    add-behind-claim
+    add-behind-claim-2
+    behind-claim-requires
     same-length
-    returns-2
-    add-give-answer
-    add-give-answer-2
-    give-answer-requires
     same-length-2
-    same-length-3
-    returns-3)
+    returns-2)

@@ -4,7 +4,7 @@ use mathlib.Core.Path.{_∙_, ap}
 use Rattle.format.specs.StepForms.{ruleOf}
 use Rattle.branch.specs.Stack.{begunOf}
 use Rattle.derivation.proofs.Holding.{few-splits}
-use Rattle.derivation.proofs.Closing.{record-stands, rule-stands, cut-depth, puts-next, next-begins}
+use Rattle.derivation.proofs.Closing.{record-stands, rule-stands, cut-depth, puts-next, next-begins, keeps-below}
 use Rattle.derivation.proofs.next_child.Statement.{statement}
 use Rattle.derivation.proofs.next_child.Tie as tie
 
@@ -74,9 +74,15 @@ returns c =
     let split = c .before .before .before .before .before .before .before .before .before .before .before .before .latest in
     let size = c .before .before .before .before .before .before .before .before .before .before .u32-at in
     let f = c .before .before .before .before .put-child in
-    next-begins (s .pre .0) (s .pre .1) (split .result) (split .ensures) (f .last .1 .1 .1 .1 .1 .0) (c .extend .result) (size .result) (f .result)
+    let w = f .last .1 .1 .1 .1 .1 .0 in
+    let begun =
+    next-begins (s .pre .0) (s .pre .1) (split .result) (split .ensures) w (c .extend .result) (size .result) (f .result)
     (size .ensures .0) (c .extend .ensures .0) (f .ensures .0) (f .ensures .1)
-    (c .extend .ensures .1 ∙ c .before .take-next-child .ensures .1 ∙ ap begunOf (c .before .before .cut-back .ensures .1))
+    (c .extend .ensures .1 ∙ c .before .take-next-child .ensures .1 ∙ ap begunOf (c .before .before .cut-back .ensures .1)) in
+    let below =
+    keeps-below (s .pre .0) (s .pre .1) (split .result) (split .ensures) w (c .extend .result) (size .result) (f .result) (c .extend .ensures .0)
+    (f .ensures .0) in
+    (begun .0, (begun .1, below))
 
 pub next-child-spec : {M : Type 1} → statement M
 next-child-spec =

@@ -2,61 +2,53 @@
 use borrow.Author.Needs.{needs}
 use denote.Ref.{now}
 use mathlib.Core.Path.{sym, _∙_}
-use Rattle.rows.specs.Rows.{branchOf}
-use Rattle.question.specs.Posed.{asked}
-use Rattle.steps.proofs.Bodies.{its-kind}
-use Rattle.derivation.specs.Actions.{Acts}
-use Rattle.derivation.proofs.Taking.{numbered, one-tried, one-child, first-begins}
+use Rattle.derivation.proofs.Taking.{refuses, one-number, one-acts}
 use Rattle.derivation.proofs.take_conclusion.Statement.{statement}
 use Rattle.derivation.proofs.take_conclusion.Tie as tie
 
-add-conclude : tie.Need-add-conclude
-add-conclude c = search needs
+add-body : tie.Need-add-body
+add-body c = search needs
 
 conclude-requires : tie.Need-conclude-requires
-conclude-requires c κs = c .before .before .pre .0
+conclude-requires c κs = let s = c .before .before in (s .pre .0 .0, s .pre .1)
 
 same-length : tie.Need-same-length
 same-length c = search needs
 
 returns : tie.Need-returns
-unfolding Acts
 returns c =
     let s = c .before .before .before .before .before in
     let a = s .args in
     let b = now (a .ticket) in
-    let u = asked b (a .s) in
-    let br = branchOf (now (a .work)) (a .count) in
-    let f = c .before .before .conclude in (
-      λ pending. numbered b u br (a .«record») (a .size) (s .pre .1) pending (f .result)
-          (one-tried b u br (a .«record») (a .size) (s .pre .1) (s .pre .0 .ready .formed .fits) (its-kind (s .pre .0)) (f .result) (f .ensures .0) pending),
-      λ pending. c .if1 .taken,
+    let w = now (a .work) in
+    let f = c .before .before .conclude in
+    λ claim pending fits. (
+      one-number b (a .s) (a .«record») (a .size) (s .pre .0 .1) w (a .count) (a .rule) (s .pre .0 .0) (f .result) (f .ensures .0) claim pending fits,
+      refuses b (a .s) (a .«record») (a .size) (s .pre .0 .1) w (a .count) claim pending (f .result) (f .last .1 .1 .1 .1 .1 .0) (c .if1 .taken),
     )
 
-add-t9 : tie.Need-add-t9
-add-t9 c = search needs
+add-t14 : tie.Need-add-t14
+add-t14 c = search needs
 
 same-length-2 : tie.Need-same-length-2
 same-length-2 c = search needs
 
 returns-2 : tie.Need-returns-2
-unfolding Acts
 returns-2 c =
     let s = c .before .before .before .before .before in
     let a = s .args in
     let b = now (a .ticket) in
-    let u = asked b (a .s) in
-    let br = branchOf (now (a .work)) (a .count) in
+    let w = now (a .work) in
     let f = c .before .before .conclude in
     let zero = c .if1 .left in
-    let tried = one-tried b u br (a .«record») (a .size) (s .pre .1) (s .pre .0 .ready .formed .fits) (its-kind (s .pre .0)) 0 (sym zero ∙ f .ensures .0) in (
-      λ pending. numbered b u br (a .«record») (a .size) (s .pre .1) pending 0 (tried pending),
-      λ pending. first-begins b u br (a .«record») (a .size) (s .pre .1) 1
-          (one-child b u br (a .«record») (a .size) pending (s .pre .1) (s .pre .0 .ready .formed) (sym (tried pending)) (its-kind (s .pre .0)))
-          (f .last .1 .1 .1 .1 .1 .0) _ (f .ensures .1 .0 zero) (f .ensures .1 .1 zero),
+    let tried = sym zero ∙ f .ensures .0 in
+    λ claim pending fits. (
+      one-number b (a .s) (a .«record») (a .size) (s .pre .0 .1) w (a .count) (a .rule) (s .pre .0 .0) 0 tried claim pending fits,
+      one-acts b (a .s) (a .«record») (a .size) (s .pre .0 .1) w (a .count) (a .rule) (s .pre .0 .0) (f .last .1 .1 .1 .1 .1 .0) _ tried
+          (f .ensures .1 .0 zero) (f .ensures .1 .1 zero) claim pending fits,
     )
 
 pub take-conclusion-spec : {M : Type 1} → statement M
 take-conclusion-spec =
     tie.close
-    (tie.spec add-conclude conclude-requires same-length returns add-t9 same-length-2 returns-2)
+    (tie.spec add-body conclude-requires same-length returns add-t14 same-length-2 returns-2)

@@ -1,20 +1,20 @@
--- `steps::step_fault_two` meets its contract.
+-- `steps::step_fault` meets its contract.
 use Prim.Native.Nat.{ℕ}
 use borrow.Author.Needs.{needs}
 use denote.Ref.{now}
 use mathlib.Core.Bool.{true}
-use mathlib.Core.Path.{_∙_, _≡_, ap, sym}
+use mathlib.Core.Path.{_∙_, _≡_, ap, ap₂, sym}
 use native.Mathlib.Omega.{arith}
 use Rattle.format.specs.StepForms as format
-use Rattle.format.specs.StepForms.{ruleOf, formFor, rule, childField, lengthFits, stepOf, stepAt, isChild, childInRange}
+use Rattle.format.specs.StepForms.{ruleOf, formFor, rule, lengthFits, stepOf}
 use Rattle.format.proofs.Decoded.{at-least}
-use Rattle.calculus.specs.Steps.{shape}
 use Rattle.question.specs.Posed.{asked}
-use Rattle.steps.specs.Rules.{ruleNamed, shapeOf}
+use Rattle.steps.specs.Rules.{ruleNamed}
+use Rattle.steps.specs.Faults.{childFieldFits, fieldFits}
 use Rattle.steps.proofs.Table.{least-four, fits-by}
 use Rattle.steps.proofs.Faults.{out-of-form, formed, by-child}
-use Rattle.steps.proofs.step_fault_two.Statement.{statement}
-use Rattle.steps.proofs.step_fault_two.Tie as tie
+use Rattle.steps.proofs.step_fault.Statement.{statement}
+use Rattle.steps.proofs.step_fault.Tie as tie
 
 -- 5 and 6 do not apply to the operands
 fits : (c : tie.Else1)
@@ -30,15 +30,15 @@ its-rule : (c : tie.After-rule-of) →
     ruleNamed (c .rule-of .result) ≡ rule (now (args .b)) (args .body)
 its-rule c = c .rule-of .ensures ∙ ap ruleOf (c .before .u16-at .ensures .0)
 
--- the child is one of the step's, or not
-said : (c : tie.After-child-in-range) → let a = c .before .before .before .before .before .before .before .args in
-    c .child-in-range .result ≡ childInRange (a .s .n) (stepAt (now (a .b)) (a .body) (a .size)) (childField (now (a .b)) (a .body))
+-- the child field fits the claim, or not
+said : (c : tie.After-child-field-fits) → let a = c .before .before .before .before .before .before .before .args in
+    c .child-field-fits .result ≡ fieldFits (a .claim) (now (a .b)) (a .s .n) (a .body) (a .size)
 said c =
     let a = c .before .before .before .before .before .before .before .args in
     let b = now (a .b) in
-    c .child-in-range .ensures b (a .body)
-    ∙ ap (λ (k : ℕ). isChild (shapeOf (c .before .before .rule-of .result) (a .s .n) b (a .body) (a .size)) k) (c .before .u16-at2 .ensures .0)
-    ∙ ap (λ (r : format.Rule). isChild (shape (a .s .n) (stepOf b r (a .body) (a .size))) (childField b (a .body))) (its-rule (c .before .before))
+    c .child-field-fits .ensures b (a .body)
+    ∙ ap₂ (λ (r : format.Rule) (k : ℕ). childFieldFits (a .claim) (a .s .n) (stepOf b r (a .body) (a .size)) k) (its-rule (c .before .before))
+    (c .before .u16-at2 .ensures .0)
 
 operands-fault-requires : tie.Need-operands-fault-requires
 operands-fault-requires c κs = search needs
@@ -67,8 +67,8 @@ u16-at-requires-2 c κs =
     let r = rule (now (s .args .b)) (s .args .body) in
     omega (arith, at-least (formFor r) (s .args .size) (fits (c .before .before)), least-four r, s .pre .0)
 
-child-in-range-requires : tie.Need-child-in-range-requires
-child-in-range-requires c κs =
+child-field-fits-requires : tie.Need-child-field-fits-requires
+child-field-fits-requires c κs =
     let s = c .before .before .before .before .before .before in
     fits-by (now (s .args .b)) (s .args .body) (s .args .size) _ (its-rule (c .before)) (fits (c .before .before .before))
 
@@ -88,8 +88,8 @@ returns-3 c =
     by-child (now (s .args .b)) (asked (now (s .args .b)) (s .args .s)) _ (s .args .body) (s .args .size) _ (sym (if1 .left) ∙ operands-fault .ensures)
     (sym (said (c .before)) ∙ c .if2 .left)
 
-pub step-fault-two-spec : {M : Type 1} → statement M
-step-fault-two-spec =
+pub step-fault-spec : {M : Type 1} → statement M
+step-fault-spec =
     tie.close
     (tie.spec
     operands-fault-requires
@@ -98,6 +98,6 @@ step-fault-two-spec =
     rule-of-requires
     add-u16-at
     u16-at-requires-2
-    child-in-range-requires
+    child-field-fits-requires
     returns-2
     returns-3)
