@@ -7,7 +7,7 @@ ghost use Prim.Native.Nat.{_+_, _*_, _≤_, _<_};
 ghost use lib.ListN.{length, getD, take, drop};
 ghost use lib.IntN.{pos, negsuc};
 ghost use Rattle.calculus.specs.Limits.{variableLimit, columnLimit, numberLimit, valueLimit, factLimit, workNumbers};
-ghost use Rattle.calculus.specs.LinearForms.{zeros, column, scale, minus, above, below, allZero, eqIntegers, valueIn};
+ghost use Rattle.calculus.specs.LinearForms.{zeros, scale, above, below, allZero, eqIntegers, valueIn};
 ghost use Rattle.calculus.specs.Facts.{holds, arithmetic, ge, eq};
 ghost use Rattle.calculus.specs.Rules.{isFalse, joinOf, lowestDifference, statesEqual};
 ghost use Rattle.format.specs.Fields.{within, allWithin};
@@ -198,32 +198,6 @@ pub fn fill_difference(row: &mut [i64], relation: usize, i: usize, j: usize)
     row[TAG] = relation as i64;
     row[i + COEFFICIENTS] = 1;
     row[j + COEFFICIENTS] = -1;
-}
-
-// −e behind the tag of ≥, in place of e.
-fn negate(row: &mut [i64])
-    requires { ⌜ length (now row) ≡ rowLength ⌝ }
-    requires { ⌜ allWithin numberLimit (drop 1 (now row)) ≡ true ⌝ }
-    ensures { λ _. ⌜ now (row .exit) ≡ pos 0 ∷ scale (negsuc 0) (drop 1 (now (row .entry))) ⌝ }
-{
-    row[TAG] = TAG_GE as i64;
-    let mut j = CONSTANT;
-    while j < ROW_LENGTH {
-        let x = row[j];
-        row[j] = 0 - x;
-        j += 1;
-    }
-}
-
-// −e − 1 ≥ 0, in place of the row of e.
-pub fn turn_below(row: &mut [i64])
-    requires { ⌜ length (now row) ≡ rowLength ⌝ }
-    requires { ⌜ allWithin numberLimit (drop 1 (now row)) ≡ true ⌝ }
-    ensures { λ _. ⌜ factOf (now (row .exit)) ≡ arithmetic ge (below (drop 1 (now (row .entry)))) ⌝ }
-{
-    let c = row[CONSTANT];
-    negate(row);
-    row[CONSTANT] = -1 - c;
 }
 
 // e = 0, of the row of e.

@@ -170,11 +170,11 @@ fn fill_branch(row: &mut [i64], b: &[u8], at: usize, pairs: usize, k: usize)
     requires { ⌜ formRange (now b) columnLimit at pairs ≡ true ⌝ }
     ensures { λ _. ⌜ factOf (now (row .exit)) ∷ [] ≡ orNone (childAt (branchChildren (formOf (now (b .entry)) at pairs)) k) ⌝ }
 {
-    constraints::fill_form(row, b, GE, at, pairs);
     if k == 1 {
+        constraints::fill_form(row, b, GE, at, pairs);
         return;
     }
-    rows::turn_below(row);
+    constraints::fill_below(row, b, at, pairs);
 }
 
 fn put_branch(work: &mut [i64], count: usize, b: &[u8], at: usize, pairs: usize, k: usize)
