@@ -1,7 +1,7 @@
 // The rows of facts that are written in the ticket: constraints of the question, and the form of a Branch.
 ghost use mathlib.Core.Path.{_≡_};
 ghost use mathlib.Core.Bool.{true};
-ghost use mathlib.Core.List.{[], _∷_, _++_};
+ghost use mathlib.Core.List.{_∷_};
 ghost use Prim.Native.Nat.{_+_, _*_, _≤_, _<_};
 ghost use lib.ListN.{length};
 ghost use lib.IntN.{pos, natAbs};
@@ -10,7 +10,7 @@ ghost use Rattle.calculus.specs.LinearForms.{zeros, scale, below};
 ghost use Rattle.calculus.specs.Facts.{arithmetic, ge};
 ghost use Rattle.format.specs.Fields.{pairsAt};
 ghost use Rattle.format.specs.Question.{rising, relationOf, fillCoefficients, formOf, constraintFault, constraintOf};
-ghost use Rattle.rows.specs.Rows.{rowLength, factOf, branchOf};
+ghost use Rattle.rows.specs.Rows.{rowLength, factOf, branchOf, Behind};
 ghost use Rattle.rows.specs.Work.{Fine};
 ghost use Rattle.question.specs.Posed.{asked, Posed};
 use encoding::KIND_ARITHMETIC;
@@ -78,7 +78,7 @@ fn put_form(work: &mut [i64], k: usize, b: &[u8], relation: usize, at: usize, pa
     requires { ⌜ (k < factLimit) × (workNumbers ≤ length (now work)) ⌝ }
     requires { ⌜ (relation ≤ 2) × (at + 4 + 6 * pairs ≤ length (now b)) ⌝ }
     requires { ⌜ rising columnLimit 0 (pairsAt (now b) (at + 4) pairs) ≡ true ⌝ }
-    ensures { λ _. ⌜ branchOf (now (work .exit)) (k + 1) ≡ branchOf (now (work .entry)) k ++ (arithmetic (relationOf relation) (formOf (now (b .entry)) at pairs) ∷ []) ⌝ }
+    ensures { λ _. ⌜ Behind (now (work .entry)) k (arithmetic (relationOf relation) (formOf (now (b .entry)) at pairs)) (now (work .exit)) ⌝ }
 {
     let from = ROW_LENGTH * k;
     let to = from + ROW_LENGTH;
@@ -89,7 +89,7 @@ fn put_form(work: &mut [i64], k: usize, b: &[u8], relation: usize, at: usize, pa
 fn put_constraint(work: &mut [i64], k: usize, b: &[u8], kind: usize, at: usize, size: usize)
     requires { ⌜ (k < factLimit) × (workNumbers ≤ length (now work)) ⌝ }
     requires { ⌜ (at + size ≤ length (now b)) × (constraintFault (now b) variableLimit literalLimit columnLimit kind at size ≡ 0) ⌝ }
-    ensures { λ _. ⌜ branchOf (now (work .exit)) (k + 1) ≡ branchOf (now (work .entry)) k ++ (constraintOf (now (b .entry)) kind at size ∷ []) ⌝ }
+    ensures { λ _. ⌜ Behind (now (work .entry)) k (constraintOf (now (b .entry)) kind at size) (now (work .exit)) ⌝ }
 {
     let relation = records::u16_at(b, at);
     match kind {
