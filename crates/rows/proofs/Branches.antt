@@ -19,6 +19,18 @@ use Rattle.rows.specs.Rows.{rowLength, factOf, rowAt, branchOf}
 pub length-row : (w : List ℤ) (k : ℕ) → rowLength * k + rowLength ≤ length w → length (rowAt w k) ≡ rowLength
 length-row w k h = simp (length-take, length-drop) (omega arith)
 
+pub row-number : (w : List ℤ) (k j : ℕ) → j < rowLength → getD (rowAt w k) j (pos 0) ≡ getD w (rowLength * k + j) (pos 0)
+row-number w k j h = getD-take rowLength (drop (rowLength * k) w) j (pos 0) h ∙ getD-drop (rowLength * k) w j (pos 0)
+
+-- where the numbers before row k are the same, so is a row before it
+pub row-before : (w v : List ℤ) (k j : ℕ) → j < k → take (rowLength * k) w ≡ take (rowLength * k) v → rowAt w j ≡ rowAt v j
+row-before w v k j h e = front w ∙ ap (λ (l : List ℤ). drop (rowLength * j) (take (rowLength * j + rowLength) l)) e ∙ sym (front v)
+  where
+    front : (l : List ℤ) → rowAt l j ≡ drop (rowLength * j) (take (rowLength * j + rowLength) (take (rowLength * k) l))
+    front l =
+        sym (drop-take (rowLength * j) rowLength l)
+        ∙ ap (λ (m : List ℤ). drop (rowLength * j) m) (sym (take-take (rowLength * j + rowLength) (rowLength * k) l (omega arith)))
+
 -- ---- the first k rows, as facts
 
 pub length-branch : (w : List ℤ) (k : ℕ) → length (branchOf w k) ≡ k
@@ -34,15 +46,11 @@ pub branch-same : (w v : List ℤ) (k : ℕ) → take (rowLength * k) w ≡ take
 unfolding branchOf
 branch-same w v zero e = refl
 branch-same w v (suc k) e =
-    let n : rowLength * suc k ≡ rowLength * k + rowLength = omega arith in
-    let f : take (rowLength * k + rowLength) w ≡ take (rowLength * k + rowLength) v = rw n at e in
     let before : take (rowLength * k) w ≡ take (rowLength * k) v =
-    sym (take-take (rowLength * k) (rowLength * k + rowLength) w (omega arith))
-    ∙ ap (λ (l : List ℤ). take (rowLength * k) l) f
-    ∙ take-take (rowLength * k) (rowLength * k + rowLength) v (omega arith) in
-    let row : rowAt w k ≡ rowAt v k =
-    sym (drop-take (rowLength * k) rowLength w) ∙ ap (λ (l : List ℤ). drop (rowLength * k) l) f ∙ drop-take (rowLength * k) rowLength v in
-    ap₂ (λ (b : List Fact) (r : List ℤ). b ++ (factOf r ∷ [])) (branch-same w v k before) row
+    sym (take-take (rowLength * k) (rowLength * suc k) w (omega arith))
+    ∙ ap (λ (l : List ℤ). take (rowLength * k) l) e
+    ∙ take-take (rowLength * k) (rowLength * suc k) v (omega arith) in
+    ap₂ (λ (b : List Fact) (r : List ℤ). b ++ (factOf r ∷ [])) (branch-same w v k before) (row-before w v (suc k) k (omega arith) e)
 
 -- fact number j
 pub branch-at : (w : List ℤ) (k j : ℕ) → j < k → getElem? (branchOf w k) j ≡ some (factOf (rowAt w j))
@@ -90,9 +98,11 @@ branch-filled w row k f h n e =
 -- ---- a row is filled number by number
 
 -- a number is stored in row k
-pub row-set : (w : List ℤ) (k j : ℕ) (x : ℤ) → j < rowLength → rowAt (set w (rowLength * k + j) x) k ≡ set (rowAt w k) j x
-row-set w k j x h =
-    ap (λ (l : List ℤ). take rowLength l) (drop-set-add (rowLength * k) w j x) ∙ take-set-lt rowLength (drop (rowLength * k) w) j x h
+pub row-set : (w row : List ℤ) (k j : ℕ) (x : ℤ) → j < rowLength → rowAt w k ≡ row → rowAt (set w (rowLength * k + j) x) k ≡ set row j x
+row-set w row k j x h e =
+    ap (λ (l : List ℤ). take rowLength l) (drop-set-add (rowLength * k) w j x)
+    ∙ take-set-lt rowLength (drop (rowLength * k) w) j x h
+    ∙ ap (λ (l : List ℤ). set l j x) e
 
 -- the rows before it are as they were
 pub before-set : (w v : List ℤ) (k j : ℕ) (x : ℤ) → take (rowLength * k) v ≡ take (rowLength * k) w
@@ -102,8 +112,4 @@ before-set w v k j x e = take-set-le (rowLength * k) v (rowLength * k + j) x (om
 -- a number of a row before it
 pub before-at : (w v : List ℤ) (k i j : ℕ) → i < k → j < rowLength → take (rowLength * k) v ≡ take (rowLength * k) w
     → getD v (rowLength * i + j) (pos 0) ≡ getD (rowAt w i) j (pos 0)
-before-at w v k i j h l e =
-    sym (getD-take (rowLength * k) v (rowLength * i + j) (pos 0) (omega arith))
-    ∙ ap (λ (m : List ℤ). getD m (rowLength * i + j) (pos 0)) e
-    ∙ getD-take (rowLength * k) w (rowLength * i + j) (pos 0) (omega arith)
-    ∙ sym (getD-take rowLength (drop (rowLength * i) w) j (pos 0) l ∙ getD-drop (rowLength * i) w j (pos 0))
+before-at w v k i j h l e = sym (row-number v i j l) ∙ ap (λ (r : List ℤ). getD r j (pos 0)) (row-before v w k i h e)

@@ -1,7 +1,7 @@
 -- Numbers within the limit: what the tests say of them, and what the machine asks.
-use Prim.Native.Nat.{ℕ, zero, suc, _+_, _≤_, _<_}
+use Prim.Native.Nat.{ℕ, zero, suc, _+_, _*_, _≤_, _<_}
 use native.Mathlib.Omega.{arith}
-use mathlib.Core.Path.{_≡_, refl, sym, _∙_, ap, ap₂}
+use mathlib.Core.Path.{_≡_, refl, sym, _∙_, ap, ap₂, subst}
 use mathlib.Core.Bool.{true, _&&_}
 use mathlib.Core.List.{List, [], _∷_, _++_}
 use lib.ListN.{length, getD, drop}
@@ -19,9 +19,9 @@ use Rattle.calculus.specs.Facts.{Fact}
 use Rattle.format.specs.Fields.{allWithin}
 use Rattle.format.specs.Checking.{factWithin, factsWithin}
 use Rattle.format.proofs.Limits.{within→}
-use Rattle.rows.specs.Rows.{factOf, rowAt, branchOf}
+use Rattle.rows.specs.Rows.{rowLength, factOf, rowAt, branchOf}
 use Rattle.rows.specs.Work.{Within, Fine}
-use Rattle.rows.proofs.Branches.{branch-at}
+use Rattle.rows.proofs.Branches.{row-number, branch-at}
 
 -- small numbers, place by place
 pub all-small : (n : ℕ) (zs : List ℤ) → All (Small n) zs → Within n zs
@@ -97,3 +97,8 @@ pub behind-tag : (row : List ℤ) (j : ℕ) → allWithin numberLimit (drop 1 ro
 behind-tag [] j e h = omega arith
 behind-tag (x ∷ row) zero e h = absurd (omega arith)
 behind-tag (x ∷ row) (suc j) e h = within-small numberLimit row e j
+
+-- the same, where it stands in the work area
+pub row-small : (w : List ℤ) (k j : ℕ) → allWithin numberLimit (drop 1 (rowAt w k)) ≡ true → 1 ≤ j → j < rowLength
+    → natAbs (getD w (rowLength * k + j) (pos 0)) ≤ numberLimit
+row-small w k j e h l = subst (λ z. natAbs z ≤ numberLimit) (row-number w k j l) (behind-tag (rowAt w k) j e h)

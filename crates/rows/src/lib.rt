@@ -7,7 +7,7 @@ ghost use Prim.Native.Nat.{_+_, _*_, _≤_, _<_};
 ghost use lib.ListN.{length, getD, take, drop};
 ghost use lib.IntN.{pos, negsuc};
 ghost use Rattle.calculus.specs.Limits.{variableLimit, columnLimit, numberLimit, valueLimit, factLimit, workNumbers};
-ghost use Rattle.calculus.specs.LinearForms.{zeros, column, scale, minus, above, below, allZero, eqIntegers, valueIn};
+ghost use Rattle.calculus.specs.LinearForms.{zeros, scale, above, below, allZero, eqIntegers, valueIn};
 ghost use Rattle.calculus.specs.Facts.{holds, arithmetic, ge, eq};
 ghost use Rattle.calculus.specs.Rules.{isFalse, joinOf, lowestDifference, statesEqual};
 ghost use Rattle.format.specs.Fields.{within, allWithin};
@@ -200,54 +200,6 @@ pub fn fill_difference(row: &mut [i64], relation: usize, i: usize, j: usize)
     row[j + COEFFICIENTS] = -1;
 }
 
-// e − 1 ≥ 0, of the row of e.
-pub fn fill_above(out: &mut [i64], row: &[i64])
-    requires { ⌜ (length (now out) ≡ rowLength) × (length (now row) ≡ rowLength) ⌝ }
-    requires { ⌜ allWithin numberLimit (drop 1 (now row)) ≡ true ⌝ }
-    ensures { λ _. ⌜ factOf (now (out .exit)) ≡ arithmetic ge (above (drop 1 (now (row .entry)))) ⌝ }
-{
-    fill_row(out, row);
-    let c = row[CONSTANT];
-    out[TAG] = TAG_GE as i64;
-    out[CONSTANT] = c - 1;
-}
-
-// −e behind the tag of ≥, in place of e.
-fn negate(row: &mut [i64])
-    requires { ⌜ length (now row) ≡ rowLength ⌝ }
-    requires { ⌜ allWithin numberLimit (drop 1 (now row)) ≡ true ⌝ }
-    ensures { λ _. ⌜ now (row .exit) ≡ pos 0 ∷ scale (negsuc 0) (drop 1 (now (row .entry))) ⌝ }
-{
-    row[TAG] = TAG_GE as i64;
-    let mut j = CONSTANT;
-    while j < ROW_LENGTH {
-        let x = row[j];
-        row[j] = 0 - x;
-        j += 1;
-    }
-}
-
-// −e − 1 ≥ 0, in place of the row of e.
-pub fn turn_below(row: &mut [i64])
-    requires { ⌜ length (now row) ≡ rowLength ⌝ }
-    requires { ⌜ allWithin numberLimit (drop 1 (now row)) ≡ true ⌝ }
-    ensures { λ _. ⌜ factOf (now (row .exit)) ≡ arithmetic ge (below (drop 1 (now (row .entry)))) ⌝ }
-{
-    let c = row[CONSTANT];
-    negate(row);
-    row[CONSTANT] = -1 - c;
-}
-
-// −e − 1 ≥ 0, of the row of e.
-pub fn fill_below(out: &mut [i64], row: &[i64])
-    requires { ⌜ (length (now out) ≡ rowLength) × (length (now row) ≡ rowLength) ⌝ }
-    requires { ⌜ allWithin numberLimit (drop 1 (now row)) ≡ true ⌝ }
-    ensures { λ _. ⌜ factOf (now (out .exit)) ≡ arithmetic ge (below (drop 1 (now (row .entry)))) ⌝ }
-{
-    fill_row(out, row);
-    turn_below(out);
-}
-
 // e = 0, of the row of e.
 pub fn fill_equation(out: &mut [i64], row: &[i64])
     requires { ⌜ (length (now out) ≡ rowLength) × (length (now row) ≡ rowLength) ⌝ }
@@ -324,6 +276,47 @@ pub fn put_equation(work: &mut [i64], k: usize, from: usize)
 {
     copy_row(work, k, from);
     work[ROW_LENGTH * k + TAG] = TAG_EQ as i64;
+}
+
+// Row k becomes −e behind the tag of ≥, of the earlier row of e.
+fn copy_negative(work: &mut [i64], k: usize, from: usize)
+    requires { ⌜ (from < k) × (k < factLimit) × (workNumbers ≤ length (now work)) ⌝ }
+    requires { ⌜ allWithin numberLimit (drop 1 (rowAt (now work) from)) ≡ true ⌝ }
+    ensures row { λ _. ⌜ rowAt (now (work .exit)) k ≡ pos 0 ∷ scale (negsuc 0) (drop 1 (rowAt (now (work .entry)) from)) ⌝ }
+    ensures before { λ _. ⌜ take (rowLength * k) (now (work .exit)) ≡ take (rowLength * k) (now (work .entry)) ⌝ }
+{
+    let source = ROW_LENGTH * from;
+    let target = ROW_LENGTH * k;
+    work[target + TAG] = TAG_GE as i64;
+    let mut j = CONSTANT;
+    while j < ROW_LENGTH {
+        let x = work[source + j];
+        work[target + j] = 0 - x;
+        j += 1;
+    }
+}
+
+// e − 1 ≥ 0, of the earlier row of e, behind the first k facts.
+pub fn put_above(work: &mut [i64], k: usize, from: usize)
+    requires { ⌜ (from < k) × (k < factLimit) × (workNumbers ≤ length (now work)) ⌝ }
+    requires { ⌜ allWithin numberLimit (drop 1 (rowAt (now work) from)) ≡ true ⌝ }
+    ensures { λ _. ⌜ Behind (now (work .entry)) k (arithmetic ge (above (drop 1 (rowAt (now (work .entry)) from)))) (now (work .exit)) ⌝ }
+{
+    let c = work[ROW_LENGTH * from + CONSTANT];
+    copy_row(work, k, from);
+    work[ROW_LENGTH * k + TAG] = TAG_GE as i64;
+    work[ROW_LENGTH * k + CONSTANT] = c - 1;
+}
+
+// −e − 1 ≥ 0, of the earlier row of e, behind the first k facts.
+pub fn put_below(work: &mut [i64], k: usize, from: usize)
+    requires { ⌜ (from < k) × (k < factLimit) × (workNumbers ≤ length (now work)) ⌝ }
+    requires { ⌜ allWithin numberLimit (drop 1 (rowAt (now work) from)) ≡ true ⌝ }
+    ensures { λ _. ⌜ Behind (now (work .entry)) k (arithmetic ge (below (drop 1 (rowAt (now (work .entry)) from)))) (now (work .exit)) ⌝ }
+{
+    let c = work[ROW_LENGTH * from + CONSTANT];
+    copy_negative(work, k, from);
+    work[ROW_LENGTH * k + CONSTANT] = -1 - c;
 }
 
 // ---- the limit

@@ -83,14 +83,6 @@ parted-fits w count k e = go (decLt k count) (ℕ-discrete (tagOf (factOf (rowAt
 pub ne-within : (row : List ℤ) → tagOf (factOf row) ≡ 2 → factWithin (factOf row) ≡ true → allWithin numberLimit (drop 1 row) ≡ true
 ne-within row e h = sym (ap factWithin (row-relation row 2 (sym e) (omega arith))) ∙ h
 
--- ---- Branch
-
-pub ge-form : (row e : List ℤ) → factOf row ≡ arithmetic ge e → drop 1 row ≡ e
-unfolding tagOf
-ge-form row e h =
-    let k : tagOf (factOf row) ≡ 0 = ap tagOf h in
-    let f : arithmetic ge (drop 1 row) ≡ arithmetic ge e = sym (row-relation row 0 (sym k) (omega arith)) ∙ h in cc
-
 -- ---- C-Valid
 
 -- one range of codes

@@ -170,11 +170,11 @@ fn fill_branch(row: &mut [i64], b: &[u8], at: usize, pairs: usize, k: usize)
     requires { ⌜ formRange (now b) columnLimit at pairs ≡ true ⌝ }
     ensures { λ _. ⌜ factOf (now (row .exit)) ∷ [] ≡ orNone (childAt (branchChildren (formOf (now (b .entry)) at pairs)) k) ⌝ }
 {
-    constraints::fill_form(row, b, GE, at, pairs);
     if k == 1 {
+        constraints::fill_form(row, b, GE, at, pairs);
         return;
     }
-    rows::turn_below(row);
+    constraints::fill_below(row, b, at, pairs);
 }
 
 fn put_branch(work: &mut [i64], count: usize, b: &[u8], at: usize, pairs: usize, k: usize)
@@ -187,29 +187,17 @@ fn put_branch(work: &mut [i64], count: usize, b: &[u8], at: usize, pairs: usize,
     fill_branch(&mut work[from..to], b, at, pairs, k);
 }
 
-// Apart: "Children e−1 ≥ 0; −e−1 ≥ 0", in a row.
-fn fill_apart(out: &mut [i64], work: &[i64], fact: usize, k: usize)
-    requires { ⌜ (length (now out) ≡ rowLength) × (fact < factLimit) × (workNumbers ≤ length (now work)) × (1 ≤ k) × (k ≤ 2) ⌝ }
-    requires { ⌜ (tagOf (factOf (rowAt (now work) fact)) ≡ 2) × (factWithin (factOf (rowAt (now work) fact)) ≡ true) ⌝ }
-    ensures { λ _. ⌜ factOf (now (out .exit)) ∷ [] ≡ orNone (childAt (apartAt (now (work .entry)) fact) k) ⌝ }
-{
-    let row = rows::row_at(work, fact);
-    if k == 1 {
-        rows::fill_above(out, row);
-        return;
-    }
-    rows::fill_below(out, row);
-}
-
-// The fact stands in the work area itself, so its child is built aside.
+// Apart: "Children e−1 ≥ 0; −e−1 ≥ 0", of a fact of the branch.
 fn put_apart(work: &mut [i64], count: usize, fact: usize, k: usize)
-    requires { ⌜ (count < factLimit) × (fact < factLimit) × (workNumbers ≤ length (now work)) × (1 ≤ k) × (k ≤ 2) ⌝ }
+    requires { ⌜ (fact < count) × (count < factLimit) × (workNumbers ≤ length (now work)) × (1 ≤ k) × (k ≤ 2) ⌝ }
     requires { ⌜ (tagOf (factOf (rowAt (now work) fact)) ≡ 2) × (factWithin (factOf (rowAt (now work) fact)) ≡ true) ⌝ }
     ensures { λ _. ⌜ branchOf (now (work .exit)) (count + 1) ≡ extended (now (work .entry)) count (apartAt (now (work .entry)) fact) k ⌝ }
 {
-    let mut row = [0i64; ROW_LENGTH];
-    fill_apart(&mut row, work, fact, k);
-    rows::put_row(work, count, &row);
+    if k == 1 {
+        rows::put_above(work, count, fact);
+        return;
+    }
+    rows::put_below(work, count, fact);
 }
 
 // L-Valid: "Children x ≈ literal 0; len(x) − 1 ≥ 0".

@@ -67,7 +67,7 @@ loop-again c =
       omega arith,
       simp length-set (l .inv .1),
       before-set first (l .work) (a .k) (l .j) _ (l .inv .2),
-      ap (λ (r : List ℤ). take (l .j + 1) r) (row-set (l .work) (a .k) (l .j) _ (omega arith))
+      ap (λ (r : List ℤ). take (l .j + 1) r) (row-set (l .work) _ (a .k) (l .j) _ (omega arith) refl)
           ∙ filled-more (rowAt (l .work) (a .k)) (rowAt first (a .from)) (l .j) _ (pos 0) (omega arith) (omega arith) (l .inv .3)
           (toZ-ofZ f ∙ before-at first (l .work) (a .k) (a .from) (l .j) (omega arith) (omega arith) (l .inv .2)),
     )

@@ -1,9 +1,7 @@
 -- `rows::put_equation` meets its contract.
 use borrow.Author.Needs.{needs}
 use denote.Ref.{now}
-use lib.IntN.{pos, ℤ}
-use lib.ListN.{set}
-use mathlib.Core.List.{List}
+use lib.IntN.{pos}
 use mathlib.Core.Path.{_∙_, ap}
 use native.Mathlib.Omega.{arith}
 use Rattle.rows.proofs.Branches.{before-set, branch-stated, length-row, row-set}
@@ -40,8 +38,7 @@ returns c =
     let copied = c .before .copy-row .last .0 in
     let e = c .before .copy-row .ensures in
     branch-stated first _ (a .k) _ (before-set first copied (a .k) 0 (pos 1) (e .1))
-    (ap factOf (row-set copied (a .k) 0 (pos 1) (omega arith))
-    ∙ ap (λ (r : List ℤ). factOf (set r 0 (pos 1))) (e .0)
+    (ap factOf (row-set copied _ (a .k) 0 (pos 1) (omega arith) (e .0))
     ∙ equation-fact (rowAt first (a .from)) (length-row first (a .from) (omega arith)))
 
 pub put-equation-spec : {M : Type 1} → statement M

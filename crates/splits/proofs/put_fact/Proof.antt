@@ -70,7 +70,7 @@ put-apart-requires c κs =
     let l : u16 b (s .args .body + 4) < s .args .count = a .0 in
     let few = h .fine .few in
     let n = number-of (given h) (s .args .k) (there s) _ (apart-child h (fit s) e) in (
-      (s .pre .1 .0 .1, omega arith, h .fine .room, n .0, n .1),
+      (omega arith, s .pre .1 .0 .1, h .fine .room, n .0, n .1),
       (
         ap (λ (n : ℕ). tagOf (factOf (rowAt (now (s .args .work)) n))) x ∙ a .1,
         fine-at (now (s .args .work)) (s .args .count) (c .u16-at .result) (h .fine) (omega arith),
