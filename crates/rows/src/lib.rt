@@ -177,7 +177,7 @@ fn fill_string(row: &mut [i64], relation: usize, a: usize, b: usize)
 }
 
 // A constant and one coefficient related to 0 by the relation's number.
-pub fn fill_single(row: &mut [i64], relation: usize, constant: i64, column: usize, coefficient: i64)
+fn fill_single(row: &mut [i64], relation: usize, constant: i64, column: usize, coefficient: i64)
     requires { ⌜ length (now row) ≡ rowLength ⌝ }
     requires { ⌜ (relation ≤ 2) × (column < columnLimit) ⌝ }
     ensures { λ _. ⌜ factOf (now (row .exit)) ≡ arithmetic (relationOf relation) (single constant column coefficient) ⌝ }
@@ -189,7 +189,7 @@ pub fn fill_single(row: &mut [i64], relation: usize, constant: i64, column: usiz
 }
 
 // The difference of two columns related to 0.
-pub fn fill_difference(row: &mut [i64], relation: usize, i: usize, j: usize)
+fn fill_difference(row: &mut [i64], relation: usize, i: usize, j: usize)
     requires { ⌜ length (now row) ≡ rowLength ⌝ }
     requires { ⌜ (relation ≤ 2) × (i < columnLimit) × (j < columnLimit) ⌝ }
     ensures { λ _. ⌜ factOf (now (row .exit)) ≡ arithmetic (relationOf relation) (difference i j) ⌝ }
@@ -198,15 +198,6 @@ pub fn fill_difference(row: &mut [i64], relation: usize, i: usize, j: usize)
     row[TAG] = relation as i64;
     row[i + COEFFICIENTS] = 1;
     row[j + COEFFICIENTS] = -1;
-}
-
-// e = 0, of the row of e.
-pub fn fill_equation(out: &mut [i64], row: &[i64])
-    requires { ⌜ (length (now out) ≡ rowLength) × (length (now row) ≡ rowLength) ⌝ }
-    ensures { λ _. ⌜ factOf (now (out .exit)) ≡ arithmetic eq (drop 1 (now (row .entry))) ⌝ }
-{
-    fill_row(out, row);
-    out[TAG] = TAG_EQ as i64;
 }
 
 // ---- new facts, each in its own stretch of the work area
