@@ -110,8 +110,9 @@ pub fn walk(
                 if d == 0 {
                     return Walked::Closed(i + RECORD_HEAD + size, k + 1);
                 }
-                known = set_back(known, first, b.latest().mark as usize);
-                b = next_child(ticket, s, work, b);
+                let split = b.latest();
+                known = set_back(known, first, split.mark as usize);
+                b = next_child(ticket, s, work, b, split);
             }
             Action::Extends(facts) => b = b.extend(facts),
             Action::Splits(facts, last) => b = b.mark(i, last).extend(facts),

@@ -124,14 +124,14 @@ module _ {b : List ℕ} {s : Progress} {w : List ℤ} {c : code.Branch} (h : InO
   pub keeps-below : (v : List ℤ) (r : code.Branch) (m k : ℕ)
       → r .count ≡ k
       → branchOf v k ≡ branchOf w (t .mark) ++ offeredChild b (asked b s) (branchOf w (t .mark)) (t .at + 6) m (t .child)
-      → KeepsBelow (latestOf (stack c) .mark) w v r
+      → KeepsBelow (t .mark) w v r
   keeps-below v r m k er e =
       let child = offeredChild b (asked b s) (branchOf w (t .mark)) (t .at + 6) m (t .child) in
       let long : t .mark ≤ k = omega (arith, sym (length-branch v k) ∙ ap length e ∙ length-append (branchOf w (t .mark)) child, length-branch w (t .mark)) in
-      subst (λ (n : ℕ). KeepsBelow n w v r) (ap (λ (x : Split). x .mark) top) (record {
+      record {
         below =
             sym (branch-take v k (t .mark) long)
             ∙ ap (take (t .mark)) e
             ∙ take-at (branchOf w (t .mark)) child (t .mark) (length-branch w (t .mark));
         behind = omega (arith, long, er);
-      })
+      }

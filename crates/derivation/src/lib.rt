@@ -13,6 +13,7 @@ ghost use Rattle.derivation.specs.State.{recordFault, CutsBack, KeepsBel
 ghost use Rattle.derivation.specs.Ok.{InOrder};
 ghost use Rattle.derivation.specs.Actions.{numberOf, ActsOn, ConcludesUnder, begunChild, begunAs, ReadyUnder};
 use branch::Branch;
+use branch::Split;
 use delimiters::Claim;
 use encoding::RECORD_HEAD;
 use limits::NODE_COUNT;
@@ -171,14 +172,13 @@ pub fn take_step(
 
 // ---- a closed branch
 
-// "a closed branch is cut back to the mark of its last pending split", and its next child begins.
-pub fn next_child(ticket: &[u8], s: Progress, work: &mut [i64], b: Branch) -> Branch
-    requires { ⌜ InOrder (now ticket) s (now work) b × (0 < b .depth) ⌝ }
+// "a closed branch is cut back to the mark of its last pending split", which is given, and its next child begins.
+pub fn next_child(ticket: &[u8], s: Progress, work: &mut [i64], b: Branch, split: Split) -> Branch
+    requires { ⌜ InOrder (now ticket) s (now work) b × (0 < b .depth) × (split ≡ latestOf (stack b)) ⌝ }
     ensures state { λ r. ⌜ CutsBack (now (ticket .entry)) s (now (work .entry)) b (now (work .exit)) r ⌝ }
     ensures holds { λ r. ⌜ InOrder (now (ticket .entry)) s (now (work .exit)) r ⌝ }
-    ensures below { λ r. ⌜ KeepsBelow (latestOf (stack b) .mark) (now (work .entry)) (now (work .exit)) r ⌝ }
+    ensures below { λ r. ⌜ KeepsBelow (split .mark) (now (work .entry)) (now (work .exit)) r ⌝ }
 {
-    let split = b.latest();
     let record = split.at as usize;
     let size = u32_at(ticket, record);
     let rule = steps::rule_of(u16_at(ticket, record + RECORD_HEAD));

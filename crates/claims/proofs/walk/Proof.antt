@@ -326,14 +326,14 @@ returns-4 c =
 enum-told : tie.Need-enum-told Inv-loop μ-loop
 enum-told c = search needs
 
-add-t37 : tie.Need-add-t37 Inv-loop μ-loop
-add-t37 c = let t = c .before .before .before .before in fits (stoodAt t .loop .i + 6) (omega (arith, ends-within t))
-
 add-t38 : tie.Need-add-t38 Inv-loop μ-loop
-add-t38 c = let t = c .before .before .before .before in fits (stoodAt t .loop .i + 6 + bodyOf t) (ends-within t)
+add-t38 c = let t = c .before .before .before .before in fits (stoodAt t .loop .i + 6) (omega (arith, ends-within t))
 
 add-t39 : tie.Need-add-t39 Inv-loop μ-loop
-add-t39 c =
+add-t39 c = let t = c .before .before .before .before in fits (stoodAt t .loop .i + 6 + bodyOf t) (ends-within t)
+
+add-t40 : tie.Need-add-t40 Inv-loop μ-loop
+add-t40 c =
     let t = c .before .before .before .before in
     fits (stoodAt t .loop .k + 1) (omega (arith, stoodAt t .loop .inv .low, ends-within t))
 
@@ -383,7 +383,7 @@ next-child-requires : tie.Need-next-child-requires Inv-loop μ-loop
 next-child-requires c κs =
     let else3 = c .before .before .before .before in
     let t = else3 .before .before .before .before in
-    (opened t (else3 .before .enum-told .given .1) .0, open-depth (stoodAt t .loop .b) (else3 .if3 .left))
+    (opened t (else3 .before .enum-told .given .1) .0, open-depth (stoodAt t .loop .b) (else3 .if3 .left), c .before .before .before .latest .ensures)
 
 -- ---- the branch goes on
 
@@ -432,15 +432,14 @@ loop-again c =
     let a = startOf l .args in
     let b = bytes l in
     let o = l .loop in
-    let mark = latestOf (stack (o .b)) .mark in
     ⊎-elim
     (λ w.
     let q = w .1 .given .1 in
     let back = w .5 .ensures (workOf t) (o .b .count) (opened t q .1) in
     let first = l .before .before .bring-up .result in
-    let known : Knows (workOf t) mark (w .5 .result) =
-    subst (λ (n : ℕ). Knows (workOf t) n first → Knows (workOf t) n (w .5 .result)) (ap (λ (x : Split). x .mark) (w .3 .ensures)) back
-    (first-there t q (open-depth (o .b) (w .2 .left))) in
+    let mark = w .3 .result .mark in
+    let known =
+    back (subst (λ (x : Split). Knows (workOf t) (x .mark) first) (sym (w .3 .ensures)) (first-there t q (open-depth (o .b) (w .2 .left)))) in
     going-same b (a .s) (w .9) (w .11) (w .10)
     (going-next b (a .s) (a .claim) (going t) (stepped t) q _ (w .7 .result) (w .5 .result) (w .7 .ensures .0) (w .7 .ensures .1 .0)
     (known-below b (a .s) (workOf t) _ mark (w .7 .result) (w .5 .result) (w .7 .ensures .1 .1) known) (w .7 .kept .1 .1 .0 ∙ same-work t)))
@@ -483,9 +482,9 @@ walk-spec =
     same-length-4
     returns-4
     enum-told
-    add-t37
     add-t38
     add-t39
+    add-t40
     same-length-5
     returns-5
     latest-requires
