@@ -204,9 +204,9 @@ pub fn labels(work: &[i64], count: usize) -> [u8; NODE_COUNT]
 // ---- classes
 
 // Are two nodes in one class?
-fn same_class(labels: [u8; NODE_COUNT], i: usize, j: usize) -> bool
-    requires { ⌜ (i < nodeCount) × (j < nodeCount) ⌝ }
-    ensures { λ r. ⌜ r ≡ sameClass labels i j ⌝ }
+fn same_class(labels: &[u8], i: usize, j: usize) -> bool
+    requires { ⌜ (length (now labels) ≡ nodeCount) × (i < nodeCount) × (j < nodeCount) ⌝ }
+    ensures { λ r. ⌜ r ≡ sameClass (now (labels .entry)) i j ⌝ }
 {
     let a = labels[i];
     let b = labels[j];
@@ -214,25 +214,25 @@ fn same_class(labels: [u8; NODE_COUNT], i: usize, j: usize) -> bool
 }
 
 // Are two variables in one class?
-pub fn one_class(labels: [u8; NODE_COUNT], x: usize, y: usize) -> bool
-    requires { ⌜ (x < variableLimit) × (y < variableLimit) ⌝ }
-    ensures { λ r. ⌜ r ≡ sameClass labels (varNode x) (varNode y) ⌝ }
+pub fn one_class(labels: &[u8], x: usize, y: usize) -> bool
+    requires { ⌜ (length (now labels) ≡ nodeCount) × (x < variableLimit) × (y < variableLimit) ⌝ }
+    ensures { λ r. ⌜ r ≡ sameClass (now (labels .entry)) (varNode x) (varNode y) ⌝ }
 {
     same_class(labels, variable_node(x), variable_node(y))
 }
 
 // Does the class of variable x hold literal l?
-pub fn class_holds(labels: [u8; NODE_COUNT], x: usize, l: usize) -> bool
-    requires { ⌜ (x < variableLimit) × (l < variableLimit) ⌝ }
-    ensures { λ r. ⌜ r ≡ sameClass labels (varNode x) (litNode l) ⌝ }
+pub fn class_holds(labels: &[u8], x: usize, l: usize) -> bool
+    requires { ⌜ (length (now labels) ≡ nodeCount) × (x < variableLimit) × (l < variableLimit) ⌝ }
+    ensures { λ r. ⌜ r ≡ sameClass (now (labels .entry)) (varNode x) (litNode l) ⌝ }
 {
     same_class(labels, variable_node(x), literal_node(l))
 }
 
 // The lowest of the first m literals in the class of variable x: "the lowest literal number counts".
-pub fn class_literal(labels: [u8; NODE_COUNT], m: usize, x: usize) -> Lowest
-    requires { ⌜ (m ≤ variableLimit) × (x < variableLimit) ⌝ }
-    ensures { λ r. ⌜ literalOf r ≡ lowestLiteral labels x 0 m ⌝ }
+pub fn class_literal(labels: &[u8], m: usize, x: usize) -> Lowest
+    requires { ⌜ (length (now labels) ≡ nodeCount) × (m ≤ variableLimit) × (x < variableLimit) ⌝ }
+    ensures { λ r. ⌜ literalOf r ≡ lowestLiteral (now (labels .entry)) x 0 m ⌝ }
 {
     let mut l = 0;
     let mut left = m;
@@ -247,9 +247,9 @@ pub fn class_literal(labels: [u8; NODE_COUNT], m: usize, x: usize) -> Lowest
 }
 
 // The lowest variable in the class of variable x.
-pub fn lowest_variable(labels: [u8; NODE_COUNT], x: usize) -> usize
-    requires { ⌜ x < variableLimit ⌝ }
-    ensures { λ r. ⌜ r ≡ lowestVariable labels x ⌝ }
+pub fn lowest_variable(labels: &[u8], x: usize) -> usize
+    requires { ⌜ (length (now labels) ≡ nodeCount) × (x < variableLimit) ⌝ }
+    ensures { λ r. ⌜ r ≡ lowestVariable (now (labels .entry)) x ⌝ }
 {
     let mut y = 0;
     let mut left = x;
@@ -264,9 +264,9 @@ pub fn lowest_variable(labels: [u8; NODE_COUNT], x: usize) -> usize
 }
 
 // Does literal i share a class with a lower one?
-fn literal_meets(labels: [u8; NODE_COUNT], i: usize) -> bool
-    requires { ⌜ i < variableLimit ⌝ }
-    ensures { λ r. ⌜ r ≡ literalMeets labels i ⌝ }
+fn literal_meets(labels: &[u8], i: usize) -> bool
+    requires { ⌜ (length (now labels) ≡ nodeCount) × (i < variableLimit) ⌝ }
+    ensures { λ r. ⌜ r ≡ literalMeets (now (labels .entry)) i ⌝ }
 {
     let mut j = 0;
     while j < i {
@@ -279,9 +279,9 @@ fn literal_meets(labels: [u8; NODE_COUNT], i: usize) -> bool
 }
 
 // "two different literals share a class", of the first m.
-fn literals_meet(labels: [u8; NODE_COUNT], m: usize) -> bool
-    requires { ⌜ m ≤ variableLimit ⌝ }
-    ensures { λ r. ⌜ r ≡ anyBelow m (literalMeets labels) ⌝ }
+fn literals_meet(labels: &[u8], m: usize) -> bool
+    requires { ⌜ (length (now labels) ≡ nodeCount) × (m ≤ variableLimit) ⌝ }
+    ensures { λ r. ⌜ r ≡ anyBelow m (literalMeets (now (labels .entry))) ⌝ }
 {
     let mut i = 0;
     while i < m {
@@ -294,9 +294,9 @@ fn literals_meet(labels: [u8; NODE_COUNT], m: usize) -> bool
 }
 
 // Is a row a fact a ≉ b with both sides in one class?
-fn row_sides_meet(row: &[i64], labels: [u8; NODE_COUNT]) -> bool
-    requires { ⌜ length (now row) ≡ rowLength ⌝ }
-    ensures { λ r. ⌜ r ≡ sidesMeet labels (factOf (now (row .entry)) ∷ []) ⌝ }
+fn row_sides_meet(row: &[i64], labels: &[u8]) -> bool
+    requires { ⌜ (length (now labels) ≡ nodeCount) × (length (now row) ≡ rowLength) ⌝ }
+    ensures { λ r. ⌜ r ≡ sidesMeet (now (labels .entry)) (factOf (now (row .entry)) ∷ []) ⌝ }
 {
     if tag_of(row) == TAG_NOT_SAME {
         let a = variable_at(row, FIRST);
@@ -307,9 +307,9 @@ fn row_sides_meet(row: &[i64], labels: [u8; NODE_COUNT]) -> bool
 }
 
 // "a ≉ fact has both sides in one", among the first `count` facts.
-fn sides_meet(work: &[i64], count: usize, labels: [u8; NODE_COUNT]) -> bool
-    requires { ⌜ (count ≤ factLimit) × (rowLength * count ≤ length (now work)) ⌝ }
-    ensures { λ r. ⌜ r ≡ sidesMeet labels (branchOf (now (work .entry)) count) ⌝ }
+fn sides_meet(work: &[i64], count: usize, labels: &[u8]) -> bool
+    requires { ⌜ (length (now labels) ≡ nodeCount) × (count ≤ factLimit) × (rowLength * count ≤ length (now work)) ⌝ }
+    ensures { λ r. ⌜ r ≡ sidesMeet (now (labels .entry)) (branchOf (now (work .entry)) count) ⌝ }
 {
     let mut found = false;
     let mut k = 0;
@@ -322,9 +322,9 @@ fn sides_meet(work: &[i64], count: usize, labels: [u8; NODE_COUNT]) -> bool
 }
 
 // Does S-Conf fit on a branch of `count` facts with these labels, where the question has m literals, the empty one included?
-pub fn conflict(work: &[i64], count: usize, labels: [u8; NODE_COUNT], m: usize) -> bool
-    requires { ⌜ (count ≤ factLimit) × (rowLength * count ≤ length (now work)) × (m ≤ variableLimit) ⌝ }
-    ensures { λ r. ⌜ r ≡ clash m labels (branchOf (now (work .entry)) count) ⌝ }
+pub fn conflict(work: &[i64], count: usize, labels: &[u8], m: usize) -> bool
+    requires { ⌜ (length (now labels) ≡ nodeCount) × (count ≤ factLimit) × (rowLength * count ≤ length (now work)) × (m ≤ variableLimit) ⌝ }
+    ensures { λ r. ⌜ r ≡ clash m (now (labels .entry)) (branchOf (now (work .entry)) count) ⌝ }
 {
     if literals_meet(labels, m) {
         return true;

@@ -1,5 +1,6 @@
 -- `classes::class_holds` meets its contract.
 use borrow.Author.Needs.{needs}
+use denote.Ref.{now}
 use mathlib.Core.Path.{_∙_, ap₂}
 use Rattle.calculus.specs.Classes.{sameClass}
 use Rattle.classes.proofs.class_holds.Statement.{statement}
@@ -17,7 +18,7 @@ same-class-requires c κs = search needs
 returns : tie.Need-returns
 returns c =
     c .same-class .ensures
-    ∙ ap₂ (sameClass (c .before .before .before .args .labels)) (c .before .before .variable-node .ensures) (c .before .literal-node .ensures)
+    ∙ ap₂ (sameClass (now (c .before .before .before .before .args .labels))) (c .before .before .variable-node .ensures) (c .before .literal-node .ensures)
 
 pub class-holds-spec : {M : Type 1} → statement M
 class-holds-spec = tie.close (tie.spec variable-node-requires literal-node-requires same-class-requires returns)

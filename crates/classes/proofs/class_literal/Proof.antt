@@ -1,6 +1,7 @@
 -- `classes::class_literal` meets its contract.
 use Prim.Native.Nat.{_+_}
 use borrow.Author.Needs.{needs}
+use denote.Ref.{now}
 use mathlib.Core.Path.{_∙_, _≡_, refl, sym}
 use native.Mathlib.Omega.{arith}
 use Rattle.calculus.specs.Classes.{lowestLiteral}
@@ -25,8 +26,8 @@ returns : tie.Need-returns Inv-loop μ-loop
 unfolding literalOf
 returns c =
     let l = c .before .before .before .loop in
-    let s = c .before .before .before .before .args in
-    sym (lowest-yes (s .labels) (s .x) (l .l) (l .left) (omega arith) (sym (c .before .class-holds .ensures) ∙ c .if1 .taken)) ∙ l .inv .1
+    let s = c .before .before .before .before .before .args in
+    sym (lowest-yes (now (s .labels)) (s .x) (l .l) (l .left) (omega arith) (sym (c .before .class-holds .ensures) ∙ c .if1 .taken)) ∙ l .inv .1
 
 add-l : tie.Need-add-l Inv-loop μ-loop
 add-l c = search needs
@@ -40,15 +41,15 @@ loop-less c = search needs
 loop-again : tie.Need-loop-again Inv-loop μ-loop
 loop-again c =
     let l = c .before .before .before .loop in
-    let s = c .before .before .before .before .args in
-    (omega arith, sym (lowest-no (s .labels) (s .x) (l .l) (l .left) (omega arith) (sym (c .before .class-holds .ensures) ∙ c .if1 .left)) ∙ l .inv .1)
+    let s = c .before .before .before .before .before .args in
+    (omega arith, sym (lowest-no (now (s .labels)) (s .x) (l .l) (l .left) (omega arith) (sym (c .before .class-holds .ensures) ∙ c .if1 .left)) ∙ l .inv .1)
 
 returns-2 : tie.Need-returns-2 Inv-loop μ-loop
 unfolding literalOf
 returns-2 c =
     let l = c .before .loop in
-    let s = c .before .before .args in
-    sym (lowest-done (s .labels) (s .x) (l .l) (l .left) (omega arith)) ∙ l .inv .1
+    let s = c .before .before .before .args in
+    sym (lowest-done (now (s .labels)) (s .x) (l .l) (l .left) (omega arith)) ∙ l .inv .1
 
 pub class-literal-spec : {M : Type 1} → statement M
 class-literal-spec =

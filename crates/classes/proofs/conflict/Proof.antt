@@ -13,17 +13,17 @@ literals-meet-requires c κs = search needs
 
 returns : tie.Need-returns
 returns c =
-    let s = c .before .before .args in
-    sym (ap (λ (t : Bool). t || sidesMeet (s .labels) (branchOf (now (s .work)) (s .count))) (sym (c .before .literals-meet .ensures) ∙ c .if1 .taken))
+    let s = c .before .before .before .args in
+    sym (ap (λ (t : Bool). t || sidesMeet (now (s .labels)) (branchOf (now (s .work)) (s .count))) (sym (c .before .literals-meet .ensures) ∙ c .if1 .taken))
 
 sides-meet-requires : tie.Need-sides-meet-requires
 sides-meet-requires c κs = search needs
 
 returns-2 : tie.Need-returns-2
 returns-2 c =
-    let s = c .before .before .before .args in
+    let s = c .before .before .before .before .args in
     c .sides-meet .ensures
-    ∙ sym (ap (λ (t : Bool). t || sidesMeet (s .labels) (branchOf (now (s .work)) (s .count)))
+    ∙ sym (ap (λ (t : Bool). t || sidesMeet (now (s .labels)) (branchOf (now (s .work)) (s .count)))
     (sym (c .before .before .literals-meet .ensures) ∙ c .before .if1 .left))
 
 pub conflict-spec : {M : Type 1} → statement M

@@ -1,6 +1,7 @@
 -- `classes::literal_meets` meets its contract.
 use Prim.Native.Nat.{_-_, _≤_, ℕ}
 use borrow.Author.Needs.{needs}
+use denote.Ref.{now}
 use mathlib.Core.Bool.{false}
 use mathlib.Core.Path.{_∙_, _≡_, ap, ap₂, refl, sym}
 use native.Mathlib.Omega.{arith}
@@ -20,12 +21,12 @@ abbrev μ-loop : tie.MeasureT-loop
 -- what the test says of the two literals
 said : (c : tie.After-same-class Inv-loop μ-loop)
     →
-    let args = c .before .before .before .before .before .args in
+    let args = c .before .before .before .before .before .before .args in
     c .same-class .result
-    ≡ sameClass (args .labels) (litNode (args .i)) (litNode (c .before .before .before .before .loop .j))
+    ≡ sameClass (now (args .labels)) (litNode (args .i)) (litNode (c .before .before .before .before .loop .j))
 said c =
-    let args = c .before .before .before .before .before .args in
-    c .same-class .ensures ∙ ap₂ (sameClass (args .labels)) (c .before .before .literal-node .ensures) (c .before .literal-node2 .ensures)
+    let args = c .before .before .before .before .before .before .args in
+    c .same-class .ensures ∙ ap₂ (sameClass (now (args .labels))) (c .before .before .literal-node .ensures) (c .before .literal-node2 .ensures)
 
 loop-holds : tie.Need-loop-holds Inv-loop μ-loop
 loop-holds c = (omega arith, refl)
@@ -42,8 +43,8 @@ same-class-requires c κs = search needs
 returns : tie.Need-returns Inv-loop μ-loop
 returns c =
     let l = c .before .before .before .before .before .loop in
-    let s = c .before .before .before .before .before .before .args in
-    sym (any-yes (λ k. sameClass (s .labels) (litNode (s .i)) (litNode k)) (s .i) (l .j) (omega arith) (sym (said (c .before)) ∙ c .if1 .taken))
+    let s = c .before .before .before .before .before .before .before .args in
+    sym (any-yes (λ k. sameClass (now (s .labels)) (litNode (s .i)) (litNode k)) (s .i) (l .j) (omega arith) (sym (said (c .before)) ∙ c .if1 .taken))
 
 add-j : tie.Need-add-j Inv-loop μ-loop
 add-j c = search needs
@@ -54,15 +55,15 @@ loop-less c = search needs
 loop-again : tie.Need-loop-again Inv-loop μ-loop
 loop-again c =
     let l = c .before .before .before .before .before .loop in
-    let s = c .before .before .before .before .before .before .args in
-    (omega arith, any-more (λ k. sameClass (s .labels) (litNode (s .i)) (litNode k)) (l .j) (l .inv .1) (sym (said (c .before)) ∙ c .if1 .left))
+    let s = c .before .before .before .before .before .before .before .args in
+    (omega arith, any-more (λ k. sameClass (now (s .labels)) (litNode (s .i)) (litNode k)) (l .j) (l .inv .1) (sym (said (c .before)) ∙ c .if1 .left))
 
 returns-2 : tie.Need-returns-2 Inv-loop μ-loop
 returns-2 c =
     let l = c .before .loop in
-    let s = c .before .before .args in
+    let s = c .before .before .before .args in
     let e : l .j ≡ s .i = omega arith in
-    sym (ap (λ (m : ℕ). anyBelow m (λ k. sameClass (s .labels) (litNode (s .i)) (litNode k))) (sym e) ∙ l .inv .1)
+    sym (ap (λ (m : ℕ). anyBelow m (λ k. sameClass (now (s .labels)) (litNode (s .i)) (litNode k))) (sym e) ∙ l .inv .1)
 
 pub literal-meets-spec : {M : Type 1} → statement M
 literal-meets-spec =

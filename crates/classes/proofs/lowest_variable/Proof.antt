@@ -1,6 +1,7 @@
 -- `classes::lowest_variable` meets its contract.
 use Prim.Native.Nat.{_+_}
 use borrow.Author.Needs.{needs}
+use denote.Ref.{now}
 use mathlib.Core.Path.{_∙_, _≡_, refl, sym}
 use native.Mathlib.Omega.{arith}
 use Rattle.calculus.specs.SaturationTest.{lowestFrom, lowestVariable}
@@ -23,8 +24,8 @@ one-class-requires c κs = search needs
 returns : tie.Need-returns Inv-loop μ-loop
 returns c =
     let l = c .before .before .before .loop in
-    let s = c .before .before .before .before .args in
-    sym (first-yes (s .labels) (s .x) (l .y) (l .left) (omega arith) (sym (c .before .one-class .ensures) ∙ c .if1 .taken)) ∙ l .inv .1
+    let s = c .before .before .before .before .before .args in
+    sym (first-yes (now (s .labels)) (s .x) (l .y) (l .left) (omega arith) (sym (c .before .one-class .ensures) ∙ c .if1 .taken)) ∙ l .inv .1
 
 add-y : tie.Need-add-y Inv-loop μ-loop
 add-y c = search needs
@@ -38,14 +39,14 @@ loop-less c = search needs
 loop-again : tie.Need-loop-again Inv-loop μ-loop
 loop-again c =
     let l = c .before .before .before .loop in
-    let s = c .before .before .before .before .args in
-    (omega arith, sym (first-no (s .labels) (s .x) (l .y) (l .left) (omega arith) (sym (c .before .one-class .ensures) ∙ c .if1 .left)) ∙ l .inv .1)
+    let s = c .before .before .before .before .before .args in
+    (omega arith, sym (first-no (now (s .labels)) (s .x) (l .y) (l .left) (omega arith) (sym (c .before .one-class .ensures) ∙ c .if1 .left)) ∙ l .inv .1)
 
 returns-2 : tie.Need-returns-2 Inv-loop μ-loop
 returns-2 c =
     let l = c .before .loop in
-    let s = c .before .before .args in
-    sym (first-done (s .labels) (s .x) (l .y) (l .left) (omega arith)) ∙ l .inv .1
+    let s = c .before .before .before .args in
+    sym (first-done (now (s .labels)) (s .x) (l .y) (l .left) (omega arith)) ∙ l .inv .1
 
 pub lowest-variable-spec : {M : Type 1} → statement M
 lowest-variable-spec =

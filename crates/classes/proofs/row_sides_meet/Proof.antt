@@ -23,18 +23,18 @@ one-class-requires c κs = search needs
 
 returns : tie.Need-returns
 returns c =
-    let s = c .before .before .before .before .before in
+    let s = c .before .before .before .before .before .before in
     let k = c .before .before .before .before .tag-of in
     c .one-class .ensures
-    ∙ ap₂ (λ (a b : ℕ). sameClass (s .args .labels) (varNode a) (varNode b)) (c .before .before .variable-at .ensures .0)
+    ∙ ap₂ (λ (a b : ℕ). sameClass (now (s .args .labels)) (varNode a) (varNode b)) (c .before .before .variable-at .ensures .0)
     (c .before .variable-at2 .ensures .0)
-    ∙ sym (row-sides (now (s .args .row)) (s .args .labels) (k .result) (k .ensures) (c .before .before .before .if1 .taken))
+    ∙ sym (row-sides (now (s .args .row)) (now (s .args .labels)) (k .result) (k .ensures) (c .before .before .before .if1 .taken))
 
 returns-2 : tie.Need-returns-2
 returns-2 c =
-    let s = c .before .before in
+    let s = c .before .before .before in
     let k = c .before .tag-of in
-    sym (row-no-sides (now (s .args .row)) (s .args .labels) (k .result) (k .ensures) (c .if1 .left))
+    sym (row-no-sides (now (s .args .row)) (now (s .args .labels)) (k .result) (k .ensures) (c .if1 .left))
 
 pub row-sides-meet-spec : {M : Type 1} → statement M
 row-sides-meet-spec =

@@ -1,5 +1,5 @@
 -- `classes::same_class` meets its contract.
-use borrow.Author.Needs.{needs}
+use denote.Ref.{now}
 use lib.Dec.{eqb}
 use lib.ListN.{length}
 use mathlib.Core.Path.{_≡_, ap₂}
@@ -8,17 +8,18 @@ use Rattle.lists.proofs.Lists.{getD-any}
 use Rattle.classes.proofs.same_class.Statement.{statement}
 use Rattle.classes.proofs.same_class.Tie as tie
 
-array-read-a : tie.Need-array-read-a
-array-read-a c = search needs
+shared-slice-read-a : tie.Need-shared-slice-read-a
+shared-slice-read-a c = let n = c .before .pre .0 in omega arith
 
-array-read-b : tie.Need-array-read-b
-array-read-b c = search needs
+shared-slice-read-b : tie.Need-shared-slice-read-b
+shared-slice-read-b c = let n = c .before .before .pre .0 in omega arith
 
 returns : tie.Need-returns
 returns c =
-    let ls = c .args .t1 in
-    let n : length ls ≡ 32 = c .good .0 .1 .0 .1 in
-    ap₂ eqb (getD-any ls (c .args .i) 0 (c .args .i) (omega arith)) (getD-any ls (c .args .j) 0 (c .args .j) (omega arith))
+    let s = c .before .before in
+    let ls = now (s .args .labels) in
+    let n = s .pre .0 in
+    ap₂ eqb (getD-any ls (s .args .i) 0 (s .args .i) (omega arith)) (getD-any ls (s .args .j) 0 (s .args .j) (omega arith))
 
 pub same-class-spec : {M : Type 1} → statement M
-same-class-spec = tie.close (tie.spec array-read-a array-read-b returns)
+same-class-spec = tie.close (tie.spec shared-slice-read-a shared-slice-read-b returns)

@@ -30,8 +30,8 @@ row-at-requires c κs = search needs
 
 row-sides-meet-requires : tie.Need-row-sides-meet-requires Inv-loop μ-loop
 row-sides-meet-requires c κs =
-    let s = c .before .before .before in
-    ap length (c .row-at .ensures) ∙ length-row (now (s .args .work)) (c .before .before .loop .k) (omega arith)
+    let s = c .before .before .before .before in
+    (s .pre .0, ap length (c .row-at .ensures) ∙ length-row (now (s .args .work)) (c .before .before .loop .k) (omega arith))
 
 add-k : tie.Need-add-k Inv-loop μ-loop
 add-k c = search needs
@@ -42,19 +42,19 @@ loop-less c = search needs
 loop-again : tie.Need-loop-again Inv-loop μ-loop
 loop-again c =
     let l = c .before .before .before .loop in
-    let s = c .before .before .before .before .args in
+    let s = c .before .before .before .before .before .args in
     let w = now (s .work) in (
       omega arith,
-      ap₂ _||_ (l .inv .1) (c .row-sides-meet .ensures ∙ ap (λ (row : List ℤ). sidesMeet (s .labels) (factOf row ∷ [])) (c .before .row-at .ensures))
-          ∙ sym (ap (sidesMeet (s .labels)) (branch-more w (l .k)) ∙ sides-snoc (s .labels) (branchOf w (l .k)) (factOf (rowAt w (l .k)))),
+      ap₂ _||_ (l .inv .1) (c .row-sides-meet .ensures ∙ ap (λ (row : List ℤ). sidesMeet (now (s .labels)) (factOf row ∷ [])) (c .before .row-at .ensures))
+          ∙ sym (ap (sidesMeet (now (s .labels))) (branch-more w (l .k)) ∙ sides-snoc (now (s .labels)) (branchOf w (l .k)) (factOf (rowAt w (l .k)))),
     )
 
 returns : tie.Need-returns Inv-loop μ-loop
 returns c =
     let l = c .before .loop in
-    let s = c .before .before .args in
+    let s = c .before .before .before .args in
     let e : l .k ≡ s .count = omega arith in
-    l .inv .1 ∙ ap (λ (k : ℕ). sidesMeet (s .labels) (branchOf (now (s .work)) k)) e
+    l .inv .1 ∙ ap (λ (k : ℕ). sidesMeet (now (s .labels)) (branchOf (now (s .work)) k)) e
 
 pub sides-meet-spec : {M : Type 1} → statement M
 sides-meet-spec =
