@@ -1,5 +1,5 @@
 -- The columns' values of an answer of its form and in its ranges lie within ±100,000,000.
-use Prim.Native.Nat.{ℕ, zero, suc, _+_, _*_, _/_, _%_, _<_, _≤_}
+use Prim.Native.Nat.{ℕ, zero, suc, _+_, _*_, _/_, _%_, _≤_}
 use native.Mathlib.Omega.{arith}
 use mathlib.Core.Path.{_≡_, refl, _∙_, ap}
 use mathlib.Core.Bool.{Bool, true, false, _&&_}
@@ -11,17 +11,17 @@ use lib.IntN.{pos, natAbs}
 use borrow.Author.Tests.{leb-true}
 use Rattle.lists.specs.Lists.{All}
 use Rattle.lists.proofs.Lists.{all-append, all-getD}
-use Rattle.lists.proofs.Tests.{true→, and-both}
+use Rattle.lists.proofs.Tests.{and-both}
 use Rattle.calculus.specs.Limits.{lengthLimit, valueLimit, alphabetLimit, Small}
-use Rattle.calculus.specs.Alphabet.{isCharacter, allCharacters}
-use Rattle.calculus.proofs.Alphabet.{character-below, character→}
-use Rattle.calculus.specs.Facts.{Question, valueOf, len, code, codeOf}
+use Rattle.calculus.specs.Alphabet.{allCharacters}
+use Rattle.calculus.specs.Facts.{Question, valueOf, len, code}
 use Rattle.format.specs.Fields.{allWithin}
 use Rattle.format.specs.Records.{size, kind, next, whole}
 use Rattle.format.specs.Places.{skip, textAt, texts}
 use Rattle.format.specs.Answer.{stringForm, answerForm, integersAt, outside}
 use Rattle.format.proofs.Fields.{length-u32s}
 use Rattle.format.proofs.Limits.{within→}
+use Rattle.question.proofs.Texts.{code-small}
 use Rattle.assignment.specs.Form.{columnsAt}
 
 -- ---- what is not outside
@@ -60,15 +60,9 @@ small-lengths b q (suc p) at e =
     leb-true (size b at) (4 * lengthLimit) (and-both (eqb (size b at % 4) 0) (leb (size b at) (4 * lengthLimit)) h3 .1) in
     (omega (arith, length-u32s b (at + 6) (size b at / 4)), small-lengths b q p (next b at) f)
 
-small-code : (n : ℕ) (s : List ℕ) → n ≤ alphabetLimit → allCharacters n s ≡ true → Small valueLimit (codeOf s)
-unfolding allCharacters
-small-code n [] h e = omega arith
-small-code n (c ∷ []) h e = let t : c < n = character-below n c (character→ n c (true→ (and-both (isCharacter n c) true e .0))) in omega arith
-small-code n (c ∷ d ∷ s) h e = omega arith
-
 small-codes : (n : ℕ) (ss : List (List ℕ)) → n ≤ alphabetLimit → All (λ s. allCharacters n s ≡ true) ss → All (Small valueLimit) (map (valueOf code) ss)
 small-codes n [] h e = tt
-small-codes n (s ∷ ss) h e = (small-code n s h (e .0), small-codes n ss h (e .1))
+small-codes n (s ∷ ss) h e = (omega (arith, code-small n s h (e .0)), small-codes n ss h (e .1))
 
 pub small-columns : (b : List ℕ) (u : Question) → u .n ≤ alphabetLimit → answerForm b (u .p) (u .q) 0 ≡ true → outside b u (u .p) 0 0 ≡ none
     → (j : ℕ) → natAbs (getD (columnsAt b (u .p) (u .q)) j (pos 0)) ≤ valueLimit

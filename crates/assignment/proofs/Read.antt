@@ -5,18 +5,15 @@ use mathlib.Core.Path.{_≡_, sym, _∙_, ap}
 use mathlib.Core.Bool.{Bool, true, false, _&&_}
 use mathlib.Core.Option.{Option, none, some}
 use mathlib.Core.List.{List}
-use lib.ListN.{length, getD, set}
-use lib.Seq.{getD-set-same, getD-set-other}
-use native.Mathlib.Decide.{decLt}
+use lib.ListN.{length}
 use lib.Dec.{leb, eqb}
 use borrow.Author.Tests.{leb-true, eqb-true, le-leb, lt-leb}
-use Rattle.lists.proofs.Every.{along-done, along-fails, along-on}
 use Rattle.lists.proofs.Lists.{down}
 use Rattle.lists.proofs.Tests.{and-both}
 use Rattle.calculus.specs.Limits.{lengthLimit, valueLimit}
 use Rattle.calculus.specs.Alphabet.{allCharacters}
 use Rattle.calculus.specs.Facts.{Question}
-use Rattle.format.specs.Fields.{i32, i32s, within, allWithin}
+use Rattle.format.specs.Fields.{allWithin}
 use Rattle.format.specs.Records.{size, kind, next, whole}
 use Rattle.format.specs.Places.{skip, textAt}
 use Rattle.format.specs.Answer.{recordIs, stringForm, answerForm, integersAt, outside}

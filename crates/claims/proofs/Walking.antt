@@ -5,8 +5,8 @@ use native.Mathlib.Numerals.{add-one}
 use mathlib.Core.Path.{_≡_, refl, sym, _∙_, ap, ap₂, subst}
 use mathlib.Core.Bool.{true, false}
 use mathlib.Core.List.{List, [], _∷_, _++_}
-use lib.ListN.{length, take, length-append}
-use lib.Seq.{take-length, take-at}
+use lib.ListN.{length, take}
+use lib.Seq.{take-length}
 use lib.IntN.{ℤ}
 use borrow.Author.Tests.{eqb-true}
 use Rattle.calculus.specs.Limits.{ticketBytes, factLimit, pendingLimit}
@@ -22,7 +22,7 @@ use Rattle.rows.specs.Work.{Fine}
 use Rattle.rows.proofs.Branches.{length-branch, branch-take}
 use Rattle.classes.specs.declared.Known.{Known}
 use Rattle.classes.specs.Classes.{Knows}
-use Rattle.classes.proofs.Laws.{knows-kept, knows-more}
+use Rattle.classes.proofs.Laws.{knows-kept, knows-more, knows-grown}
 use Rattle.question.specs.declared.Progress.{Progress}
 use Rattle.question.specs.Posed.{asked, Posed}
 use Rattle.branch.specs.declared.Branch as code
@@ -53,13 +53,6 @@ pub fine-rows : (claim : Claim) (b : List ℕ) (s : Progress) (w : List ℤ) (c 
 unfolding Holds
 fine-rows NoSolution b s w c h = fine h
 fine-rows Strings b s w c h = h
-
--- what is kept of the classes holds of a branch that has grown
-grown : {w v : List ℤ} {count more : ℕ} {known : Known} (c : Branch) → branchOf v more ≡ branchOf w count ++ c → Knows w count known → Knows v more known
-grown {w} {v} {count} {more} c e h =
-    let long : count ≤ more =
-    omega (arith, sym (length-branch v more) ∙ ap length e ∙ length-append (branchOf w count) c, length-branch w count) in
-    knows-more (knows-kept (sym (branch-take v more count long) ∙ ap (take count) e ∙ take-at (branchOf w count) c count (length-branch w count)) h) long
 
 module _ (b : List ℕ) (s : Progress) where
   abbrev on : State Branch (List Fact) → ℕ → ℕ → Ticket Branch (List Fact)
@@ -261,7 +254,7 @@ module _ (b : List ℕ) (s : Progress) where
       kept = same ∙ g .kept;
       low = omega (arith, g .low);
       holds = f .fine;
-      knows = grown (childOn b (asked b s) (branchOf w (c .count)) i (childField b (i + 6))) (f .rows) (g .knows);
+      knows = knows-grown (childOn b (asked b s) (branchOf w (c .count)) i (childField b (i + 6))) (f .rows) (g .knows);
       rest =
           ap (λ (l : Branch). on (taking l) (k + 1) (i + 6 + m)) (f .rows)
           ∙ ap₂ (λ (l r : ℕ). on (taking (branchOf w (c .count) ++ childOn b (asked b s) (branchOf w (c .count)) i (childField b (i + 6)))) r (i + 6 + l))
@@ -326,7 +319,7 @@ module _ (b : List ℕ) (s : Progress) where
         → Going claim n outcome v d known (i + 6 + m) (k + 1)
     going-one NoSolution f g t q d ed es same =
         going-on g t v d known (entered-one (held g t) i v a (t .acts) f q d ed es) (ap numberOf q)
-        (subst (λ j. Knows v j known) (sym ed) (grown _ (extended (held g t) i v a (t .acts) f q .rows) (g .knows))) same
+        (subst (λ j. Knows v j known) (sym ed) (knows-grown _ (extended (held g t) i v a (t .acts) f q .rows) (g .knows))) same
     going-one Strings f g t q d ed es same =
         going-taken g t d (subst (λ j. Follows b (asked b s) (branchOf w (c .count)) i v j) (sym ed) (follows-alone t f q)) (ap numberOf q) same
 
@@ -351,7 +344,7 @@ module _ (b : List ℕ) (s : Progress) where
         → Going claim n outcome v d known (i + 6 + m) (k + 1)
     going-more NoSolution f l g t q d ed es same =
         going-on g t v d known (entered-more (held g t) i v a (t .acts) f l q d ed es) (ap numberOf q)
-        (subst (λ j. Knows v j known) (sym ed) (grown _ (split-up (held g t) i v a (t .acts) f l q .0 .rows) (g .knows))) same
+        (subst (λ j. Knows v j known) (sym ed) (knows-grown _ (split-up (held g t) i v a (t .acts) f l q .0 .rows) (g .knows))) same
     going-more Strings f l g t q d ed es same = absurd (splits-alone t f l q)
 
   -- ---- classes that are set back

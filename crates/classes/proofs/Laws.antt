@@ -1,12 +1,11 @@
 -- Laws of labels, rows and tests below a bound, in the form that a loop asks.
 use mathlib.Core.Path.{_≡_, refl, sym, _∙_, ap, ap₂}
-use mathlib.Core.Bool.{Bool, true, false, cond, _||_, or-true, or-false, or-assoc}
+use mathlib.Core.Bool.{Bool, true, false, cond, _||_, or-false, or-assoc}
 use mathlib.Core.Option.{none, some}
 use mathlib.Core.List.{List, [], _∷_, _++_}
 use Prim.Native.Nat.{ℕ, zero, suc, _+_, _-_, _≤_, _<_}
 use native.Mathlib.Numerals.{add-one}
 use native.Mathlib.Omega.{arith}
-use native.Mathlib.Decide.{decLt}
 use borrow.Author.Tests.{eqb-true}
 use lib.Dec.{eqb}
 use lib.ListN.{length, getD, take}
@@ -14,13 +13,15 @@ use lib.IntN.{ℤ, pos}
 use Rattle.lists.specs.Lists.{anyBelow}
 use Rattle.lists.proofs.Options.{some-injective, none-some}
 use Rattle.lists.proofs.Lists.{down}
+use Rattle.lists.proofs.Tests.{→true, true→}
+use Rattle.lists.proofs.Below.{→any-below}
 use Rattle.calculus.specs.Facts.{Fact, Branch, same, notSame, isLiteral, arithmetic}
 use Rattle.calculus.specs.Chains.{varNode, litNode}
 use Rattle.calculus.specs.Classes.{upFrom, relabel, mergeNodes, mergeFact, labelsFrom, labels, sameClass, lowestLiteral, sidesMeet}
 use Rattle.calculus.specs.SaturationTest.{lowestFrom}
 use Rattle.rows.specs.Rows.{index, factOf, branchOf}
 use Rattle.rows.specs.Work.{tagOf}
-use Rattle.rows.proofs.Branches.{branch-take}
+use Rattle.rows.proofs.Branches.{branch-take, branch-grown}
 use Rattle.rows.proofs.Tags.{row-string}
 use Rattle.classes.specs.declared.Known.{Known}
 use Rattle.classes.specs.Classes.{Knows}
@@ -60,6 +61,10 @@ knows-kept {w} {v} {count} {k} e h =
 -- beside more facts
 pub knows-more : {w : List ℤ} {count more : ℕ} {k : Known} → Knows w count k → count ≤ more → Knows w more k
 knows-more h l = let few = h .few in record { few = omega arith; labelled = h .labelled }
+
+-- on a branch that has grown
+pub knows-grown : {w v : List ℤ} {count more : ℕ} {k : Known} (c : Branch) → branchOf v more ≡ branchOf w count ++ c → Knows w count k → Knows v more k
+knows-grown {w} {v} {count} {more} c e h = let (long, kept) = branch-grown w v count more c e in knows-more (knows-kept kept h) long
 
 -- ---- the lowest literal
 
@@ -116,12 +121,7 @@ module _ (t : ℕ → Bool) where
   any-more i e f = rw (add-one, e, f)
 
   pub any-yes : (m i : ℕ) → i < m → t i ≡ true → anyBelow m t ≡ true
-  any-yes zero i h e = absurd (omega arith)
-  any-yes (suc m) i h e = go (λ l. any-yes m i l e) (decLt i m)
-    where
-      go : (i < m → anyBelow m t ≡ true) → Dec (i < m) → anyBelow (suc m) t ≡ true
-      go ih (yes l) = rw (ih l) (or-true (t m))
-      go ih (no n) = let k : m ≡ i = omega arith in ap (λ (z : ℕ). t z || anyBelow m t) k ∙ rw e
+  any-yes m i h e = →true (anyBelow m t) (→any-below m t i h (true→ e))
 
 -- ---- ≉ facts
 

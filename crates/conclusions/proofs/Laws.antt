@@ -1,6 +1,5 @@
 -- What the rules that close and those with one conclusion add, from the answers that the code gets.
 use Prim.Native.Nat.{ℕ, zero, suc, _+_, _<_, _≤_}
-use native.Mathlib.Numerals.{add-one}
 use mathlib.Core.Path.{_≡_, refl, sym, _∙_, ap, ap₂}
 use mathlib.Core.Bool.{Bool, true, false, not, _&&_}
 use mathlib.Core.Option.{Option, none, some}
@@ -18,8 +17,6 @@ use Rattle.calculus.specs.Rules.{guard, then, joinOf, children, literalChildren
 use Rattle.format.specs.Fields.{u32s}
 use Rattle.format.specs.StepForms.{functionOf}
 use Rattle.format.specs.Checking.{fits}
-use Rattle.format.specs.Places.{literalsFrom}
-use Rattle.format.proofs.Places.{length-texts}
 use Rattle.format.proofs.Fields.{length-u32s}
 use Rattle.rows.specs.Rows.{factOf, rowAt, branchOf}
 use Rattle.rows.specs.Work.{single, difference}
@@ -32,6 +29,7 @@ use Rattle.question.specs.declared.Progress.{Progress}
 use Rattle.question.specs.Posed.{asked}
 use Rattle.question.specs.Columns.{columnAt}
 use Rattle.question.proofs.Columns.{applied, columns-differ}
+use Rattle.question.proofs.Posed.{literal-in}
 
 -- ---- Sum
 
@@ -91,10 +89,7 @@ value-code (suc f) t n = refl
 -- the lowest literal of the class, among those of the question
 module _ (b : List ℕ) (s : Progress) (br : Branch) (ls : List ℕ) (x : ℕ) (el : ls ≡ labels br) where
   class-is : lowestLiteral ls x 0 (s .literals + 1) ≡ classLiteral (asked b s) br x
-  unfolding asked
-  class-is =
-      ap₂ (λ (l : List ℕ) (m : ℕ). lowestLiteral l x 0 m) el
-      (add-one (s .literals) ∙ ap suc (sym (length-texts b (s .literals) literalsFrom)))
+  class-is = ap (λ (l : List ℕ). lowestLiteral l x 0 (s .literals + 1)) el ∙ sym (literal-in b s (labels br) x)
 
   pub literal-none : (f : Function) → lowestLiteral ls x 0 (s .literals + 1) ≡ none → literalChildren (asked b s) br f x ≡ none
   literal-none f e = ap (λ (o : Option ℕ). then o (λ l. some (literalChild (asked b s) f x l))) (sym class-is ∙ e)

@@ -8,7 +8,7 @@ use mathlib.Core.List.{List, [], _∷_}
 use borrow.Author.Tests.{ltb-true, eq-eqb, ne-eqb, le-leb, lt-ltb}
 use lib.ListN.{set}
 use lib.Dec.{eqb, leb, ltb}
-use lib.IntN.{ℤ, natAbs}
+use lib.IntN.{ℤ}
 use Rattle.lists.proofs.Tests.{and-both}
 use Rattle.calculus.specs.Limits.{variableLimit, literalLimit, columnLimit, numberLimit}
 use Rattle.calculus.specs.LinearForms.{zeros}
@@ -20,6 +20,7 @@ use Rattle.format.specs.Checking.{factWithin}
 use Rattle.format.proofs.Faults.{passed}
 use Rattle.format.proofs.RecordFaults.{StringConstraint, ArithmeticConstraint, Constraint, on-strings, on-columns, constraint-formed}
 use Rattle.format.proofs.Sums.{ranged}
+use Rattle.rows.proofs.Small.{within-set}
 
 -- the second operand is small whatever the relation
 pub second-small : {m r x y : ℕ} → StringConstraint variableLimit literalLimit m r x y → y < 16
@@ -31,14 +32,6 @@ second-small {m} {r} {x} {y} c = go (ℕ-discrete r 2)
 
 -- ---- the numbers of a constraint
 
-pub within-set : (row : List ℤ) (j : ℕ) (z : ℤ) → allWithin numberLimit row ≡ true → within numberLimit z ≡ true → allWithin numberLimit (set row j z) ≡ true
-unfolding allWithin
-within-set [] j z e h = e
-within-set (x ∷ row) zero z e h = ap₂ _&&_ h (and-both (within numberLimit x) (allWithin numberLimit row) e .1)
-within-set (x ∷ row) (suc j) z e h =
-    ap₂ _&&_ (and-both (within numberLimit x) (allWithin numberLimit row) e .0)
-    (within-set row j z (and-both (within numberLimit x) (allWithin numberLimit row) e .1) h)
-
 within-fill : (c low : ℕ) (row : List ℤ) (ts : List (ℕ × ℤ))
     → allWithin numberLimit row ≡ true
     → rising c low ts ≡ true
@@ -47,7 +40,7 @@ unfolding rising fillCoefficients
 within-fill c low row [] e h = e
 within-fill c low row (t ∷ ts) e h =
     let r = ranged c low t ts h in
-    within-fill c (t .0 + 1) (set row (t .0) (t .1)) ts (within-set row (t .0) (t .1) e (le-leb (natAbs (t .1)) numberLimit (r .coefficient))) (r .rest)
+    within-fill c (t .0 + 1) (set row (t .0) (t .1)) ts (within-set row (t .0) (t .1) e (r .coefficient)) (r .rest)
 
 within-zeros : (n : ℕ) → allWithin numberLimit (zeros n) ≡ true
 unfolding allWithin

@@ -3,8 +3,7 @@ use Prim.Native.Nat.{ℕ, _+_, _-_, _≤_, _<_}
 use native.Mathlib.Omega.{arith}
 use mathlib.Core.Path.{_≡_, sym, _∙_, ap, ap₂, subst}
 use mathlib.Core.List.{List, _∷_, _++_}
-use lib.ListN.{length, take, length-append}
-use lib.Seq.{take-at}
+use lib.ListN.{length, take}
 use lib.IntN.{ℤ}
 use Rattle.calculus.specs.Facts.{Branch}
 use Rattle.calculus.specs.Walk.{closed, cutBack}
@@ -13,7 +12,8 @@ use Rattle.format.specs.StepForms.{formFor, rule}
 use Rattle.format.proofs.Decoded.{at-least}
 use Rattle.rows.specs.Rows.{branchOf}
 use Rattle.rows.specs.Work.{Fine}
-use Rattle.rows.proofs.Branches.{length-branch, branch-take}
+use Rattle.rows.proofs.Branches.{length-branch, branch-take, branch-grown}
+use Rattle.rows.proofs.Small.{within-take}
 use Rattle.question.specs.declared.Progress.{Progress}
 use Rattle.question.specs.Posed.{asked}
 use Rattle.steps.specs.declared.Rule.{Rule}
@@ -26,7 +26,7 @@ use Rattle.branch.specs.Stack.{lastFirst, stack, latestOf, begunOf}
 use Rattle.branch.proofs.Stacks.{stack-top, length-stack}
 use Rattle.derivation.specs.State.{childOn, waitings, walkOf, stateOf, KeepsBelow}
 use Rattle.derivation.specs.Ok.{Splits, Pends, Ok, InOrder}
-use Rattle.derivation.proofs.Pending.{its-pends, within-take, ok-begun}
+use Rattle.derivation.proofs.Pending.{its-pends, ok-begun}
 use Rattle.derivation.proofs.Walks.{cut-back}
 use Rattle.derivation.proofs.Holding.{few-facts, Puts, puts}
 
@@ -126,12 +126,5 @@ module _ {b : List ℕ} {s : Progress} {w : List ℤ} {c : code.Branch} (h : InO
       → branchOf v k ≡ branchOf w (t .mark) ++ offeredChild b (asked b s) (branchOf w (t .mark)) (t .at + 6) m (t .child)
       → KeepsBelow (t .mark) w v r
   keeps-below v r m k er e =
-      let child = offeredChild b (asked b s) (branchOf w (t .mark)) (t .at + 6) m (t .child) in
-      let long : t .mark ≤ k = omega (arith, sym (length-branch v k) ∙ ap length e ∙ length-append (branchOf w (t .mark)) child, length-branch w (t .mark)) in
-      record {
-        below =
-            sym (branch-take v k (t .mark) long)
-            ∙ ap (take (t .mark)) e
-            ∙ take-at (branchOf w (t .mark)) child (t .mark) (length-branch w (t .mark));
-        behind = omega (arith, long, er);
-      }
+      let (long, kept) = branch-grown w v (t .mark) k _ e in
+      record { below = kept; behind = omega (arith, long, er) }

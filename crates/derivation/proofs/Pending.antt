@@ -1,18 +1,18 @@
 -- Pending splits: rows at or above a mark do not touch what is below it, so the splits pend as before on a branch that grows.
 use Prim.Native.Nat.{ℕ, suc, _+_, _≤_, _<_}
 use native.Mathlib.Omega.{arith}
-use mathlib.Core.Path.{_≡_, refl, sym, _∙_, ap, ap₂, subst}
-use mathlib.Core.Bool.{Bool, true, false, _&&_, cond}
+use mathlib.Core.Path.{_≡_, refl, sym, _∙_, ap, subst}
+use mathlib.Core.Bool.{Bool, true, false, cond}
 use mathlib.Core.List.{List, [], _∷_, _++_}
 use lib.ListN.{length, take, length-append}
 use lib.Seq.{take-append-le, take-append-seam, take-at, take-take, length-take-le}
 use lib.Dec.{ltb}
 use borrow.Author.Tests.{ltb-true}
-use Rattle.lists.proofs.Every.{every-append, every-take}
 use Rattle.calculus.specs.Limits.{factLimit, pendingLimit}
 use Rattle.calculus.specs.Facts.{Question, Fact, Branch}
 use Rattle.format.specs.StepForms.{rule}
-use Rattle.format.specs.Checking.{factWithin, factsWithin}
+use Rattle.format.specs.Checking.{factsWithin}
+use Rattle.rows.proofs.Small.{within-append, within-take}
 use Rattle.steps.specs.Conclusions.{conclusionsOf}
 use Rattle.steps.specs.declared.Conclusions.the-variants.{Several}
 use Rattle.branch.specs.declared.Split.{Split}
@@ -64,16 +64,6 @@ module _ (b : List ℕ) (u : Question) where
   unfolding waitings
   length-waitings br [] = refl
   length-waitings br (s ∷ ss) = ap suc (length-waitings (take (s .mark) br) ss)
-
--- ---- numbers within the limit
-
-pub within-append : (br c : Branch) → factsWithin br ≡ true → factsWithin c ≡ true → factsWithin (br ++ c) ≡ true
-unfolding factsWithin
-within-append br c e f = every-append factWithin br c ∙ ap₂ _&&_ e f
-
-pub within-take : (br : Branch) (n : ℕ) → factsWithin br ≡ true → factsWithin (take n br) ≡ true
-unfolding factsWithin
-within-take br n e = every-take factWithin br n e
 
 -- ---- the first child of a split is begun
 

@@ -3,13 +3,13 @@ use Prim.Native.Nat.{ℕ, _+_, _≤_, _<_}
 use native.Mathlib.Omega.{arith}
 use mathlib.Core.Path.{_≡_, refl, sym, _∙_, ap, subst}
 use mathlib.Core.Logic.{inl, inr}
-use mathlib.Core.Bool.{Bool, true, false, cond, _||_}
+use mathlib.Core.Bool.{Bool, true, false, cond}
 use mathlib.Core.Option.{Option, some}
 use mathlib.Core.List.{List, [], _++_}
 use lib.ListN.{length, length-map}
-use lib.Dec.{leb, ltb}
+use lib.Dec.{leb}
 use lib.IntN.{ℤ}
-use borrow.Author.Tests.{leb-true, leb-false, ltb-true, lt-leb}
+use borrow.Author.Tests.{leb-true, leb-false}
 use Rattle.lists.proofs.Options.{some-none}
 use Rattle.lists.proofs.Tests.{and-both}
 use Rattle.calculus.specs.Limits.{pendingLimit}
@@ -19,7 +19,8 @@ use Rattle.calculus.proofs.Shapes.{children-shape}
 use Rattle.format.specs.Records.{size}
 use Rattle.format.specs.StepForms.{rule, childField, lengthFits, stepAt}
 use Rattle.format.specs.Checking.{fits, orNone, childrenWithin, roomForAll, roomToPend, allTried, takenTried, childIn}
-use Rattle.format.proofs.Faults.{none-applies, not-both}
+use Rattle.format.proofs.Faults.{none-applies}
+use Rattle.format.proofs.Limits.{tried→limits}
 use Rattle.rows.specs.Rows.{branchOf}
 use Rattle.rows.specs.Work.{Fine}
 use Rattle.delimiters.specs.declared.Claim.{Claim}
@@ -94,22 +95,18 @@ module _ (b : List ℕ) (u : Question) (br : Branch) (at m : ℕ) (em : m ≡ si
 
 -- ---- a step to which none of 8 to 10 applies
 
-more-pending : (t : Bool) (pending : ℕ) → (t || ltb pending pendingLimit) ≡ true → t ≡ false → pending < pendingLimit
-more-pending true pending p n = absurd (not-both true refl n)
-more-pending false pending p n = ltb-true pending pendingLimit p
-
 module _ (b : List ℕ) (u : Question) (br : Branch) (at m pending : ℕ) (em : m ≡ size b at) (f : Formed b u (at + 6) m)
     (e : allTried br pending (offered b u br (at + 6) m) ≡ 0) where
   abbrev its : Option (List (List Fact))
   its = offered b u br (at + 6) m
 
-  passed : (cs : List (List Fact)) → its ≡ some cs → (childrenWithin cs ≡ true) × (roomForAll (length br) cs ≡ true) × (roomToPend pending cs ≡ true)
+  untried : (cs : List (List Fact)) → its ≡ some cs → allTried br pending (some cs) ≡ 0
+  untried cs q = ap (λ (o : Option (List (List Fact))). allTried br pending o) (sym q) ∙ e
+
+  passed : (cs : List (List Fact)) → its ≡ some cs → (childrenWithin cs ≡ true) × (roomForAll (length br) cs ≡ true)
   passed cs q =
-      let z : allTried br pending (some cs) ≡ 0 = ap (λ (o : Option (List (List Fact))). allTried br pending o) (sym q) ∙ e in
-      let (within, later) = none-applies 8 (childrenWithin cs) _ z in
-      let (rooms, _) = none-applies 9 _ 0 later in
-      let (room, pend) = and-both (roomForAll (length br) cs) (roomToPend pending cs) rooms in
-      (within, room, pend)
+      let (within, later) = none-applies 8 (childrenWithin cs) _ (untried cs q) in
+      (within, and-both (roomForAll (length br) cs) (roomToPend pending cs) (none-applies 9 _ 0 later .0) .0)
 
   splits-by : (cs : List (List Fact)) → its ≡ some cs → Splits b u br at (length cs)
   splits-by cs q = record {
@@ -142,7 +139,7 @@ module _ (b : List ℕ) (u : Question) (br : Branch) (at m pending : ℕ) (em : 
 
   -- with two or more there is room to pend
   pub room-to-pend : 2 ≤ length (shape (u .n) (stepAt b (at + 6) m)) → pending < pendingLimit
-  room-to-pend h = more-pending (leb (length (found .0)) 1) pending (passed (found .0) (found .1) .2) (lt-leb (length (found .0)) 1 (omega (arith, shaped)))
+  room-to-pend h = tried→limits br pending (found .0) (untried (found .0) (found .1)) .splits (omega (arith, shaped))
 
 -- ---- under either claim
 

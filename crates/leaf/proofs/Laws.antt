@@ -18,7 +18,7 @@ use Rattle.calculus.specs.Alphabet.{characterCount}
 use Rattle.calculus.specs.LinearForms.{eqℤ}
 use Rattle.calculus.specs.Facts.{Question, Branch, codeOf, columnCount, literal, len, code}
 use Rattle.calculus.specs.Chains.{varNode, litNode}
-use Rattle.calculus.specs.Classes.{labels, sameClass, lowestLiteral, literalIn, conflict, clash}
+use Rattle.calculus.specs.Classes.{labels, sameClass, literalIn, conflict, clash}
 use Rattle.calculus.specs.Rules.{leastPower}
 use Rattle.calculus.specs.Model.{modelValue}
 use Rattle.calculus.specs.SaturationTest.{lowestVariable, lowestOfLength, saturatedCard}
@@ -27,12 +27,11 @@ use Rattle.calculus.proofs.Powers.{least-power}
 use Rattle.calculus.proofs.Lowest.{lowests-few}
 use Rattle.format.specs.Places.{skip, literalsFrom}
 use Rattle.format.specs.StepForms.{functionOf}
-use Rattle.format.proofs.Places.{length-texts}
 use Rattle.classes.proofs.Laws.{literal-below}
 use Rattle.question.specs.declared.Progress.{Progress}
 use Rattle.question.specs.Columns.{columnAt}
 use Rattle.question.specs.Posed.{asked, numbered, Posed}
-use Rattle.question.proofs.Posed.{literals-to}
+use Rattle.question.proofs.Posed.{literal-count, literal-in, literals-to}
 use Rattle.leaf.specs.Values.{textFits, literalFits, lValidFits, codeIn, codeBy, codeFits, roomy, varFits, pairBy, pairFits}
 
 -- ---- tests of a variable
@@ -193,22 +192,13 @@ unfolding columnAt
 column-value s zero x m = refl
 column-value s (suc f) x m = refl
 
--- how many literals there are besides the empty one
-pub literal-count : (b : List ℕ) (s : Progress) → length (asked b s .literals) ≡ s .literals
-unfolding asked
-literal-count b s = length-texts b (s .literals) literalsFrom
+-- the literal of the class of a variable is one of the question's, and stands in the bytes
+module _ (b : List ℕ) (s : Progress) (ls : List ℕ) (x l : ℕ) (e : literalIn (asked b s) ls x ≡ some l) where
+  pub literal-known : l ≤ s .literals
+  literal-known = omega (arith, literal-below ls x (s .literals + 1) l (sym (literal-in b s ls x) ∙ e))
 
--- the literal of the class of a variable is one of them, and stands in the bytes
-module _ (b : List ℕ) (s : Progress) (ls : List ℕ) (x : ℕ) where
-  pub literal-in : literalIn (asked b s) ls x ≡ lowestLiteral ls x 0 (s .literals + 1)
-  literal-in = ap (λ (m : ℕ). lowestLiteral ls x 0 m) (ap suc (literal-count b s) ∙ sym (add-one (s .literals)))
-
-  module _ (l : ℕ) (e : literalIn (asked b s) ls x ≡ some l) where
-    pub literal-known : l ≤ s .literals
-    literal-known = omega (arith, literal-below ls x (s .literals + 1) l (sym literal-in ∙ e))
-
-    pub literal-whole : Posed b s → skip b l literalsFrom ≤ length b
-    literal-whole h = literals-to h l literal-known
+  pub literal-whole : Posed b s → skip b l literalsFrom ≤ length b
+  literal-whole h = literals-to h l literal-known
 
 -- the tests without literals do not read the bytes
 module _ (b : List ℕ) (s : Progress) (ls : List ℕ) (m : List ℤ) where

@@ -9,8 +9,9 @@ use lib.IntN.{ℤ, pos, negsuc, _-ℤ_}
 use mir.Syntax.{w64}
 use mir.Val.{SFits, toZ, ofZ}
 use mir.Facts.{toZ-ofZ}
-use Rattle.integers.proofs.Machine.{flip, flip-fits}
+use Rattle.integers.proofs.Machine.{flip}
 use Rattle.calculus.specs.LinearForms.{eqℤ}
+use Rattle.rows.proofs.Small.{rest-fits}
 
 -- numbers are equal just if their bits are
 pub bits-equal : (x y : ℤ) → SFits w64 x → SFits w64 y → eqb (ofZ w64 x) (ofZ w64 y) ≡ eqℤ x y
@@ -27,10 +28,6 @@ bits-equal (negsuc m) (negsuc n) f g = go (eqb m n) refl
 pub equal-read : (r : Bool) (a b : ℤ) → SFits w64 a → SFits w64 b → r ≡ eqℤ (toZ w64 (ofZ w64 a)) (toZ w64 (ofZ w64 b)) → r ≡ eqℤ a b
 equal-read r a b f g h = h ∙ ap₂ eqℤ (toZ-ofZ f) (toZ-ofZ g)
 
-module _ (z : ℤ) (f : SFits w64 z) where
-  -- −1−z of a negative number
-  pub rest-fits : SFits w64 (negsuc 0 -ℤ toZ w64 (ofZ w64 z))
-  rest-fits = rw (toZ-ofZ f) (flip-fits z f)
-
-  pub rest-is : (k : ℕ) → z ≡ negsuc k → toZ w64 (ofZ w64 (negsuc 0 -ℤ toZ w64 (ofZ w64 z))) ≡ pos k
-  rest-is k e = toZ-ofZ rest-fits ∙ ap (λ (y : ℤ). negsuc 0 -ℤ y) (toZ-ofZ f ∙ e) ∙ flip (negsuc k)
+-- −1−z of a negative number
+pub rest-is : (z : ℤ) → SFits w64 z → (k : ℕ) → z ≡ negsuc k → toZ w64 (ofZ w64 (negsuc 0 -ℤ toZ w64 (ofZ w64 z))) ≡ pos k
+rest-is z f k e = toZ-ofZ (rest-fits z f) ∙ ap (λ (y : ℤ). negsuc 0 -ℤ y) (toZ-ofZ f ∙ e) ∙ flip (negsuc k)

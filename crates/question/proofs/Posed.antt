@@ -1,12 +1,31 @@
 -- What a question that may be worked on gives besides what its standing says.
-use Prim.Native.Nat.{ℕ, _≤_}
+use Prim.Native.Nat.{ℕ, zero, suc, _+_, _/_, _≤_}
+use native.Mathlib.Nat.{div-le-of-le-mul}
+use native.Mathlib.Numerals.{add-one}
 use native.Mathlib.Omega.{arith}
-use mathlib.Core.List.{List}
-use lib.ListN.{length}
-use Rattle.format.specs.Places.{skip, literalsFrom}
+use mathlib.Core.Path.{_≡_, sym, _∙_, ap, subst}
+use mathlib.Core.List.{List, []}
+use lib.ListN.{length, getD}
+use Rattle.calculus.specs.Limits.{alphabetLimit, lengthLimit, Small}
+use Rattle.calculus.specs.Facts.{literal, codeOf}
+use Rattle.calculus.specs.Classes.{lowestLiteral, literalIn}
+use Rattle.format.specs.Records.{size}
+use Rattle.format.specs.Places.{skip, texts, literalsFrom}
+use Rattle.format.proofs.Fields.{length-u32s}
+use Rattle.format.proofs.Places.{text-at, length-texts}
 use Rattle.question.specs.declared.Progress.{Progress}
-use Rattle.question.specs.Posed.{PosedTo}
+use Rattle.question.specs.Posed.{asked, PosedTo}
 use Rattle.question.proofs.Standing.{literals-within}
+use Rattle.question.proofs.Texts.{code-small}
+
+-- how many literals there are besides the empty one
+pub literal-count : (b : List ℕ) (s : Progress) → length (asked b s .literals) ≡ s .literals
+unfolding asked
+literal-count b s = length-texts b (s .literals) literalsFrom
+
+-- the literal of a class is the lowest of these and the empty one
+pub literal-in : (b : List ℕ) (s : Progress) (ls : List ℕ) (x : ℕ) → literalIn (asked b s) ls x ≡ lowestLiteral ls x 0 (s .literals + 1)
+literal-in b s ls x = ap (λ (m : ℕ). lowestLiteral ls x 0 m) (ap suc (literal-count b s) ∙ sym (add-one (s .literals)))
 
 module _ {greatest : ℕ} {b : List ℕ} {s : Progress} (h : PosedTo greatest b s) where
   pub some-character : 1 ≤ s .n
@@ -18,3 +37,21 @@ module _ {greatest : ℕ} {b : List ℕ} {s : Progress} (h : PosedTo greatest b 
 
   pub literals-whole : skip b (s .literals) literalsFrom ≤ length b
   literals-whole = literals-to (s .literals) (omega arith)
+
+  -- the length and the code of each are small
+  pub literal-short : (l : ℕ) → l ≤ s .literals → length (literal (asked b s) l) ≤ lengthLimit
+  unfolding asked
+  literal-short zero g = omega arith
+  literal-short (suc j) g =
+      let k : ℕ = size b (skip b j literalsFrom) in
+      let e : length (getD (texts b (s .literals) literalsFrom) j []) ≡ k / 4 =
+      ap length (text-at b j (s .literals) literalsFrom (omega arith)) ∙ length-u32s b (skip b j literalsFrom + 6) (k / 4) in
+      let f : k / 4 ≤ lengthLimit = div-le-of-le-mul 4 (h .stands .literals-stand j (omega arith) .short) in
+      omega arith
+
+  pub literal-code : (l : ℕ) → l ≤ s .literals → Small alphabetLimit (codeOf (literal (asked b s) l))
+  unfolding asked
+  literal-code zero g = omega arith
+  literal-code (suc j) g =
+      subst (λ (t : List ℕ). Small alphabetLimit (codeOf t)) (sym (text-at b j (s .literals) literalsFrom (omega arith)))
+      (code-small (s .n) _ (h .stands .few-characters) (h .stands .literals-stand j (omega arith) .characters-over))

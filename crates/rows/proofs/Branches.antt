@@ -6,7 +6,7 @@ use native.Mathlib.Decide.{decLt}
 use mathlib.Core.Path.{_≡_, refl, sym, _∙_, ap, ap₂}
 use mathlib.Core.Option.{none, some}
 use mathlib.Core.List.{List, [], _∷_, _++_}
-use lib.ListN.{length, getD, take, drop, set, getElem?, length-take, length-drop}
+use lib.ListN.{length, getD, take, drop, set, getElem?, length-take, length-drop, length-append}
 use lib.Seq.{take-append-le, take-all, take-at, drop-at, drop-drop, take-take, length-take-le, take-set-le, take-set-lt, drop-set-add, getD-take, getD-drop}
 use lib.IntN.{ℤ, pos}
 use Rattle.calculus.specs.Facts.{Fact}
@@ -70,6 +70,12 @@ branch-take w (suc k) m h = go (λ l. branch-take w k m l) (decLt m (suc k))
     go ih (no n) =
         let e : m ≡ suc k = omega arith in
         take-all m (branchOf w (suc k)) (rw (length-branch w (suc k)) (omega arith)) ∙ ap (λ (i : ℕ). branchOf w i) (sym e)
+
+-- where facts were put behind the first k, these are as they were
+pub branch-grown : (w v : List ℤ) (k m : ℕ) (c : List Fact) → branchOf v m ≡ branchOf w k ++ c → (k ≤ m) × (branchOf v k ≡ branchOf w k)
+branch-grown w v k m c e =
+    let long : k ≤ m = omega (arith, sym (length-branch v m) ∙ ap length e ∙ length-append (branchOf w k) c, length-branch w k) in
+    (long, sym (branch-take v m k long) ∙ ap (take k) e ∙ take-at (branchOf w k) c k (length-branch w k))
 
 -- ---- a row is put in its own stretch
 

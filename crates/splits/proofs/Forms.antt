@@ -2,17 +2,16 @@
 use Prim.Native.Nat.{ℕ, zero, suc, _+_, _-_, _≤_, _<_}
 use native.Mathlib.Omega.{arith}
 use native.Mathlib.Decide.{ℕ-discrete, decLt}
-use mathlib.Core.Path.{_≡_, refl, sym, _∙_, ap, ap₂}
-use mathlib.Core.Bool.{Bool, true, false, _&&_}
+use mathlib.Core.Path.{_≡_, refl, sym, _∙_, ap}
+use mathlib.Core.Bool.{Bool, true, false}
 use mathlib.Core.Option.{some}
 use mathlib.Core.List.{List, [], _∷_, _++_, append-assoc, map}
 use borrow.Author.Tests.{le-leb, lt-leb, eq-eqb, ne-eqb}
-use lib.ListN.{length, set, drop, getElem?}
+use lib.ListN.{length, drop, getElem?}
 use lib.Dec.{eqb, leb}
-use lib.IntN.{ℤ, pos, negsuc, negℤ, natAbs}
+use lib.IntN.{ℤ, pos, negsuc, negℤ}
 use Rattle.calculus.specs.Limits.{numberLimit}
 use Rattle.calculus.specs.Alphabet.{characterCount}
-use Rattle.calculus.specs.LinearForms.{number}
 use Rattle.calculus.specs.Facts.{Fact, same, notSame, isLiteral, arithmetic, ge, eq, ne}
 use Rattle.calculus.specs.Children.{childAt, apartChildren, codelessChild, codeChild, cValidChildren, boundChild}
 use Rattle.calculus.specs.Rules.{then, apartOf, leastPower, lastChild}
@@ -21,14 +20,13 @@ use Rattle.format.specs.Checking.{fits, orNone, factWithin}
 use Rattle.format.specs.Fields.{allWithin}
 use Rattle.format.proofs.Faults.{not-both}
 use Rattle.rows.specs.Rows.{factOf, rowAt, branchOf}
-use Rattle.rows.specs.Work.{single, difference, tagOf}
+use Rattle.rows.specs.Work.{single, tagOf}
 use Rattle.rows.proofs.Forms.{column-single, minus-number, number-minus, above-column}
 use Rattle.rows.proofs.Branches.{branch-at, branch-beyond}
 use Rattle.rows.proofs.Tags.{row-relation}
 use Rattle.question.specs.declared.Progress.{Progress}
 use Rattle.question.specs.Columns.{columnAt}
 use Rattle.question.specs.Posed.{numbered}
-use Rattle.constraints.proofs.Ranges.{within-set}
 use Rattle.splits.specs.Children.{codeless, coded}
 
 -- ---- a child by its number
@@ -164,19 +162,3 @@ last-some s x m j h = go (decLt 1 (s .n))
     go : Dec (1 < s .n) → 2 ≤ s .n
     go (no l) = absurd (let z : length (lastChild (numbered s) x m) ≡ 0 = ap length (last-none s x m (omega arith)) in omega arith)
     go (yes n) = omega arith
-
--- ---- the limit
-
-within-number : (z : ℤ) → natAbs z ≤ numberLimit → allWithin numberLimit (number z) ≡ true
-unfolding allWithin
-within-number z h = ap₂ _&&_ (le-leb (natAbs z) numberLimit h) refl
-
-pub within-single : (c : ℤ) (j : ℕ) (k : ℤ) → natAbs c ≤ numberLimit → natAbs k ≤ numberLimit → allWithin numberLimit (single c j k) ≡ true
-unfolding single
-within-single c j k h g = within-set (number c) (suc j) k (within-number c h) (le-leb (natAbs k) numberLimit g)
-
-pub within-difference : (i j : ℕ) → allWithin numberLimit (difference i j) ≡ true
-unfolding difference
-within-difference i j =
-    within-set (set (number (pos 0)) (suc i) (pos 1)) (suc j) (negsuc 0)
-    (within-set (number (pos 0)) (suc i) (pos 1) (within-number (pos 0) (omega arith)) refl) refl

@@ -5,14 +5,13 @@ use native.Mathlib.Decide.{decLt}
 use mathlib.Core.Path.{_≡_, refl, sym, _∙_, ap, ap₂, subst}
 use mathlib.Core.Bool.{Bool, true, false, _&&_, and-true}
 use mathlib.Core.Option.{Option, some}
-use mathlib.Core.List.{List, [], _∷_, _++_}
-use lib.ListN.{length, getD, length-append}
+use mathlib.Core.List.{List, [], _∷_}
+use lib.ListN.{length, getD}
 use lib.Dec.{leb}
 use lib.IntN.{ℤ, pos, negsuc, negℤ, natAbs, _+ℤ_, _*ℤ_}
-use Rattle.lists.proofs.Every.{every-append}
 use Rattle.lists.proofs.Tests.{and-both}
 use Rattle.integers.proofs.Laws.{abs-neg, minus-one-*ℤ}
-use Rattle.calculus.specs.Limits.{numberLimit, factLimit}
+use Rattle.calculus.specs.Limits.{numberLimit}
 use Rattle.calculus.specs.LinearForms.{scale, above, below}
 use Rattle.calculus.specs.Facts.{Fact, isLiteral, arithmetic, ge}
 use Rattle.calculus.specs.Children.{lValidChildren, cValidChildren, cInjChildren, pairChildrenWith, pairChildren}
@@ -20,9 +19,7 @@ use Rattle.calculus.specs.Rules.{leastPower, lastChild}
 use Rattle.format.specs.Fields.{u16, u16s, within, allWithin}
 use Rattle.format.specs.StepForms.{lValid, cValid, cInj, card, rule}
 use Rattle.format.specs.Checking.{fits, orNone, childIn, factWithin, factsWithin, childrenWithin}
-use Rattle.rows.specs.Rows.{branchOf}
-use Rattle.rows.specs.Work.{Fine}
-use Rattle.rows.proofs.Branches.{length-branch}
+use Rattle.rows.proofs.Small.{within-single, within-difference}
 use Rattle.rows.proofs.Forms.{above-form, below-form, above-column, minus-number, columns-difference}
 use Rattle.question.specs.declared.Progress.{Progress}
 use Rattle.question.specs.Columns.{columnAt}
@@ -36,7 +33,7 @@ use Rattle.steps.proofs.Rule.{the-type}
 use Rattle.steps.proofs.Rules.{in-arm}
 use Rattle.steps.proofs.Bodies.{given, l-valid-variable, c-valid-variable}
 use Rattle.splits.proofs.Variables.{below-first}
-use Rattle.splits.proofs.Forms.{c-valid-children, last-is, last-none, within-single, within-difference}
+use Rattle.splits.proofs.Forms.{c-valid-children, last-is, last-none}
 use Rattle.splits.proofs.Operands.{c-inj-operands, card-operands, branch-child, apart-child}
 use Rattle.splits.proofs.Operands.{l-valid-child, c-valid-child, c-inj-differ, c-inj-child, card-child}
 
@@ -199,23 +196,3 @@ module _ {b : List ℕ} {s : Progress} {body m : ℕ} {w : List ℤ} {count : �
     two-children o =
         in-arm (λ (r : Rule). ruleNamed r ≡ rule b body → (c : List Fact) × (d : List Fact) × (given h ≡ some (c ∷ d ∷ []))) (1 ∷ 2 ∷ []) r
         ((λ e. (_, _, branch-child h e)), ((λ e. (_, _, apart-child h f e)), tt)) o n
-
--- ---- a child within the limits
-
--- a child's facts are put behind those of the branch
-pub fine-added : (w v : List ℤ) (count r : ℕ) (c : List Fact)
-    → Fine w count
-    → length v ≡ length w
-    → branchOf v r ≡ branchOf w count ++ c
-    → length (branchOf w count) + length c ≤ factLimit
-    → factsWithin c ≡ true
-    → Fine v r
-unfolding factsWithin
-fine-added w v count r c fine l e h t =
-    let n : r ≡ length (branchOf w count) + length c = sym (length-branch v r) ∙ ap length e ∙ length-append (branchOf w count) c in
-    let room = fine .room in
-    record {
-      few = omega arith;
-      room = omega arith;
-      small = ap factsWithin e ∙ every-append factWithin (branchOf w count) c ∙ ap₂ _&&_ (fine .small) t;
-    }

@@ -1,6 +1,5 @@
 -- The table of strings: one is stored and the others stay, and which strings are given.
-use Prim.Native.Nat.{ℕ, zero, suc, _+_, _*_, _/_, _≤_, _<_}
-use native.Mathlib.Nat.{div-le-of-le-mul}
+use Prim.Native.Nat.{ℕ, zero, suc, _+_, _*_, _≤_, _<_}
 use native.Mathlib.Numerals.{add-one}
 use native.Mathlib.Omega.{arith}
 use native.Mathlib.Decide.{decLt, ℕ-discrete}
@@ -26,12 +25,7 @@ use Rattle.calculus.specs.Model.{modelValue}
 use Rattle.calculus.specs.SaturationTest.{lowestVariable}
 use Rattle.calculus.specs.Strings.{given, freshFrom, oneChar, fixedBy}
 use Rattle.format.specs.Records.{size}
-use Rattle.format.specs.Places.{skip, texts, literalsFrom}
-use Rattle.format.proofs.Fields.{length-u32s}
-use Rattle.format.proofs.Places.{text-at}
 use Rattle.answer.specs.Table.{row}
-use Rattle.question.specs.declared.Progress.{Progress}
-use Rattle.question.specs.Posed.{asked, Posed}
 use Rattle.strings.specs.Filling.{sized, stringIn, before, givenStrings, isIt, fixedAt, completed}
 
 -- ---- a string by its size
@@ -244,14 +238,3 @@ module _ (u : Question) (ls : List ℕ) (m : List ℤ) (x : ℕ) where
 
   pub fixed-other : literalIn u ls x ≡ none → fixedAt u ls m x ≡ oneChar (eqℤ (modelValue u m len x) (pos 1)) (modelValue u m code x)
   fixed-other e = ap (λ (o : Option ℕ). fixedBy u o (modelValue u m len x) (modelValue u m code x)) e
-
--- no literal has more than 64 characters
-pub literal-short : (b : List ℕ) (s : Progress) (l : ℕ) → Posed b s → l ≤ s .literals → length (literal (asked b s) l) ≤ lengthLimit
-unfolding asked
-literal-short b s zero h g = omega arith
-literal-short b s (suc j) h g =
-    let k : ℕ = size b (skip b j literalsFrom) in
-    let e : length (getD (texts b (s .literals) literalsFrom) j []) ≡ k / 4 =
-    ap length (text-at b j (s .literals) literalsFrom (omega arith)) ∙ length-u32s b (skip b j literalsFrom + 6) (k / 4) in
-    let f : k / 4 ≤ lengthLimit = div-le-of-le-mul 4 (h .stands .literals-stand j (omega arith) .short) in
-    omega arith

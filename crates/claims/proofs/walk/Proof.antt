@@ -13,7 +13,7 @@ use mathlib.Core.List.{List, []}
 use native.Mathlib.Omega.{arith}
 use Rattle.calculus.specs.Classes.{labels}
 use Rattle.calculus.specs.Limits.{ticketBytes}
-use Rattle.format.specs.Records.{kind, size, next}
+use Rattle.format.specs.Records.{kind, size}
 use Rattle.format.specs.StepForms.{ruleOf, rule, formFor}
 use Rattle.format.proofs.Decoded.{at-least}
 use Rattle.format.specs.Reading.{stepsOn}

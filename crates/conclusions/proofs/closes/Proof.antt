@@ -7,9 +7,8 @@ use mathlib.Core.Path.{_∙_, ap, refl, sym}
 use native.Mathlib.Omega.{arith}
 use Rattle.calculus.specs.Rules.{children}
 use Rattle.calculus.specs.Steps.{AConf}
-use Rattle.format.proofs.Places.{length-texts}
-use Rattle.format.specs.Places.{literalsFrom}
 use Rattle.format.specs.StepForms.{aConf, sConf, stepOf}
+use Rattle.question.proofs.Posed.{literal-count}
 use Rattle.question.specs.Posed.{asked}
 use Rattle.rows.specs.Rows.{branchOf}
 use Rattle.steps.proofs.Bodies.{long, not-unknown, is-rule}
@@ -59,13 +58,13 @@ returns c =
     ∙ sym (offered-by b u br (a .body) (a .size) aConf (is-rule (s .pre .0) _ (c .before .before .enum-told .given .1)))
 
 returns-2 : tie.Need-returns-2
-unfolding stepOf asked
+unfolding stepOf
 returns-2 c =
     let s = c .before .before .before .before in
     let a = s .args in
     let b = now (a .ticket) in
     let u = asked b (a .s) in
-    c .s-conf .ensures u (length-texts b (a .s .literals) literalsFrom)
+    c .s-conf .ensures u (literal-count b (a .s))
     ∙ sym (offered-by b u (branchOf (now (a .work)) (a .count)) (a .body) (a .size) sConf (is-rule (s .pre .0) _ (c .before .enum-told2 .given .1)))
 
 returns-3 : tie.Need-returns-3

@@ -14,10 +14,10 @@ use Rattle.calculus.specs.Facts.{Question, arithmetic, eq}
 use Rattle.calculus.specs.Rules.{children}
 use Rattle.calculus.specs.Steps.{SProp}
 use Rattle.conclusions.proofs.Laws.{s-prop-adds, s-prop-other-class, s-prop-same}
-use Rattle.conclusions.proofs.Limits.{difference-within}
 use Rattle.conclusions.proofs.Tried.{concluded, eight, ten}
 use Rattle.question.specs.Columns.{columnAt}
 use Rattle.format.specs.StepForms.{functionOf}
+use Rattle.rows.proofs.Small.{within-difference}
 use Rattle.rows.specs.Rows.{branchOf}
 use Rattle.rows.specs.Work.{difference}
 use Rattle.conclusions.proofs.s_prop.Statement.{statement}
@@ -80,7 +80,7 @@ returns-3 : tie.Need-returns-3
 returns-3 c =
     let a = c .before .before .before .before .before .before .args in
     λ (u : Question) (same-p : u .p ≡ a .p) (same-q : u .q ≡ a .q). ten (now (a .work)) _ (a .count) _ _ (adds (c .before) u same-p same-q)
-    (difference-within _ _) (c .if3 .taken)
+    (within-difference _ _) (c .if3 .taken)
 
 put-difference-requires : tie.Need-put-difference-requires
 put-difference-requires c κs = search needs
@@ -94,7 +94,7 @@ returns-4 c =
     let s = columns .before .before .before .before .before in
     let a = s .args in
     λ (u : Question) (same-p : u .p ≡ a .p) (same-q : u .q ≡ a .q). concluded (now (a .work)) _ (a .count) _ _ (adds columns u same-p same-q)
-    (difference-within _ _) (s .pre .0 .0) (omega (arith, c .before .before .before .if3 .left)) (search needs) (c .before .put-difference .ensures)
+    (within-difference _ _) (s .pre .0 .0) (omega (arith, c .before .before .before .if3 .left)) (search needs) (c .before .put-difference .ensures)
 
 pub s-prop-spec : {M : Type 1} → statement M
 s-prop-spec =

@@ -10,7 +10,8 @@ use mir.Facts.{toZ-ofZ}
 use Rattle.calculus.specs.Classes.{literalIn}
 use Rattle.classes.specs.Classes.{literalOf}
 use Rattle.format.specs.Fields.{u32s}
-use Rattle.leaf.proofs.Laws.{literal-in, literal-known, literal-none, literal-some, literal-whole}
+use Rattle.leaf.proofs.Laws.{literal-known, literal-none, literal-some, literal-whole}
+use Rattle.question.proofs.Posed.{literal-in}
 use Rattle.question.specs.Posed.{asked}
 use Rattle.leaf.specs.Values.{textFits}
 use Rattle.leaf.proofs.literal_fits.Statement.{statement}

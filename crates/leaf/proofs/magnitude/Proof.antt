@@ -6,7 +6,8 @@ use mir.Facts.{toZ-ofZ}
 use native.Mathlib.Numerals.{add-one}
 use native.Mathlib.Omega.{arith}
 use Rattle.integers.proofs.Machine.{negative, not-negative}
-use Rattle.leaf.proofs.Signed.{rest-fits, rest-is}
+use Rattle.rows.proofs.Small.{rest-fits}
+use Rattle.leaf.proofs.Signed.{rest-is}
 use Rattle.leaf.proofs.magnitude.Statement.{statement}
 use Rattle.leaf.proofs.magnitude.Tie as tie
 

@@ -19,6 +19,7 @@ use Rattle.question.proofs.Posed.{some-character}
 use Rattle.rows.specs.Rows.{branchOf}
 use Rattle.rows.specs.Work.{Fine}
 use Rattle.rows.proofs.Branches.{length-branch}
+use Rattle.rows.proofs.Small.{fine-added}
 use Rattle.steps.specs.declared.Rule.{Rule}
 use Rattle.steps.specs.Rules.{ruleNamed, oneEach}
 use Rattle.steps.proofs.Bodies.{before, given, c-valid-variable, is-rule, shape-by}
@@ -26,7 +27,6 @@ use Rattle.steps.proofs.Children.{adds-one}
 use Rattle.steps.proofs.Offered.{step-fits, number-of, in-shape, child-size, its-shape, taken-fits, taken-within, taken-room}
 use Rattle.steps.proofs.Rules.{passes, not-several}
 use Rattle.splits.proofs.Forms.{c-valid-count, c-valid-size}
-use Rattle.splits.proofs.Limits.{fine-added}
 use Rattle.splits.proofs.Operands.{c-valid-child}
 use Rattle.splits.proofs.put_child.Statement.{statement}
 use Rattle.splits.proofs.put_child.Tie as tie

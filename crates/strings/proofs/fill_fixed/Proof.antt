@@ -18,9 +18,10 @@ use Rattle.calculus.specs.Strings.{oneChar}
 use Rattle.classes.specs.Classes.{literalOf}
 use Rattle.format.proofs.Fields.{length-u32s}
 use Rattle.format.specs.Fields.{u32s}
-use Rattle.leaf.proofs.Laws.{literal-in, literal-known, literal-whole}
+use Rattle.leaf.proofs.Laws.{literal-known, literal-whole}
+use Rattle.question.proofs.Posed.{literal-in, literal-short}
 use Rattle.question.specs.Posed.{asked, numbered}
-use Rattle.strings.proofs.Table.{fixed-literal, fixed-other, literal-short, sized-some}
+use Rattle.strings.proofs.Table.{fixed-literal, fixed-other, sized-some}
 use Rattle.strings.proofs.fill_fixed.Statement.{statement}
 use Rattle.strings.proofs.fill_fixed.Tie as tie
 
@@ -59,7 +60,7 @@ short c =
     let r = c .literal-text .result in
     omega (
       arith,
-      literal-short b (s .args .s) (c .before .before .found .given .0 .0) (s .pre .0 .0 .posed) (within (c .before)),
+      literal-short (s .pre .0 .0 .posed) (c .before .before .found .given .0 .0) (within (c .before)),
       ap length (text-is c),
       length-u32s b (r .at) (r .count),
     )
