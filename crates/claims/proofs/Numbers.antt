@@ -24,7 +24,7 @@ use Rattle.delimiters.specs.declared.Claim.the-variants.{NoSolution, Strings}
 use Rattle.delimiters.specs.Claims.{openUnder}
 use Rattle.delimiters.specs.Numbers.{openFault}
 use Rattle.delimiters.proofs.Open.{open-form, open-step, at-step}
-use Rattle.derivation.specs.State.{recordFault}
+use Rattle.derivation.specs.State.{triedAt}
 use Rattle.records.proofs.Finding.{all-there}
 use Rattle.claims.specs.Outcomes.{endsAt}
 
@@ -38,7 +38,7 @@ module _ (b : List ℕ) (s : Progress) (w : List ℤ) (count : ℕ) (ss : List (
   form claim m later = stepFault b (asked b s) (fieldFits claim b (s .n) (at + 6) m) later (at + 6) m
 
   abbrev tried : Claim → ℕ
-  tried claim = recordFault claim b s at w count (length ss)
+  tried claim = triedAt claim b s at w count (length ss)
 
   no-model : (y : Bool) (step later : ℕ) → cond y step (need 4 false later) ≡ need 4 y step
   no-model true step later = refl

@@ -30,7 +30,7 @@ use Rattle.branch.specs.Stack.{split, stack, latestOf}
 use Rattle.delimiters.specs.declared.Claim.{Claim}
 use Rattle.delimiters.specs.declared.Claim.the-variants.{NoSolution, Strings}
 use Rattle.delimiters.specs.Claims.{openUnder}
-use Rattle.derivation.specs.State.{childOn, waitings, stateOf, recordFault, KeepsBelow}
+use Rattle.derivation.specs.State.{childOn, waitings, stateOf, triedAt, KeepsBelow}
 use Rattle.derivation.specs.Ok.{Rooted, AllPend, InOrder}
 use Rattle.derivation.specs.Actions.{numberOf, Follows, Acts}
 use Rattle.derivation.specs.declared.Action.{Action}
@@ -176,9 +176,9 @@ module _ (b : List ℕ) (s : Progress) where
   -- the number that it was tried for is the record's: under claim 1 as many splits are pending as the depth says
   pub same-pending : (claim : Claim) (w : List ℤ) (c : code.Branch) (i : ℕ)
       → Holds claim b s w c
-      → recordFault claim b s i w (c .count) (c .depth) ≡ recordFault claim b s i w (c .count) (length (pendingOn w c))
+      → triedAt claim b s i w (c .count) (c .depth) ≡ triedAt claim b s i w (c .count) (length (pendingOn w c))
   unfolding Holds
-  same-pending NoSolution w c i h = ap (λ (j : ℕ). recordFault NoSolution b s i w (c .count) j) (sym (waiting h))
+  same-pending NoSolution w c i h = ap (λ (j : ℕ). triedAt NoSolution b s i w (c .count) j) (sym (waiting h))
   same-pending Strings w c i h = refl
 
   pub some-number : (claim : Claim) (w : List ℤ) (c : code.Branch) (i : ℕ) (v : List ℤ) (f : ℕ)

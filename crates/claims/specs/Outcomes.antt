@@ -15,7 +15,7 @@ use Rattle.delimiters.specs.declared.Claim.{Claim}
 use Rattle.delimiters.specs.declared.Claim.the-variants.{NoSolution, Strings}
 use Rattle.delimiters.specs.Claims.{openUnder}
 use Rattle.question.specs.declared.Progress.{Progress}
-use Rattle.question.specs.Posed.{asked}
+use Rattle.question.specs.Posed.{asked, Posed}
 use Rattle.rows.specs.Rows.{branchOf}
 use Rattle.rows.specs.Work.{Fine}
 use Rattle.claims.specs.declared.Walked as walked
@@ -29,6 +29,10 @@ WholeRecord b at k m = (k ≡ kind b at) × (m ≡ size b at) × (at + 6 + m ≤
 abbrev pub endsAt : Claim → ℕ → Bool
 endsAt NoSolution k = false
 endsAt Strings k = eqb k 7
+
+-- a question that was read, with its constraints in their rows
+abbrev pub Loaded : List ℕ → Progress → List ℤ → Type 0
+Loaded b s work = Posed b s × Fine work (s .constraints) × (branchOf work (s .constraints) ≡ asked b s .constraints)
 
 -- what is left to read of the steps under a claim, from record r at a position on, with nothing but the question's constraints on the branch
 abbrev pub walkFrom : Claim → List ℕ → Progress → ℕ → ℕ → Ticket Branch (List Fact)

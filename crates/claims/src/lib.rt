@@ -2,12 +2,10 @@
 ghost use mathlib.Core.Path.{_≡_};
 ghost use Prim.Native.Nat.{_+_, _≤_};
 ghost use lib.ListN.{length};
-ghost use Rattle.rows.specs.Rows.{branchOf};
-ghost use Rattle.rows.specs.Work.{Fine};
-ghost use Rattle.question.specs.Posed.{asked, Posed};
+ghost use Rattle.question.specs.Posed.{Posed};
 ghost use Rattle.steps.specs.Faults.{faultUnder};
 ghost use Rattle.delimiters.specs.Numbers.{openFault};
-ghost use Rattle.claims.specs.Outcomes.{WholeRecord, endsAt, walkFrom, walkedOf, LeafAt};
+ghost use Rattle.claims.specs.Outcomes.{WholeRecord, endsAt, Loaded, walkFrom, walkedOf, LeafAt};
 use branch::Branch;
 use classes::bring_up;
 use classes::nothing_known;
@@ -39,7 +37,7 @@ fn ends_steps(claim: Claim, kind: usize) -> bool
     }
 }
 
-// A whole record where a branch is open: its place, then its form. 0 for a step that may be taken.
+// A whole record where a branch is open: its place, then its form. 0 for a step of proper form.
 fn record_fault(
     ticket: &[u8],
     s: Progress,
@@ -78,8 +76,7 @@ pub fn walk(
     r: usize,
     work: &mut [i64],
 ) -> Walked
-    requires { ⌜ Posed (now ticket) s × (r ≤ «record») ⌝ }
-    requires { ⌜ Fine (now work) (s .constraints) × (branchOf (now work) (s .constraints) ≡ asked (now ticket) s .constraints) ⌝ }
+    requires { ⌜ Loaded (now ticket) s (now work) × (r ≤ «record») ⌝ }
     ensures walked { λ x. ⌜ walkedOf (now (ticket .entry)) s (now (work .exit)) x ≡ walkFrom claim (now (ticket .entry)) s r «record» ⌝ }
     ensures leaf { λ x. ⌜ LeafAt (now (ticket .entry)) (now (work .exit)) x ⌝ }
 {
@@ -103,11 +100,22 @@ pub fn walk(
         let rule = rule_of(u16_at(ticket, i + RECORD_HEAD));
         known = classes_for(rule, known, work, count);
         let labels = known.labels;
-        let d = b.depth as usize;
-        match take_step(ticket, s, claim, rule, i, size, work, count, d, labels) {
+        let pending = b.depth as usize;
+        match take_step(
+            ticket,
+            s,
+            claim,
+            rule,
+            i,
+            size,
+            work,
+            count,
+            pending,
+            labels,
+        ) {
             Action::Refused(c) => return Walked::Refused(c, k),
             Action::Closes => {
-                if d == 0 {
+                if pending == 0 {
                     return Walked::Closed(i + RECORD_HEAD + size, k + 1);
                 }
                 let split = b.latest();

@@ -6,8 +6,8 @@ use mathlib.Core.List.{List, [], _∷_, _++_}
 use Prim.Native.Nat.{ℕ, zero, suc, _+_, _-_, _≤_, _<_}
 use native.Mathlib.Numerals.{add-one}
 use native.Mathlib.Omega.{arith}
-use borrow.Author.Tests.{eqb-true}
-use lib.Dec.{eqb}
+use borrow.Author.Tests.{eqb-true, leb-true}
+use lib.Dec.{eqb, leb}
 use lib.ListN.{length, getD, take}
 use lib.IntN.{ℤ, pos}
 use Rattle.lists.specs.Lists.{anyBelow}
@@ -24,7 +24,7 @@ use Rattle.rows.specs.Work.{tagOf}
 use Rattle.rows.proofs.Branches.{branch-take, branch-grown}
 use Rattle.rows.proofs.Tags.{row-string}
 use Rattle.classes.specs.declared.Known.{Known}
-use Rattle.classes.specs.Classes.{Knows}
+use Rattle.classes.specs.Classes.{Knows, setBack}
 
 -- ---- labels
 
@@ -59,6 +59,19 @@ knows-kept {w} {v} {count} {k} e h =
     record { few = h .few; labelled = h .labelled ∙ ap labels same }
 
 -- beside more facts
+-- nothing is known
+pub knows-nothing : (w : List ℤ) (count : ℕ) (k : Known) → k .upto ≡ 0 → k .labels ≡ labels [] → Knows w count k
+unfolding branchOf
+knows-nothing w count k z e = record { few = omega arith; labelled = e ∙ ap (λ (n : ℕ). labels (branchOf w n)) (sym z) }
+
+-- what was set back is known there
+pub knows-back : (w : List ℤ) (count mark : ℕ) (known first : Known) → Knows w count known → Knows w mark first → Knows w mark (setBack known first mark)
+knows-back w count mark known first h f = go (leb (known .upto) mark) refl
+  where
+    go : (t : Bool) → leb (known .upto) mark ≡ t → Knows w mark (cond t known first)
+    go true e = record { few = leb-true (known .upto) mark e; labelled = h .labelled }
+    go false e = f
+
 pub knows-more : {w : List ℤ} {count more : ℕ} {k : Known} → Knows w count k → count ≤ more → Knows w more k
 knows-more h l = let few = h .few in record { few = omega arith; labelled = h .labelled }
 

@@ -1,11 +1,10 @@
 // Classes of variables and literals: labels of the 32 nodes, from the rows of a branch.
 ghost use mathlib.Core.Path.{_≡_};
 ghost use mathlib.Core.Bool.{cond};
-ghost use mathlib.Core.List.{List, [], _∷_};
-ghost use Prim.Native.Nat.{ℕ, _*_, _≤_, _<_};
+ghost use mathlib.Core.List.{[], _∷_};
+ghost use Prim.Native.Nat.{_*_, _≤_, _<_};
 ghost use lib.ListN.{length};
 ghost use lib.Dec.{eqb};
-ghost use lib.IntN.{ℤ};
 ghost use Rattle.lists.specs.Lists.{anyBelow};
 ghost use Rattle.calculus.specs.Limits.{variableLimit, factLimit};
 ghost use Rattle.calculus.specs.Chains.{varNode, litNode};
@@ -13,7 +12,7 @@ ghost use Rattle.calculus.specs.Classes as classes;
 ghost use Rattle.calculus.specs.Classes.{nodeCount, upFrom, mergeNodes, mergeFact, sameClass, lowestLiteral, sidesMeet, literalMeets, clash};
 ghost use Rattle.calculus.specs.SaturationTest.{lowestVariable};
 ghost use Rattle.rows.specs.Rows.{rowLength, factOf, branchOf};
-ghost use Rattle.classes.specs.Classes.{literalOf, Knows};
+ghost use Rattle.classes.specs.Classes.{Knows, setBack, literalOf};
 use limits::NODE_COUNT;
 use rows::FIRST;
 use rows::SECOND;
@@ -155,7 +154,7 @@ fn merge_row(row: &[i64], labels: [u8; NODE_COUNT]) -> [u8; NODE_COUNT]
 
 // The labels of a branch without facts.
 pub fn nothing_known() -> Known
-    ensures { λ r. ⌜ ((w : List ℤ) (count : ℕ) → Knows w count r) ⌝ }
+    ensures { λ r. ⌜ (r .upto ≡ 0) × (r .labels ≡ classes.labels []) ⌝ }
 {
     Known {
         labels: first_labels(),
@@ -185,7 +184,7 @@ pub fn bring_up(known: Known, work: &[i64], count: usize) -> Known
 
 // What is known of the first `mark` facts: what was kept, or, where that goes further, what is known of the question's constraints.
 pub fn set_back(known: Known, first: Known, mark: usize) -> Known
-    ensures { λ r. ⌜ ((w : List ℤ) (count : ℕ) → Knows w count known → Knows w mark first → Knows w mark r) ⌝ }
+    ensures { λ r. ⌜ r ≡ setBack known first mark ⌝ }
 {
     if known.upto <= mark {
         return known;

@@ -17,7 +17,7 @@ ghost use Rattle.classes.specs.Classes.{Knows};
 ghost use Rattle.steps.specs.declared.Conclusions.the-variants.{Nothing, One};
 ghost use Rattle.steps.specs.Offered.{offeredOn, withChild, childFault};
 ghost use Rattle.steps.specs.Ready.{ReadyBy};
-ghost use Rattle.conclusions.specs.Labels.{Labelled};
+ghost use Rattle.conclusions.specs.Labels.{KnownFor, Labelled};
 ghost use Rattle.conclusions.specs.Made.{closingOf, Concludes, ConcludesBy, ofLiteral};
 ghost use Rattle.conclusions.specs.Sums.{FormedSum, sumAt};
 use classes::Known;
@@ -40,8 +40,7 @@ use steps::Rule;
 // What is known of the classes where a step is by a rule: all `count` facts are brought in if the rule asks for classes.
 pub fn classes_for(rule: Rule, known: Known, work: &[i64], count: usize) -> Known
     requires { ⌜ Knows (now work) count known × Fine (now work) count ⌝ }
-    ensures known { λ r. ⌜ Knows (now (work .entry)) count r ⌝ }
-    ensures labelled { λ r. ⌜ Labelled rule (r .labels) (now (work .entry)) count ⌝ }
+    ensures { λ r. ⌜ KnownFor rule known (now (work .entry)) count r ⌝ }
 {
     match rule {
         Rule::SConf | Rule::SProp | Rule::LIntro | Rule::CCollapse => {
@@ -71,7 +70,7 @@ fn s_conf(literals: usize, work: &[i64], count: usize, labels: [u8; NODE_COUNT])
     requires { ⌜ labels ≡ calculus.labels (branchOf (now work) count) ⌝ }
     ensures { λ r. ⌜ ((u : Question) → length (u .literals) ≡ literals → closingOf r ≡ children u (branchOf (now (work .entry)) count) SConf) ⌝ }
 {
-    classes::conflict(work, count, labels, literals + 1)
+    classes::conflict(work, count, &labels, literals + 1)
 }
 
 // Does a step of A-Conf or S-Conf close the branch?
@@ -98,9 +97,10 @@ pub fn closes(
     }
 }
 
-// ---- rules with one conclusion: the first of 8 to 10 that applies; 0 for none, and then the fact that the step adds stands behind the others
+// ---- rules with one conclusion: the first of 8 to 10 that applies; 0 for none, and then the fact that the step adds stands behind the others. Only Sum can make a number
+// that passes the limit (9).
 
-// Sum: "Adds a ≥ fact". Its numbers may pass the limit, so it is summed in a row aside.
+// Sum: "Adds a ≥ fact". It is summed in a row aside: 8 and 9 come before 10, and behind 128 facts there is no stretch to sum in.
 fn sum(ticket: &[u8], body: usize, size: usize, work: &mut [i64], count: usize) -> usize
     requires { ⌜ FormedSum (now ticket) body size ⌝ }
     requires { ⌜ Fine (now work) count ⌝ }
@@ -141,7 +141,7 @@ fn s_prop(
     if x == y {
         return 8;
     }
-    if !classes::one_class(labels, x, y) {
+    if !classes::one_class(&labels, x, y) {
         return 8;
     }
     let column = column_of(p, q, function, x);
@@ -178,7 +178,7 @@ fn of_literal(
     requires { ⌜ labels ≡ calculus.labels (branchOf (now work) count) ⌝ }
     ensures { λ r. ⌜ Concludes (ofLiteral (now (ticket .entry)) s (now (work .entry)) count function x) (now (work .entry)) count (now (work .exit)) r ⌝ }
 {
-    let found = classes::class_literal(labels, s.literals + 1, x);
+    let found = classes::class_literal(&labels, s.literals + 1, x);
     match found {
         Lowest::Nothing => 8,
         Lowest::Literal(l) => {

@@ -1,9 +1,8 @@
 -- What a ticket comes to on buffers that are large enough, as the code tells it.
 use mathlib.Core.Path.{_≡_}
-use mathlib.Core.List.{List, []}
+use mathlib.Core.List.{List}
 use Prim.Native.Nat.{ℕ, _+_, _≤_}
 use lib.ListN.{length}
-use lib.IntN.{ℤ}
 use Rattle.calculus.specs.Limits.{ticketBytes, factLimit}
 use Rattle.calculus.specs.Facts.{Fact, Branch}
 use Rattle.format.specs.Question.{checkingManner, question}
@@ -12,13 +11,11 @@ use Rattle.format.specs.Checking as format
 use Rattle.format.specs.Checking.{checker, outcomeOf}
 use Rattle.format.specs.Demands.{answerAfter}
 use Rattle.delimiters.specs.declared.Claim.{Claim}
-use Rattle.delimiters.specs.Claims.{openUnder}
+use Rattle.claims.specs.Outcomes.{walkFrom}
 use Rattle.question.specs.declared.Progress.{Progress}
 use Rattle.question.specs.Progress.{progressOf}
 use Rattle.question.specs.Standing.{StandsTo}
-use Rattle.question.specs.Posed.{asked, Posed}
-use Rattle.rows.specs.Rows.{branchOf}
-use Rattle.rows.specs.Work.{Fine}
+use Rattle.question.specs.Posed.{asked}
 use Rattle.deciding.specs.declared.Outcome.{Outcome}
 use Rattle.deciding.specs.declared.Outcome.the-variants.{Refused, NoSolution, Strings}
 
@@ -35,7 +32,7 @@ outcomeFrom b s st r at = outcomeOf (stepsOn (checker (asked b s)) b (asked b s)
 
 -- behind a claim, at the claim, and at the first record
 abbrev pub steppedFrom : Claim → List ℕ → Progress → ℕ → ℕ → format.Outcome
-steppedFrom claim b s r at = outcomeFrom b s (openUnder claim (asked b s .constraints) []) r at
+steppedFrom claim b s r at = outcomeOf (walkFrom claim b s r at)
 
 abbrev pub claimedFrom : List ℕ → Progress → ℕ → ℕ → format.Outcome
 claimedFrom b s at r = outcomeOf (readClaim checker b (progressOf b s) at r)
@@ -47,10 +44,6 @@ readWhole b = outcomeOf (readBehind checker b (question b))
 abbrev pub ReadTo : List ℕ → Progress → ℕ → ℕ → Type 0
 ReadTo b s at r =
     StandsTo (checkingManner .greatest) b s at × (at + 6 ≤ length b) × (length b ≤ ticketBytes) × (s .constraints ≤ factLimit) × (r ≤ at)
-
--- a question that was read, with its constraints in their rows
-abbrev pub Loaded : List ℕ → Progress → List ℤ → Type 0
-Loaded b s work = Posed b s × Fine work (s .constraints) × (branchOf work (s .constraints) ≡ asked b s .constraints)
 
 -- a part of checking comes to an outcome: it tells it, and of the answer buffer changes the answer's bytes only
 pub record Decided (o : format.Outcome) (answer answer' : List ℕ) (r : Outcome) : Type 0 where

@@ -43,7 +43,7 @@ use Rattle.steps.proofs.Offered.{fitted}
 use Rattle.trials.proofs.Tried.{closing-eight}
 use Rattle.conclusions.specs.Made.{closingOf}
 use Rattle.conclusions.proofs.Tried.{Single, one-conclusion, tried-once}
-use Rattle.derivation.specs.State.{offeredIn, recordFault}
+use Rattle.derivation.specs.State.{offeredIn, triedAt}
 use Rattle.derivation.specs.Ok.{Splits}
 use Rattle.derivation.specs.Actions.{numberOf, Begins, Follows, Acts, begunChild, begunAs, ReadyUnder}
 use Rattle.derivation.specs.declared.Action.the-variants as action
@@ -160,7 +160,7 @@ begun-number NoSolution last k = go (leb last 1)
 begun-number Strings last k = refl
 
 module _ (b : List ℕ) (s : Progress) (at m : ℕ) (em : m ≡ size b at) (w : List ℤ) (count : ℕ) where
-  pub by-size : (claim : Claim) (pending f : ℕ) → f ≡ triedUnder claim b s (at + 6) m w count pending → f ≡ recordFault claim b s at w count pending
+  pub by-size : (claim : Claim) (pending f : ℕ) → f ≡ triedUnder claim b s (at + 6) m w count pending → f ≡ triedAt claim b s at w count pending
   by-size claim pending f e = e ∙ ap (λ (i : ℕ). triedUnder claim b s (at + 6) i w count pending) em
 
   -- the child taken stands behind the branch
@@ -174,7 +174,7 @@ module _ (b : List ℕ) (s : Progress) (at m : ℕ) (em : m ≡ size b at) (w : 
   refuses Strings pending n v h = h
 
   -- a rule that closes has no child to take
-  pub none-to-take : Ready b s (at + 6) m w count → conclusionsOf (rule b (at + 6)) ≡ Nothing → (pending : ℕ) → 8 ≡ recordFault Strings b s at w count pending
+  pub none-to-take : Ready b s (at + 6) m w count → conclusionsOf (rule b (at + 6)) ≡ Nothing → (pending : ℕ) → 8 ≡ triedAt Strings b s at w count pending
   none-to-take h c pending = by-size Strings pending 8 (closing-eight h (childField b (at + 6)) c)
 
   -- ---- one conclusion
@@ -188,7 +188,7 @@ module _ (b : List ℕ) (s : Progress) (at m : ℕ) (em : m ≡ size b at) (w : 
         → f ≡ childFault b s (at + 6) m w count 1
         → (claim : Claim) (pending : ℕ)
         → fieldFits claim b (s .n) (at + 6) m ≡ true
-        → f ≡ recordFault claim b s at w count pending
+        → f ≡ triedAt claim b s at w count pending
     one-number f e NoSolution pending fits =
         by-size NoSolution pending f
         (one-tried b (asked b s) (branchOf w count) at m em (h .ready .formed .fits) (its-kind h) f e pending)

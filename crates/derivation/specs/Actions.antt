@@ -1,4 +1,4 @@
--- What the code says of a step.
+-- A step that is ready to be taken under a claim, and what the code says of it.
 use Prim.Native.Nat.{ℕ, _+_, _≤_, _<_}
 use mathlib.Core.Path.{_≡_}
 use mathlib.Core.Bool.{true, cond}
@@ -22,7 +22,7 @@ use Rattle.steps.specs.Faults.{fieldFits}
 use Rattle.steps.specs.Ready.{Ready}
 use Rattle.steps.specs.Conclusions.{conclusionsOf}
 use Rattle.steps.specs.declared.Conclusions.the-variants.{Several}
-use Rattle.derivation.specs.State.{offeredIn, childOn, recordFault}
+use Rattle.derivation.specs.State.{offeredIn, childOn, triedAt}
 use Rattle.derivation.specs.Ok.{Splits}
 use Rattle.derivation.specs.declared.Action as action
 use Rattle.derivation.specs.declared.Action.{Action}
@@ -73,16 +73,16 @@ ActsOn claim b s at pending v count w a = Acts claim b (asked b s) at pending v 
 abbrev pub ConcludesUnder : List ℕ → Progress → ℕ → ℕ → List ℤ → ℕ → List ℤ → Action → Type 0
 ConcludesUnder b s at m v count w a =
     (claim : Claim) (pending : ℕ) → fieldFits claim b (s .n) (at + 6) m ≡ true
-    → (numberOf a ≡ recordFault claim b s at v count pending) × ActsOn claim b s at pending v count w a
+    → (numberOf a ≡ triedAt claim b s at v count pending) × ActsOn claim b s at pending v count w a
 
 -- ---- a split whose child begins
 
--- "its first child begins" under claim 1; under claim 2 the child taken
+-- the child that begins: "children are worked left to right", so the first under claim 1; under claim 2 "the child taken"
 abbrev pub begunChild : Claim → List ℕ → ℕ → ℕ
 begunChild NoSolution b body = 1
 begunChild Strings b body = childField b body
 
--- with so many children in all and so many facts on the branch then
+-- what the split comes to then, with so many children in all and so many facts on the branch
 abbrev pub begunAs : Claim → ℕ → ℕ → Action
 begunAs NoSolution last k = cond (leb last 1) (action.the-variants.Extends k) (action.the-variants.Splits k last)
 begunAs Strings last k = action.the-variants.Extends k

@@ -30,8 +30,8 @@ abbrev pub childOn : List ℕ → Question → Branch → ℕ → ℕ → List F
 childOn b u br at k = offeredChild b u br (at + 6) (size b at) k
 
 -- the first of 8 to 10 that applies to the step under a claim, on the branch of the first count rows of the work area with so many splits pending; 0 for none
-abbrev pub recordFault : Claim → List ℕ → Progress → ℕ → List ℤ → ℕ → ℕ → ℕ
-recordFault claim b s at w count pending = triedUnder claim b s (at + 6) (size b at) w count pending
+abbrev pub triedAt : Claim → List ℕ → Progress → ℕ → List ℤ → ℕ → ℕ → ℕ
+triedAt claim b s at w count pending = triedUnder claim b s (at + 6) (size b at) w count pending
 
 -- the walk once it is taken on the branch br, where the splits ss are pending: format's `stepped`
 abbrev pub steppedOn : List ℕ → Question → Branch → List (Waiting Branch (List Fact)) → ℕ → Walk Branch (List Fact)
@@ -57,7 +57,7 @@ stateOf b u w c = walkOf b u (branchOf w (c .count)) (stack c)
 abbrev pub CutsBack : List ℕ → Progress → List ℤ → code.Branch → List ℤ → code.Branch → Type 0
 CutsBack b s v c w d = stateOf b (asked b s) w d ≡ cutBack _++_ (waitings b (asked b s) (branchOf v (c .count)) (stack c))
 
--- and the facts below the mark stand as they did
+-- the facts below the mark stand as they did, and the branch has grown from there
 pub record KeepsBelow (mark : ℕ) (v w : List ℤ) (d : code.Branch) : Type 0 where
   pub below : branchOf w mark ≡ branchOf v mark
   pub behind : mark ≤ d .count

@@ -9,7 +9,7 @@ ghost use Rattle.steps.specs.declared.Conclusions.the-variants.{Nothing, One, S
 ghost use Rattle.steps.specs.Ready.{ReadyBy};
 ghost use Rattle.conclusions.specs.Labels.{Labelled};
 ghost use Rattle.branch.specs.Stack.{stack, latestOf};
-ghost use Rattle.derivation.specs.State.{recordFault, CutsBack, KeepsBelow};
+ghost use Rattle.derivation.specs.State.{triedAt, CutsBack, KeepsBelow};
 ghost use Rattle.derivation.specs.Ok.{InOrder};
 ghost use Rattle.derivation.specs.Actions.{numberOf, ActsOn, ConcludesUnder, begunChild, begunAs, ReadyUnder};
 use branch::Branch;
@@ -37,7 +37,7 @@ pub enum Action {
 
 // ---- a step on the branch of the first rows, with so many splits pending
 
-// A step of A-Conf or S-Conf, which closes the branch; 8 where it does not fit. Under claim 2 it never does.
+// A step of A-Conf or S-Conf, which closes the branch; 8 where it does not fit. "Closing rules do not fit under claim 2".
 fn take_closing(
     ticket: &[u8],
     s: Progress,
@@ -51,7 +51,7 @@ fn take_closing(
 ) -> Action
     requires { ⌜ ReadyUnder claim rule (now ticket) s «record» size (now work) count ⌝ }
     requires { ⌜ (conclusionsOf (ruleNamed rule) ≡ Nothing) × Labelled rule labels (now work) count ⌝ }
-    ensures number { λ r. ⌜ ((pending : ℕ) → numberOf r ≡ recordFault claim (now (ticket .entry)) s «record» (now (work .entry)) count pending) ⌝ }
+    ensures number { λ r. ⌜ ((pending : ℕ) → numberOf r ≡ triedAt claim (now (ticket .entry)) s «record» (now (work .entry)) count pending) ⌝ }
     ensures acts { λ r. ⌜ ((pending : ℕ) → ActsOn claim (now (ticket .entry)) s «record» pending (now (work .entry)) count (now (work .entry)) r) ⌝ }
 {
     match claim {
@@ -100,7 +100,7 @@ fn begun_child(ticket: &[u8], claim: Claim, body: usize) -> usize
     }
 }
 
-// What a split of so many children comes to, once a child has begun: it is pending under claim 1 alone, and where a second child is left.
+// What a split of so many children comes to, once a child has begun: it is pending under claim 1 alone, and only where a second child is left.
 fn begun_as(claim: Claim, last: usize, begun: usize) -> Action
     ensures { λ r. ⌜ r ≡ begunAs claim last begun ⌝ }
 {
@@ -128,7 +128,7 @@ fn take_split(
     pending: usize,
 ) -> Action
     requires { ⌜ ReadyUnder claim rule (now ticket) s «record» size (now work) count × (conclusionsOf (ruleNamed rule) ≡ Several) ⌝ }
-    ensures number { λ r. ⌜ numberOf r ≡ recordFault claim (now (ticket .entry)) s «record» (now (work .entry)) count pending ⌝ }
+    ensures number { λ r. ⌜ numberOf r ≡ triedAt claim (now (ticket .entry)) s «record» (now (work .entry)) count pending ⌝ }
     ensures acts { λ r. ⌜ ActsOn claim (now (ticket .entry)) s «record» pending (now (work .entry)) count (now (work .exit)) r ⌝ }
 {
     let body = record + RECORD_HEAD;
@@ -156,7 +156,7 @@ pub fn take_step(
     labels: [u8; NODE_COUNT],
 ) -> Action
     requires { ⌜ ReadyUnder claim rule (now ticket) s «record» size (now work) count × Labelled rule labels (now work) count ⌝ }
-    ensures number { λ r. ⌜ numberOf r ≡ recordFault claim (now (ticket .entry)) s «record» (now (work .entry)) count pending ⌝ }
+    ensures number { λ r. ⌜ numberOf r ≡ triedAt claim (now (ticket .entry)) s «record» (now (work .entry)) count pending ⌝ }
     ensures acts { λ r. ⌜ ActsOn claim (now (ticket .entry)) s «record» pending (now (work .entry)) count (now (work .exit)) r ⌝ }
 {
     match steps::conclusions_of(rule) {

@@ -244,13 +244,13 @@ pub fn put_difference(work: &mut [i64], k: usize, relation: usize, i: usize, j: 
 
 // ---- facts derived from an earlier fact, each written straight into its own stretch of the work area
 
-// Row k becomes an earlier row.
-fn copy_row(work: &mut [i64], k: usize, from: usize)
-    requires { ⌜ (from < k) × (k < factLimit) × (workNumbers ≤ length (now work)) ⌝ }
-    ensures row { λ _. ⌜ rowAt (now (work .exit)) k ≡ rowAt (now (work .entry)) from ⌝ }
+// Row k becomes a copy of an earlier row.
+fn copy_row(work: &mut [i64], k: usize, earlier: usize)
+    requires { ⌜ (earlier < k) × (k < factLimit) × (workNumbers ≤ length (now work)) ⌝ }
+    ensures row { λ _. ⌜ rowAt (now (work .exit)) k ≡ rowAt (now (work .entry)) earlier ⌝ }
     ensures before { λ _. ⌜ take (rowLength * k) (now (work .exit)) ≡ take (rowLength * k) (now (work .entry)) ⌝ }
 {
-    let source = ROW_LENGTH * from;
+    let source = ROW_LENGTH * earlier;
     let target = ROW_LENGTH * k;
     let mut j = 0;
     while j < ROW_LENGTH {
@@ -261,22 +261,22 @@ fn copy_row(work: &mut [i64], k: usize, from: usize)
 }
 
 // e = 0, of the earlier row of e, behind the first k facts.
-pub fn put_equation(work: &mut [i64], k: usize, from: usize)
-    requires { ⌜ (from < k) × (k < factLimit) × (workNumbers ≤ length (now work)) ⌝ }
-    ensures { λ _. ⌜ Behind (now (work .entry)) k (arithmetic eq (drop 1 (rowAt (now (work .entry)) from))) (now (work .exit)) ⌝ }
+pub fn put_equation(work: &mut [i64], k: usize, earlier: usize)
+    requires { ⌜ (earlier < k) × (k < factLimit) × (workNumbers ≤ length (now work)) ⌝ }
+    ensures { λ _. ⌜ Behind (now (work .entry)) k (arithmetic eq (drop 1 (rowAt (now (work .entry)) earlier))) (now (work .exit)) ⌝ }
 {
-    copy_row(work, k, from);
+    copy_row(work, k, earlier);
     work[ROW_LENGTH * k + TAG] = TAG_EQ as i64;
 }
 
 // Row k becomes −e behind the tag of ≥, of the earlier row of e.
-fn copy_negative(work: &mut [i64], k: usize, from: usize)
-    requires { ⌜ (from < k) × (k < factLimit) × (workNumbers ≤ length (now work)) ⌝ }
-    requires { ⌜ allWithin numberLimit (drop 1 (rowAt (now work) from)) ≡ true ⌝ }
-    ensures row { λ _. ⌜ rowAt (now (work .exit)) k ≡ pos 0 ∷ scale (negsuc 0) (drop 1 (rowAt (now (work .entry)) from)) ⌝ }
+fn copy_negative(work: &mut [i64], k: usize, earlier: usize)
+    requires { ⌜ (earlier < k) × (k < factLimit) × (workNumbers ≤ length (now work)) ⌝ }
+    requires { ⌜ allWithin numberLimit (drop 1 (rowAt (now work) earlier)) ≡ true ⌝ }
+    ensures row { λ _. ⌜ rowAt (now (work .exit)) k ≡ pos 0 ∷ scale (negsuc 0) (drop 1 (rowAt (now (work .entry)) earlier)) ⌝ }
     ensures before { λ _. ⌜ take (rowLength * k) (now (work .exit)) ≡ take (rowLength * k) (now (work .entry)) ⌝ }
 {
-    let source = ROW_LENGTH * from;
+    let source = ROW_LENGTH * earlier;
     let target = ROW_LENGTH * k;
     work[target + TAG] = TAG_GE as i64;
     let mut j = CONSTANT;
@@ -288,25 +288,25 @@ fn copy_negative(work: &mut [i64], k: usize, from: usize)
 }
 
 // e − 1 ≥ 0, of the earlier row of e, behind the first k facts.
-pub fn put_above(work: &mut [i64], k: usize, from: usize)
-    requires { ⌜ (from < k) × (k < factLimit) × (workNumbers ≤ length (now work)) ⌝ }
-    requires { ⌜ allWithin numberLimit (drop 1 (rowAt (now work) from)) ≡ true ⌝ }
-    ensures { λ _. ⌜ Behind (now (work .entry)) k (arithmetic ge (above (drop 1 (rowAt (now (work .entry)) from)))) (now (work .exit)) ⌝ }
+pub fn put_above(work: &mut [i64], k: usize, earlier: usize)
+    requires { ⌜ (earlier < k) × (k < factLimit) × (workNumbers ≤ length (now work)) ⌝ }
+    requires { ⌜ allWithin numberLimit (drop 1 (rowAt (now work) earlier)) ≡ true ⌝ }
+    ensures { λ _. ⌜ Behind (now (work .entry)) k (arithmetic ge (above (drop 1 (rowAt (now (work .entry)) earlier)))) (now (work .exit)) ⌝ }
 {
-    let c = work[ROW_LENGTH * from + CONSTANT];
-    copy_row(work, k, from);
+    let c = work[ROW_LENGTH * earlier + CONSTANT];
+    copy_row(work, k, earlier);
     work[ROW_LENGTH * k + TAG] = TAG_GE as i64;
     work[ROW_LENGTH * k + CONSTANT] = c - 1;
 }
 
 // −e − 1 ≥ 0, of the earlier row of e, behind the first k facts.
-pub fn put_below(work: &mut [i64], k: usize, from: usize)
-    requires { ⌜ (from < k) × (k < factLimit) × (workNumbers ≤ length (now work)) ⌝ }
-    requires { ⌜ allWithin numberLimit (drop 1 (rowAt (now work) from)) ≡ true ⌝ }
-    ensures { λ _. ⌜ Behind (now (work .entry)) k (arithmetic ge (below (drop 1 (rowAt (now (work .entry)) from)))) (now (work .exit)) ⌝ }
+pub fn put_below(work: &mut [i64], k: usize, earlier: usize)
+    requires { ⌜ (earlier < k) × (k < factLimit) × (workNumbers ≤ length (now work)) ⌝ }
+    requires { ⌜ allWithin numberLimit (drop 1 (rowAt (now work) earlier)) ≡ true ⌝ }
+    ensures { λ _. ⌜ Behind (now (work .entry)) k (arithmetic ge (below (drop 1 (rowAt (now (work .entry)) earlier)))) (now (work .exit)) ⌝ }
 {
-    let c = work[ROW_LENGTH * from + CONSTANT];
-    copy_negative(work, k, from);
+    let c = work[ROW_LENGTH * earlier + CONSTANT];
+    copy_negative(work, k, earlier);
     work[ROW_LENGTH * k + CONSTANT] = -1 - c;
 }
 

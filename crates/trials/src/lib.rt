@@ -51,7 +51,7 @@ fn room_to_pend(rule: Rule, n: usize, size: usize, pending: usize) -> bool
     pending < PENDING_LIMIT
 }
 
-// "Under claim 1 all children of a split are tried for 9 and 10 at the split's own record": of a step that fits.
+// "Under claim 1 all children of a split are tried for 9 and 10 at the split's own record": of a step that fits, 9 or 10, 0 for neither.
 fn all_fault(
     ticket: &[u8],
     s: Progress,
@@ -80,7 +80,7 @@ fn all_fault(
 
 // ---- the child taken under claim 2
 
-// "under claim 2 only the one taken": child k of a step that fits.
+// "under claim 2 only the one taken": child k of a step that fits, 9 or 10, 0 for neither.
 fn taken_fault(
     ticket: &[u8],
     s: Progress,

@@ -21,7 +21,10 @@ use Rattle.format.specs.Checking.{checker}
 use Rattle.rows.specs.Rows.{branchOf}
 use Rattle.rows.proofs.Branches.{length-branch}
 use Rattle.records.proofs.Finding.{found-whole, not-whole, all-there}
+use Rattle.classes.specs.declared.Known.{Known}
 use Rattle.classes.specs.Classes.{Knows}
+use Rattle.classes.proofs.Laws.{knows-nothing, knows-back}
+use Rattle.conclusions.proofs.Labels.{known-for}
 use Rattle.question.specs.Posed.{asked}
 use Rattle.steps.specs.Faults.{faultUnder}
 use Rattle.steps.proofs.Table.{least-four}
@@ -69,11 +72,14 @@ nothing-known-requires c κs = search needs
 bring-up-requires : tie.Need-bring-up-requires Inv-loop μ-loop
 bring-up-requires c κs =
     let s = c .before .before .before in
-    let f = s .pre .1 .0 in
-    (c .before .nothing-known .ensures (now (s .args .work)) (s .args .s .constraints), (f .few, omega (arith, f .few, f .room)))
+    let f = s .pre .0 .1 in
+    let none = c .before .nothing-known in (
+      knows-nothing (now (s .args .work)) (s .args .s .constraints) (none .result) (none .ensures .0) (none .ensures .1),
+      (f .few, omega (arith, f .few, f .room)),
+    )
 
 new-requires : tie.Need-new-requires Inv-loop μ-loop
-new-requires c κs = c .before .before .before .before .pre .1 .0 .few
+new-requires c κs = c .before .before .before .before .pre .0 .1 .few
 
 loop-holds : tie.Need-loop-holds Inv-loop μ-loop
 loop-holds c =
@@ -84,8 +90,8 @@ loop-holds c =
       few = omega (arith, first .ensures .0);
       labelled = first .ensures .1 ∙ ap (λ j. labels (branchOf w j)) (sym (first .ensures .0));
     } in
-    starts (now (s .args .ticket)) (s .args .s) w (c .new .result) (s .pre .0 .0) (s .pre .1 .0) (s .pre .1 .1) (c .new .ensures .0) (c .new .ensures .1)
-    (s .args .claim) (s .args .r) (s .args .«record») (first .result) (s .pre .0 .1) known
+    starts (now (s .args .ticket)) (s .args .s) w (c .new .result) (s .pre .0 .0) (s .pre .0 .1) (s .pre .0 .2) (c .new .ensures .0) (c .new .ensures .1)
+    (s .args .claim) (s .args .r) (s .args .«record») (first .result) (s .pre .1) known
 
 read-at-requires : tie.Need-read-at-requires Inv-loop μ-loop
 read-at-requires c κs = search needs
@@ -229,13 +235,13 @@ classes-for-requires c κs =
     let o = atLoop (foundAt (c .before .before .before)) .loop in
     (o .inv .knows, ready (c .before) .ready .fine)
 
-cast-d : tie.Need-cast-d Inv-loop μ-loop
-cast-d c = search needs
+cast-pending : tie.Need-cast-pending Inv-loop μ-loop
+cast-pending c = search needs
 
 take-step-requires : tie.Need-take-step-requires Inv-loop μ-loop
 take-step-requires c κs =
     let kept = c .before .before .before in
-    (ready (kept .before .before), kept .classes-for .ensures .1)
+    (ready (kept .before .before), known-for (atLoop (foundAt (kept .before .before .before .before)) .loop .inv .knows) (kept .classes-for .ensures) .1)
 
 -- ---- the step is taken
 
@@ -272,7 +278,7 @@ going : (c : tie.After-take-step Inv-loop μ-loop) →
     (o .work) (o .b) (c .before .before .before .before .classes-for .result) (o .i) (o .k)
 going c =
     let g = stoodAt c .loop .inv in
-    record { kept = g .kept; low = g .low; holds = g .holds; knows = c .before .before .before .before .classes-for .ensures .0; rest = g .rest }
+    record { kept = g .kept; low = g .low; holds = g .holds; knows = known-for (g .knows) (c .before .before .before .before .classes-for .ensures) .0; rest = g .rest }
 
 stepped : (c : tie.After-take-step Inv-loop μ-loop) →
     let a = startOf (stoodAt c) .args in
@@ -364,7 +370,7 @@ first-there t q d =
     let s = startOf (stoodAt t) in
     let a = s .args in
     let first = stoodAt t .before .before .bring-up in
-    let root = s .pre .1 .1 in
+    let root = s .pre .0 .2 in
     first-known (now (a .ticket)) (a .s) (workOf t) (stoodAt t .loop .b) (first .result) (opened t q .0) d
     (sym (ap length root) ∙ length-branch (now (a .work)) (a .s .constraints)) (first .ensures .0) (first .ensures .1 ∙ ap labels root)
 
@@ -435,11 +441,12 @@ loop-again c =
     ⊎-elim
     (λ w.
     let q = w .1 .given .1 in
-    let back = w .5 .ensures (workOf t) (o .b .count) (opened t q .1) in
     let first = l .before .before .bring-up .result in
     let mark = w .3 .result .mark in
     let known =
-    back (subst (λ (x : Split). Knows (workOf t) (x .mark) first) (sym (w .3 .ensures)) (first-there t q (open-depth (o .b) (w .2 .left)))) in
+    subst (λ (x : Known). Knows (workOf t) mark x) (sym (w .5 .ensures))
+    (knows-back (workOf t) (o .b .count) mark _ first (opened t q .1)
+    (subst (λ (x : Split). Knows (workOf t) (x .mark) first) (sym (w .3 .ensures)) (first-there t q (open-depth (o .b) (w .2 .left))))) in
     going-same b (a .s) (w .9) (w .11) (w .10)
     (going-next b (a .s) (a .claim) (going t) (stepped t) q _ (w .7 .result) (w .5 .result) (w .7 .ensures .0) (w .7 .ensures .1 .0)
     (known-below b (a .s) (workOf t) _ mark (w .7 .result) (w .5 .result) (w .7 .ensures .1 .1) known) (w .7 .kept .1 .1 .0 ∙ same-work t)))
@@ -476,7 +483,7 @@ walk-spec =
     u16-at-requires
     rule-of-requires
     classes-for-requires
-    cast-d
+    cast-pending
     take-step-requires
     enum-known-c
     same-length-4

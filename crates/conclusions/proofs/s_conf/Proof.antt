@@ -13,6 +13,9 @@ use Rattle.rows.specs.Rows.{branchOf}
 use Rattle.conclusions.proofs.s_conf.Statement.{statement}
 use Rattle.conclusions.proofs.s_conf.Tie as tie
 
+slice-aggregate-conflict : tie.Need-slice-aggregate-conflict
+slice-aggregate-conflict c = search needs
+
 add-conflict : tie.Need-add-conflict
 add-conflict c = search needs
 
@@ -22,10 +25,10 @@ conflict-requires c κs = search needs
 returns : tie.Need-returns
 unfolding closingOf
 returns c =
-    let s = c .before in
+    let s = c .before .before in
     let b = branchOf (now (s .args .work)) (s .args .count) in
     λ (u : Question) (e : length (u .literals) ≡ s .args .literals). ap closingOf
     (c .conflict .ensures ∙ ap₂ (λ (m : ℕ) (ls : List ℕ). clash m ls b) (add-one (s .args .literals) ∙ ap suc (sym e)) (s .pre .1))
 
 pub s-conf-spec : {M : Type 1} → statement M
-s-conf-spec = tie.close (tie.spec add-conflict conflict-requires returns)
+s-conf-spec = tie.close (tie.spec slice-aggregate-conflict add-conflict conflict-requires returns)

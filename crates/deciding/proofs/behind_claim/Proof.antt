@@ -8,9 +8,7 @@ use Rattle.deciding.proofs.behind_claim.Statement.{statement}
 use Rattle.deciding.proofs.behind_claim.Tie as tie
 
 walk-requires : tie.Need-walk-requires
-walk-requires c κs =
-    let s = c .before .before .before in
-    ((s .pre .0 .0, s .pre .1), (s .pre .0 .1, s .pre .0 .2))
+walk-requires c κs = search needs
 
 enum-known-c : tie.Need-enum-known-c
 enum-known-c c = search needs

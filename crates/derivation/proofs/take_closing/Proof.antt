@@ -9,7 +9,7 @@ use Rattle.rows.specs.Rows.{branchOf}
 use Rattle.question.specs.Posed.{asked}
 use Rattle.steps.proofs.Bodies.{its-kind}
 use Rattle.conclusions.specs.Made.{closingOf}
-use Rattle.derivation.specs.State.{recordFault}
+use Rattle.derivation.specs.State.{triedAt}
 use Rattle.derivation.specs.Actions.{Acts}
 use Rattle.derivation.specs.declared.Action.the-variants.{Closes}
 use Rattle.derivation.proofs.Taking.{step-open, step-closes, no-children, ready-by, refuses, none-to-take}
@@ -37,7 +37,7 @@ returns c =
     step-open b (asked b (a .s)) (branchOf w (a .count)) (a .«record») (a .size) (s .pre .0 .sized)
     (ap closingOf (sym (not-true _ (c .if1 .taken))) ∙ c .before .closes .ensures) in (
       λ pending. eight pending
-          ∙ ap (λ (x : Claim). recordFault x b (a .s) (a .«record») w (a .count) pending) (sym (c .before .before .enum-told .given .1)),
+          ∙ ap (λ (x : Claim). triedAt x b (a .s) (a .«record») w (a .count) pending) (sym (c .before .before .enum-told .given .1)),
       λ pending. refuses b (a .s) (a .«record») (a .size) (s .pre .0 .sized) w (a .count) (a .claim) pending 8 w (λ n. omega arith),
     )
 
@@ -56,7 +56,7 @@ returns-2 c =
     let claimed = sym (c .before .before .enum-told .given .1) in
     let e = ap closingOf (sym (not-false _ (c .if1 .left))) ∙ c .before .closes .ensures in (
       λ pending. step-closes b u br (a .«record») (a .size) (s .pre .0 .sized) e pending
-          ∙ ap (λ (x : Claim). recordFault x b (a .s) (a .«record») w (a .count) pending) claimed,
+          ∙ ap (λ (x : Claim). triedAt x b (a .s) (a .«record») w (a .count) pending) claimed,
       λ pending. subst (λ (x : Claim). Acts x b u (a .«record») pending w (a .count) w Closes) claimed
           (no-children b u br (a .«record») (a .size) (s .pre .0 .sized) e, refl),
     )
@@ -69,7 +69,7 @@ returns-3 c =
     let w = now (a .work) in
     let sized = s .pre .0 .sized in (
       λ pending. none-to-take b (a .s) (a .«record») (a .size) sized w (a .count) (s .pre .0 .ready) (its-kind (ready-by (s .pre .0) (s .pre .1 .0))) pending
-          ∙ ap (λ (x : Claim). recordFault x b (a .s) (a .«record») w (a .count) pending) (sym (c .enum-told2 .given .1)),
+          ∙ ap (λ (x : Claim). triedAt x b (a .s) (a .«record») w (a .count) pending) (sym (c .enum-told2 .given .1)),
       λ pending. refuses b (a .s) (a .«record») (a .size) sized w (a .count) (a .claim) pending 8 w (λ n. omega arith),
     )
 

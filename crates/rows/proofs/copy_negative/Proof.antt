@@ -23,12 +23,12 @@ abbrev negative : List ℤ → ℕ → List ℤ
 negative w i = pos 0 ∷ scale (negsuc 0) (drop 1 (rowAt w i))
 
 abbrev Inv-loop : tie.InvT-loop
-Inv-loop work₀ k from source target j₀ work j =
+Inv-loop work₀ k earlier source target j₀ work j =
     (1 ≤ j) × (j ≤ 50) × (6400 ≤ length work) × (length work ≡ length work₀)
-    × (take (50 * k) work ≡ take (50 * k) work₀) × (take j (rowAt work k) ≡ take j (negative work₀ from))
+    × (take (50 * k) work ≡ take (50 * k) work₀) × (take j (rowAt work k) ≡ take j (negative work₀ earlier))
 
 abbrev μ-loop : tie.MeasureT-loop
-μ-loop work₀ k from source target j₀ work j = 50 - j
+μ-loop work₀ k earlier source target j₀ work j = 50 - j
 
 -- the work area with the tag of ≥, where the loop begins
 module _ (w : List ℤ) (k i : ℕ) (h : i < k) where
@@ -41,23 +41,23 @@ module _ (w : List ℤ) (k i : ℕ) (h : i < k) where
 -- the number read
 module _ (c : tie.After-x Inv-loop μ-loop) where
   abbrev first : List ℤ
-  first = let a = c .before .before .before .args in tagged (now (a .work)) (a .k) (a .from) (c .before .before .before .pre .0 .0)
+  first = let a = c .before .before .before .args in tagged (now (a .work)) (a .k) (a .earlier) (c .before .before .before .pre .0 .0)
 
   abbrev z : ℤ
-  z = getD (c .before .before .loop .work) (50 * c .before .before .before .args .from + c .before .before .loop .j) (pos 0)
+  z = getD (c .before .before .loop .work) (50 * c .before .before .before .args .earlier + c .before .before .loop .j) (pos 0)
 
-  was : z ≡ getD (rowAt first (c .before .before .before .args .from)) (c .before .before .loop .j) (pos 0)
+  was : z ≡ getD (rowAt first (c .before .before .before .args .earlier)) (c .before .before .loop .j) (pos 0)
   was =
       let l = c .before .before .loop in
       let a = c .before .before .before .args in
-      before-at first (l .work) (a .k) (a .from) (l .j) (c .before .before .before .pre .0 .0) (omega arith) (l .inv .4)
+      before-at first (l .work) (a .k) (a .earlier) (l .j) (c .before .before .before .pre .0 .0) (omega arith) (l .inv .4)
 
   small : natAbs z ≤ 1000000000
   small =
       let a = c .before .before .before .args in
       let pre = c .before .before .before .pre in
-      let w = ap (λ (r : List ℤ). allWithin numberLimit (drop 1 r)) (kept (now (a .work)) (a .k) (a .from) (pre .0 .0)) ∙ pre .1 in
-      subst (λ (y : ℤ). natAbs y ≤ 1000000000) (sym was) (behind-tag (rowAt first (a .from)) (c .before .before .loop .j) w (omega arith))
+      let w = ap (λ (r : List ℤ). allWithin numberLimit (drop 1 r)) (kept (now (a .work)) (a .k) (a .earlier) (pre .0 .0)) ∙ pre .1 in
+      subst (λ (y : ℤ). natAbs y ≤ 1000000000) (sym was) (behind-tag (rowAt first (a .earlier)) (c .before .before .loop .j) w (omega arith))
 
 mul-source : tie.Need-mul-source Inv-loop μ-loop
 mul-source c = search needs
@@ -81,7 +81,7 @@ loop-holds : tie.Need-loop-holds Inv-loop μ-loop
 loop-holds c =
     let a = c .args in
     let w = now (a .work) in
-    let first = tagged w (a .k) (a .from) (c .pre .0 .0) in
+    let first = tagged w (a .k) (a .earlier) (c .pre .0 .0) in
     let n = length-row w (a .k) (omega arith) in (
       omega arith,
       omega arith,
@@ -89,7 +89,7 @@ loop-holds c =
       refl,
       refl,
       ap (λ (r : List ℤ). take 1 r) (row-set w _ (a .k) 0 (pos 0) (omega arith) refl)
-          ∙ filled-more (rowAt w (a .k)) (negative first (a .from)) 0 (pos 0) (pos 0) (omega arith) (omega arith) refl refl,
+          ∙ filled-more (rowAt w (a .k)) (negative first (a .earlier)) 0 (pos 0) (pos 0) (omega arith) (omega arith) refl refl,
     )
 
 add-x : tie.Need-add-x Inv-loop μ-loop
@@ -124,17 +124,17 @@ loop-again c =
     let l = c .before .before .loop in
     let a = c .before .before .before .args in
     let n = length-row (l .work) (a .k) (omega arith) in
-    let m = length-negative (rowAt (first c) (a .from)) (length-row (first c) (a .from) (omega arith)) in (
+    let m = length-negative (rowAt (first c) (a .earlier)) (length-row (first c) (a .earlier) (omega arith)) in (
       omega arith,
       omega arith,
       simp length-set (l .inv .2),
       length-set (l .work) (50 * a .k + l .j) _ ∙ l .inv .3,
       before-set (first c) (l .work) (a .k) (l .j) _ (l .inv .4),
       ap (λ (r : List ℤ). take (l .j + 1) r) (row-set (l .work) _ (a .k) (l .j) _ (omega arith) refl)
-          ∙ filled-more (rowAt (l .work) (a .k)) (negative (first c) (a .from)) (l .j) _ (pos 0) (omega arith) (omega arith) (l .inv .5)
+          ∙ filled-more (rowAt (l .work) (a .k)) (negative (first c) (a .earlier)) (l .j) _ (pos 0) (omega arith) (omega arith) (l .inv .5)
           (neg-is (z c) 1000000000 (small c) (omega arith)
           ∙ ap (λ (y : ℤ). negsuc 0 *ℤ y) (was c)
-          ∙ sym (negative-number (rowAt (first c) (a .from)) (l .j) (omega arith))),
+          ∙ sym (negative-number (rowAt (first c) (a .earlier)) (l .j) (omega arith))),
     )
 
 same-length : tie.Need-same-length Inv-loop μ-loop
@@ -146,11 +146,11 @@ returns c =
     let a = c .before .before .args in
     let w = now (a .work) in
     let h = c .before .before .pre .0 .0 in
-    let first = tagged w (a .k) (a .from) h in
+    let first = tagged w (a .k) (a .earlier) h in
     let n = length-row (l .work) (a .k) (omega arith) in
-    let m = length-negative (rowAt first (a .from)) (length-row first (a .from) (omega arith)) in (
-      filled-all (rowAt (l .work) (a .k)) (negative first (a .from)) (l .j) (omega arith) (omega arith) (l .inv .5)
-          ∙ ap (λ (r : List ℤ). pos 0 ∷ scale (negsuc 0) (drop 1 r)) (kept w (a .k) (a .from) h),
+    let m = length-negative (rowAt first (a .earlier)) (length-row first (a .earlier) (omega arith)) in (
+      filled-all (rowAt (l .work) (a .k)) (negative first (a .earlier)) (l .j) (omega arith) (omega arith) (l .inv .5)
+          ∙ ap (λ (r : List ℤ). pos 0 ∷ scale (negsuc 0) (drop 1 r)) (kept w (a .k) (a .earlier) h),
       l .inv .4 ∙ before-set w w (a .k) 0 (pos 0) refl,
     )
 

@@ -17,11 +17,11 @@ use Rattle.rows.proofs.copy_row.Statement.{statement}
 use Rattle.rows.proofs.copy_row.Tie as tie
 
 abbrev Inv-loop : tie.InvT-loop
-Inv-loop work₀ k from source target j₀ work j =
-    (j ≤ 50) × (length work ≡ length work₀) × (take (50 * k) work ≡ take (50 * k) work₀) × (take j (rowAt work k) ≡ take j (rowAt work₀ from))
+Inv-loop work₀ k earlier source target j₀ work j =
+    (j ≤ 50) × (length work ≡ length work₀) × (take (50 * k) work ≡ take (50 * k) work₀) × (take j (rowAt work k) ≡ take j (rowAt work₀ earlier))
 
 abbrev μ-loop : tie.MeasureT-loop
-μ-loop work₀ k from source target j₀ work j = 50 - j
+μ-loop work₀ k earlier source target j₀ work j = 50 - j
 
 mul-source : tie.Need-mul-source Inv-loop μ-loop
 mul-source c = search needs
@@ -61,15 +61,15 @@ loop-again c =
     let l = c .before .before .loop in
     let a = c .before .before .before .args in
     let first = now (a .work) in
-    let f : SFits w64 (getD (l .work) (50 * a .from + l .j) (pos 0)) = record { sfits = c .x .given } in
+    let f : SFits w64 (getD (l .work) (50 * a .earlier + l .j) (pos 0)) = record { sfits = c .x .given } in
     let n = length-row (l .work) (a .k) (omega arith) in
-    let m = length-row first (a .from) (omega arith) in (
+    let m = length-row first (a .earlier) (omega arith) in (
       omega arith,
       simp length-set (l .inv .1),
       before-set first (l .work) (a .k) (l .j) _ (l .inv .2),
       ap (λ (r : List ℤ). take (l .j + 1) r) (row-set (l .work) _ (a .k) (l .j) _ (omega arith) refl)
-          ∙ filled-more (rowAt (l .work) (a .k)) (rowAt first (a .from)) (l .j) _ (pos 0) (omega arith) (omega arith) (l .inv .3)
-          (toZ-ofZ f ∙ before-at first (l .work) (a .k) (a .from) (l .j) (omega arith) (omega arith) (l .inv .2)),
+          ∙ filled-more (rowAt (l .work) (a .k)) (rowAt first (a .earlier)) (l .j) _ (pos 0) (omega arith) (omega arith) (l .inv .3)
+          (toZ-ofZ f ∙ before-at first (l .work) (a .k) (a .earlier) (l .j) (omega arith) (omega arith) (l .inv .2)),
     )
 
 same-length : tie.Need-same-length Inv-loop μ-loop
@@ -80,8 +80,8 @@ returns c =
     let l = c .before .loop in
     let a = c .before .before .args in
     let n = length-row (l .work) (a .k) (omega arith) in
-    let m = length-row (now (a .work)) (a .from) (omega arith) in
-    (filled-all (rowAt (l .work) (a .k)) (rowAt (now (a .work)) (a .from)) (l .j) (omega arith) (omega arith) (l .inv .3), l .inv .2)
+    let m = length-row (now (a .work)) (a .earlier) (omega arith) in
+    (filled-all (rowAt (l .work) (a .k)) (rowAt (now (a .work)) (a .earlier)) (l .j) (omega arith) (omega arith) (l .inv .3), l .inv .2)
 
 pub copy-row-spec : {M : Type 1} → statement M
 copy-row-spec =

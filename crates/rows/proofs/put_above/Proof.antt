@@ -16,10 +16,10 @@ use Rattle.rows.proofs.put_above.Tie as tie
 -- the constant of e
 module _ (c : tie.Start) where
   abbrev z : ℤ
-  z = getD (now (c .args .work)) (50 * c .args .from + 1) (pos 0)
+  z = getD (now (c .args .work)) (50 * c .args .earlier + 1) (pos 0)
 
   small : natAbs z ≤ 1000000000
-  small = row-small (now (c .args .work)) (c .args .from) 1 (c .pre .1) (omega arith) (omega arith)
+  small = row-small (now (c .args .work)) (c .args .earlier) 1 (c .pre .1) (omega arith) (omega arith)
 
 mul-c : tie.Need-mul-c
 mul-c c = search needs
@@ -79,8 +79,8 @@ returns c =
     let tagged = set copied (50 * a .k + 0) (pos 0) in
     branch-stated first _ (a .k) _ (before-set first tagged (a .k) 1 _ (before-set first copied (a .k) 0 (pos 0) (e .1)))
     (ap factOf (row-set tagged _ (a .k) 1 _ (omega arith) (row-set copied _ (a .k) 0 (pos 0) (omega arith) (e .0)))
-    ∙ above-fact (rowAt first (a .from)) _ (length-row first (a .from) (omega arith))
-    (above-is (z s) 1000000000 (small s) (omega arith) ∙ ap (λ (y : ℤ). y +ℤ negsuc 0) (sym (row-number first (a .from) 1 (omega arith)))))
+    ∙ above-fact (rowAt first (a .earlier)) _ (length-row first (a .earlier) (omega arith))
+    (above-is (z s) 1000000000 (small s) (omega arith) ∙ ap (λ (y : ℤ). y +ℤ negsuc 0) (sym (row-number first (a .earlier) 1 (omega arith)))))
 
 pub put-above-spec : {M : Type 1} → statement M
 put-above-spec =

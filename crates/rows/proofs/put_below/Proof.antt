@@ -16,10 +16,10 @@ use Rattle.rows.proofs.put_below.Tie as tie
 -- the constant of e
 module _ (c : tie.Start) where
   abbrev z : ℤ
-  z = getD (now (c .args .work)) (50 * c .args .from + 1) (pos 0)
+  z = getD (now (c .args .work)) (50 * c .args .earlier + 1) (pos 0)
 
   small : natAbs z ≤ 1000000000
-  small = row-small (now (c .args .work)) (c .args .from) 1 (c .pre .1) (omega arith) (omega arith)
+  small = row-small (now (c .args .work)) (c .args .earlier) 1 (c .pre .1) (omega arith) (omega arith)
 
 mul-c : tie.Need-mul-c
 mul-c c = search needs
@@ -63,9 +63,9 @@ returns c =
     let e = c .before .copy-negative .ensures in
     branch-stated first _ (a .k) _ (before-set first copied (a .k) 1 _ (e .1))
     (ap factOf (row-set copied _ (a .k) 1 _ (omega arith) (e .0))
-    ∙ below-fact (rowAt first (a .from)) _ (length-row first (a .from) (omega arith))
+    ∙ below-fact (rowAt first (a .earlier)) _ (length-row first (a .earlier) (omega arith))
     (under-is (z s) 1000000000 (small s) (omega arith)
-    ∙ ap (λ (y : ℤ). (negsuc 0 *ℤ y) +ℤ negsuc 0) (sym (row-number first (a .from) 1 (omega arith)))))
+    ∙ ap (λ (y : ℤ). (negsuc 0 *ℤ y) +ℤ negsuc 0) (sym (row-number first (a .earlier) 1 (omega arith)))))
 
 pub put-below-spec : {M : Type 1} → statement M
 put-below-spec =

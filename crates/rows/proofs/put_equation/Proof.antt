@@ -39,7 +39,7 @@ returns c =
     let e = c .before .copy-row .ensures in
     branch-stated first _ (a .k) _ (before-set first copied (a .k) 0 (pos 1) (e .1))
     (ap factOf (row-set copied _ (a .k) 0 (pos 1) (omega arith) (e .0))
-    ∙ equation-fact (rowAt first (a .from)) (length-row first (a .from) (omega arith)))
+    ∙ equation-fact (rowAt first (a .earlier)) (length-row first (a .earlier) (omega arith)))
 
 pub put-equation-spec : {M : Type 1} → statement M
 put-equation-spec =
