@@ -60,10 +60,13 @@ unfoldable pub pairBy : Bool → ℤ → ℤ → ℤ → ℤ → Bool
 pairBy true z w c d = eqℤ z w && eqℤ c d
 pairBy false z w c d = eqℤ c (negsuc 0) || not (eqℤ c d)
 
--- the rules with two variables
+-- the rules with two variables, where x has length z and code c
+abbrev pub pairWith : Question → List ℕ → List ℤ → ℕ → ℤ → ℤ → ℕ → Bool
+pairWith u ls m x z c y = pairBy (sameClass ls (varNode x) (varNode y)) z (modelValue u m len y) c (modelValue u m code y)
+
+-- where the model gives them
 unfoldable pub pairFits : Question → List ℕ → List ℤ → ℕ → ℕ → Bool
-pairFits u ls m x y =
-    pairBy (sameClass ls (varNode x) (varNode y)) (modelValue u m len x) (modelValue u m len y) (modelValue u m code x) (modelValue u m code y)
+pairFits u ls m x y = pairWith u ls m x (modelValue u m len x) (modelValue u m code x) y
 
 -- the rules for a variable, itself and with every variable
 abbrev pub byValues : Question → List ℕ → List ℤ → ℕ → Bool

@@ -10,7 +10,7 @@ ghost use Rattle.lists.specs.Lists.{allBelow};
 ghost use Rattle.calculus.specs.Limits.{alphabetLimit, variableLimit, factLimit};
 ghost use Rattle.calculus.specs.LinearForms.{eqℤ};
 ghost use Rattle.calculus.specs.Classes as classes;
-ghost use Rattle.calculus.specs.Classes.{literalIn};
+ghost use Rattle.calculus.specs.Classes.{nodeCount, literalIn};
 ghost use Rattle.calculus.specs.Model.{modelValue};
 ghost use Rattle.calculus.specs.SaturationTest as test;
 ghost use Rattle.calculus.specs.SaturationTest.{lowestVariable, lowestOfLength, saturatedCard};
@@ -20,12 +20,11 @@ ghost use Rattle.format.specs.Checking.{shortLengths};
 ghost use Rattle.rows.specs.Rows.{rowLength, branchOf};
 ghost use Rattle.question.specs.Posed.{asked, numbered, Posed};
 ghost use Rattle.leaf.specs.Leaf.{Modelled, LeafReady};
-ghost use Rattle.leaf.specs.Values.{textFits, literalFits, lValidFits, codeFits, roomy, varFits, pairBy, pairFits, byValues};
+ghost use Rattle.leaf.specs.Values.{textFits, literalFits, lValidFits, codeFits, roomy, varFits, pairBy, pairWith, pairFits, byValues};
 use classes::Lowest;
 use encoding::CODE;
 use encoding::LEN;
 use limits::LENGTH_LIMIT;
-use limits::NODE_COUNT;
 use question::Progress;
 
 // The empty literal.
@@ -77,16 +76,9 @@ fn fits_text(ticket: &[u8], at: usize, count: usize, len: i64, code: i64) -> boo
 }
 
 // L-Intro and C-Collapse for variable x, whose length and code are given.
-fn literal_fits(
-    ticket: &[u8],
-    s: Progress,
-    labels: [u8; NODE_COUNT],
-    x: usize,
-    len: i64,
-    code: i64,
-) -> bool
-    requires { ⌜ Posed (now ticket) s × (x < variableLimit) ⌝ }
-    ensures { λ r. ⌜ r ≡ literalFits (asked (now (ticket .entry)) s) (literalIn (asked (now (ticket .entry)) s) labels x) len code ⌝ }
+fn literal_fits(ticket: &[u8], s: Progress, labels: &[u8], x: usize, len: i64, code: i64) -> bool
+    requires { ⌜ Posed (now ticket) s × (length (now labels) ≡ nodeCount) × (x < variableLimit) ⌝ }
+    ensures { λ r. ⌜ r ≡ literalFits (asked (now (ticket .entry)) s) (literalIn (asked (now (ticket .entry)) s) (now (labels .entry)) x) len code ⌝ }
 {
     let found = classes::class_literal(labels, s.literals + 1, x);
     match found {
@@ -99,9 +91,9 @@ fn literal_fits(
 }
 
 // L-Valid for variable x, whose length is given.
-fn length_fits(labels: [u8; NODE_COUNT], x: usize, len: i64) -> bool
-    requires { ⌜ x < variableLimit ⌝ }
-    ensures { λ r. ⌜ r ≡ lValidFits labels x len ⌝ }
+fn length_fits(labels: &[u8], x: usize, len: i64) -> bool
+    requires { ⌜ (length (now labels) ≡ nodeCount) × (x < variableLimit) ⌝ }
+    ensures { λ r. ⌜ r ≡ lValidFits (now (labels .entry)) x len ⌝ }
 {
     if classes::class_holds(labels, x, EMPTY) {
         return true;
@@ -125,9 +117,9 @@ fn code_fits(n: usize, len: i64, code: i64) -> bool
 }
 
 // 1 for the lowest variable of its class whose length is the given one, else 0.
-fn tally(labels: [u8; NODE_COUNT], y: usize, len: i64, wanted: i64) -> usize
-    requires { ⌜ y < variableLimit ⌝ }
-    ensures { λ r. ⌜ r ≡ cond (eqℤ len wanted && eqb (lowestVariable labels y) y) 1 0 ⌝ }
+fn tally(labels: &[u8], y: usize, len: i64, wanted: i64) -> usize
+    requires { ⌜ (length (now labels) ≡ nodeCount) × (y < variableLimit) ⌝ }
+    ensures { λ r. ⌜ r ≡ cond (eqℤ len wanted && eqb (lowestVariable (now (labels .entry)) y) y) 1 0 ⌝ }
     ensures { λ r. ⌜ r ≤ 1 ⌝ }
 {
     if !equal(len, wanted) {
@@ -141,9 +133,9 @@ fn tally(labels: [u8; NODE_COUNT], y: usize, len: i64, wanted: i64) -> usize
 }
 
 // The number of classes whose length is the given one.
-fn classes_of(model: &[i64], s: Progress, labels: [u8; NODE_COUNT], wanted: i64) -> usize
-    requires { ⌜ Modelled (now model) s ⌝ }
-    ensures { λ r. ⌜ r ≡ length (lowestOfLength (numbered s) labels (now (model .entry)) wanted (s .p)) ⌝ }
+fn classes_of(model: &[i64], s: Progress, labels: &[u8], wanted: i64) -> usize
+    requires { ⌜ Modelled (now model) s × (length (now labels) ≡ nodeCount) ⌝ }
+    ensures { λ r. ⌜ r ≡ length (lowestOfLength (numbered s) (now (labels .entry)) (now (model .entry)) wanted (s .p)) ⌝ }
     ensures { λ r. ⌜ r ≤ s .p ⌝ }
 {
     let mut count = 0;
@@ -170,9 +162,9 @@ fn has_room(n: usize, k: usize, size: usize) -> bool
 }
 
 // Card for the length of variable x. It has at most p classes, which are counted only where there is no room for p strings.
-fn card_fits(model: &[i64], s: Progress, labels: [u8; NODE_COUNT], x: usize) -> bool
-    requires { ⌜ Modelled (now model) s × (s .n ≤ alphabetLimit) × (x < s .p) ⌝ }
-    ensures { λ r. ⌜ r ≡ saturatedCard (numbered s) labels (now (model .entry)) x ⌝ }
+fn card_fits(model: &[i64], s: Progress, labels: &[u8], x: usize) -> bool
+    requires { ⌜ Modelled (now model) s × (length (now labels) ≡ nodeCount) × (s .n ≤ alphabetLimit) × (x < s .p) ⌝ }
+    ensures { λ r. ⌜ r ≡ saturatedCard (numbered s) (now (labels .entry)) (now (model .entry)) x ⌝ }
 {
     let len = value_of(model, s, LEN, x);
     let size = magnitude(len);
@@ -187,9 +179,9 @@ fn card_fits(model: &[i64], s: Progress, labels: [u8; NODE_COUNT], x: usize) -> 
 }
 
 // L-Intro, C-Collapse, L-Valid, C-Valid and Card for variable x.
-fn var_fits(ticket: &[u8], model: &[i64], s: Progress, labels: [u8; NODE_COUNT], x: usize) -> bool
-    requires { ⌜ LeafReady (now ticket) (now model) s × (x < s .p) ⌝ }
-    ensures { λ r. ⌜ r ≡ varFits (asked (now (ticket .entry)) s) labels (now (model .entry)) x ⌝ }
+fn var_fits(ticket: &[u8], model: &[i64], s: Progress, labels: &[u8], x: usize) -> bool
+    requires { ⌜ LeafReady (now ticket) (now model) s × (length (now labels) ≡ nodeCount) × (x < s .p) ⌝ }
+    ensures { λ r. ⌜ r ≡ varFits (asked (now (ticket .entry)) s) (now (labels .entry)) (now (model .entry)) x ⌝ }
 {
     let len = value_of(model, s, LEN, x);
     let code = value_of(model, s, CODE, x);
@@ -223,26 +215,35 @@ fn pair_by(same: bool, z: i64, w: i64, c: i64, d: i64) -> bool
     !equal(c, d)
 }
 
-fn pair_fits(model: &[i64], s: Progress, labels: [u8; NODE_COUNT], x: usize, y: usize) -> bool
-    requires { ⌜ Modelled (now model) s × (x < s .p) × (y < s .p) ⌝ }
-    ensures { λ r. ⌜ r ≡ pairFits (numbered s) labels (now (model .entry)) x y ⌝ }
+// The two rules for variable x, whose length and code are given, with variable y.
+fn pair_fits(
+    model: &[i64],
+    s: Progress,
+    labels: &[u8],
+    x: usize,
+    len: i64,
+    code: i64,
+    y: usize,
+) -> bool
+    requires { ⌜ Modelled (now model) s × (length (now labels) ≡ nodeCount) × (x < s .p) × (y < s .p) ⌝ }
+    ensures { λ r. ⌜ r ≡ pairWith (numbered s) (now (labels .entry)) (now (model .entry)) x len code y ⌝ }
 {
     let same = classes::one_class(labels, x, y);
-    let z = value_of(model, s, LEN, x);
     let w = value_of(model, s, LEN, y);
-    let c = value_of(model, s, CODE, x);
     let d = value_of(model, s, CODE, y);
-    pair_by(same, z, w, c, d)
+    pair_by(same, len, w, code, d)
 }
 
 // S-Prop and C-Inj for variable x with every variable.
-fn pairs_fit(model: &[i64], s: Progress, labels: [u8; NODE_COUNT], x: usize) -> bool
-    requires { ⌜ Modelled (now model) s × (x < s .p) ⌝ }
-    ensures { λ r. ⌜ r ≡ allBelow (s .p) (pairFits (numbered s) labels (now (model .entry)) x) ⌝ }
+fn pairs_fit(model: &[i64], s: Progress, labels: &[u8], x: usize) -> bool
+    requires { ⌜ Modelled (now model) s × (length (now labels) ≡ nodeCount) × (x < s .p) ⌝ }
+    ensures { λ r. ⌜ r ≡ allBelow (s .p) (pairFits (numbered s) (now (labels .entry)) (now (model .entry)) x) ⌝ }
 {
+    let len = value_of(model, s, LEN, x);
+    let code = value_of(model, s, CODE, x);
     let mut y = 0;
     while y < s.p {
-        if !pair_fits(model, s, labels, x, y) {
+        if !pair_fits(model, s, labels, x, len, code, y) {
             return false;
         }
         y += 1;
@@ -253,9 +254,9 @@ fn pairs_fit(model: &[i64], s: Progress, labels: [u8; NODE_COUNT], x: usize) -> 
 // ---- every variable
 
 // The rules for variable x, itself and with every variable.
-fn values_fit(ticket: &[u8], model: &[i64], s: Progress, labels: [u8; NODE_COUNT], x: usize) -> bool
-    requires { ⌜ LeafReady (now ticket) (now model) s × (x < s .p) ⌝ }
-    ensures { λ r. ⌜ r ≡ byValues (asked (now (ticket .entry)) s) labels (now (model .entry)) x ⌝ }
+fn values_fit(ticket: &[u8], model: &[i64], s: Progress, labels: &[u8], x: usize) -> bool
+    requires { ⌜ LeafReady (now ticket) (now model) s × (length (now labels) ≡ nodeCount) × (x < s .p) ⌝ }
+    ensures { λ r. ⌜ r ≡ byValues (asked (now (ticket .entry)) s) (now (labels .entry)) (now (model .entry)) x ⌝ }
 {
     if !var_fits(ticket, model, s, labels, x) {
         return false;
@@ -263,9 +264,9 @@ fn values_fit(ticket: &[u8], model: &[i64], s: Progress, labels: [u8; NODE_COUNT
     pairs_fit(model, s, labels, x)
 }
 
-fn every_fits(ticket: &[u8], model: &[i64], s: Progress, labels: [u8; NODE_COUNT]) -> bool
-    requires { ⌜ LeafReady (now ticket) (now model) s ⌝ }
-    ensures { λ r. ⌜ r ≡ allBelow (s .p) (byValues (asked (now (ticket .entry)) s) labels (now (model .entry))) ⌝ }
+fn every_fits(ticket: &[u8], model: &[i64], s: Progress, labels: &[u8]) -> bool
+    requires { ⌜ LeafReady (now ticket) (now model) s × (length (now labels) ≡ nodeCount) ⌝ }
+    ensures { λ r. ⌜ r ≡ allBelow (s .p) (byValues (asked (now (ticket .entry)) s) (now (labels .entry)) (now (model .entry))) ⌝ }
 {
     let mut x = 0;
     while x < s.p {
@@ -284,10 +285,10 @@ pub fn saturated(
     count: usize,
     model: &[i64],
     s: Progress,
-    labels: [u8; NODE_COUNT],
+    labels: &[u8],
 ) -> bool
-    requires { ⌜ LeafReady (now ticket) (now model) s × (count ≤ factLimit) × (rowLength * count ≤ length (now work)) ⌝ }
-    requires { ⌜ labels ≡ classes.labels (branchOf (now work) count) ⌝ }
+    requires { ⌜ LeafReady (now ticket) (now model) s × (count ≤ factLimit) × (rowLength * count ≤ length (now work)) × (length (now labels) ≡ nodeCount) ⌝ }
+    requires { ⌜ now labels ≡ classes.labels (branchOf (now work) count) ⌝ }
     ensures { λ r. ⌜ r ≡ test.saturated (asked (now (ticket .entry)) s) (branchOf (now (work .entry)) count) (now (model .entry)) ⌝ }
 {
     if classes::conflict(work, count, labels, s.literals + 1) {

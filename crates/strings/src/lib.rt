@@ -9,6 +9,7 @@ ghost use Rattle.calculus.specs.Limits.{alphabetLimit, variableLimit, lengthLim
 ghost use Rattle.calculus.specs.LinearForms.{eqℤ};
 ghost use Rattle.calculus.specs.Facts.{Branch, len};
 ghost use Rattle.calculus.specs.Classes as calculus;
+ghost use Rattle.calculus.specs.Classes.{nodeCount};
 ghost use Rattle.calculus.specs.Model.{modelValue};
 ghost use Rattle.calculus.specs.Strings.{word, eqString, given, freshFrom, oneChar, strings};
 ghost use Rattle.format.specs.Fields.{u32s};
@@ -22,7 +23,6 @@ use classes::Lowest;
 use encoding::CODE;
 use encoding::LEN;
 use limits::LENGTH_LIMIT;
-use limits::NODE_COUNT;
 use limits::VARIABLE_LIMIT;
 use question::Progress;
 
@@ -195,13 +195,13 @@ fn fill_fixed(
     ticket: &[u8],
     model: &[i64],
     s: Progress,
-    labels: [u8; NODE_COUNT],
+    labels: &[u8],
     x: usize,
     row: &mut [u32],
 ) -> usize
-    requires { ⌜ LeafReady (now ticket) (now model) s × (x < s .p) × (length (now row) ≡ lengthLimit) ⌝ }
+    requires { ⌜ LeafReady (now ticket) (now model) s × (length (now labels) ≡ nodeCount) × (x < s .p) × (length (now row) ≡ lengthLimit) ⌝ }
     requires { ⌜ Within valueLimit (now model) ⌝ }
-    ensures { λ r. ⌜ sized r (now (row .exit)) ≡ fixedAt (asked (now (ticket .entry)) s) labels (now (model .entry)) x ⌝ }
+    ensures { λ r. ⌜ sized r (now (row .exit)) ≡ fixedAt (asked (now (ticket .entry)) s) (now (labels .entry)) (now (model .entry)) x ⌝ }
 {
     let found = classes::class_literal(labels, s.literals + 1, x);
     match found {
@@ -223,12 +223,13 @@ fn give_fixed(
     ticket: &[u8],
     model: &[i64],
     s: Progress,
-    labels: [u8; NODE_COUNT],
+    labels: &[u8],
     characters: &mut [u32],
 ) -> [usize; VARIABLE_LIMIT]
-    requires { ⌜ LeafReady (now ticket) (now model) s × (lengthLimit * s .p ≤ length (now characters)) ⌝ }
+    requires { ⌜ LeafReady (now ticket) (now model) s × (length (now labels) ≡ nodeCount) × (lengthLimit * s .p ≤ length (now characters)) ⌝ }
     requires { ⌜ Within valueLimit (now model) ⌝ }
-    ensures { λ r. ⌜ ((y : ℕ) → y < s .p → stringIn (now (characters .exit)) r y ≡ fixedAt (asked (now (ticket .entry)) s) labels (now (model .entry)) y) ⌝ }
+    ensures { λ r. ⌜ ((y : ℕ) → y < s .p
+        → stringIn (now (characters .exit)) r y ≡ fixedAt (asked (now (ticket .entry)) s) (now (labels .entry)) (now (model .entry)) y) ⌝ }
 {
     let mut sizes = [NOT_GIVEN; VARIABLE_LIMIT];
     let mut x = 0;
@@ -246,16 +247,18 @@ fn give_fixed(
 fn complete(
     model: &[i64],
     s: Progress,
-    labels: [u8; NODE_COUNT],
+    labels: &[u8],
     characters: &mut [u32],
     sizes: [usize; VARIABLE_LIMIT],
     x: usize,
 ) -> usize
-    requires { ⌜ Modelled (now model) s × (1 ≤ s .n) × (s .n ≤ alphabetLimit) × (x < s .p) × (lengthLimit * s .p ≤ length (now characters)) ⌝ }
+    requires { ⌜ Modelled (now model) s × (length (now labels) ≡ nodeCount) × (1 ≤ s .n) × (s .n ≤ alphabetLimit) × (x < s .p)
+        × (lengthLimit * s .p ≤ length (now characters)) ⌝ }
     requires { ⌜ natAbs (modelValue (numbered s) (now model) len x) ≤ lengthLimit ⌝ }
     requires { ⌜ ((y : ℕ) → y < x → getD sizes y 0 ≤ lengthLimit) ⌝ }
-    ensures { λ r. ⌜ now (characters .exit) ≡ sets (now (characters .entry)) (lengthLimit * x) (completedBy s labels (now (model .entry)) (now (characters .entry)) sizes x) ⌝ }
-    ensures { λ r. ⌜ r ≡ length (completedBy s labels (now (model .entry)) (now (characters .entry)) sizes x) ⌝ }
+    ensures { λ r. ⌜ now (characters .exit)
+        ≡ sets (now (characters .entry)) (lengthLimit * x) (completedBy s (now (labels .entry)) (now (model .entry)) (now (characters .entry)) sizes x) ⌝ }
+    ensures { λ r. ⌜ r ≡ length (completedBy s (now (labels .entry)) (now (model .entry)) (now (characters .entry)) sizes x) ⌝ }
     ensures { λ r. ⌜ r ≤ lengthLimit ⌝ }
 {
     let own = sizes[x];
@@ -282,13 +285,13 @@ pub fn give_strings(
     ticket: &[u8],
     model: &[i64],
     s: Progress,
-    labels: [u8; NODE_COUNT],
+    labels: &[u8],
     characters: &mut [u32],
 ) -> [usize; VARIABLE_LIMIT]
-    requires { ⌜ LeafReady (now ticket) (now model) s × (lengthLimit * s .p ≤ length (now characters)) ⌝ }
+    requires { ⌜ LeafReady (now ticket) (now model) s × (length (now labels) ≡ nodeCount) × (lengthLimit * s .p ≤ length (now characters)) ⌝ }
     requires { ⌜ Within valueLimit (now model) ⌝ }
     requires { ⌜ shortLengths (asked (now ticket) s) (now model) ≡ true ⌝ }
-    ensures { λ r. ⌜ ((b : Branch) → labels ≡ calculus.labels b
+    ensures { λ r. ⌜ ((b : Branch) → now (labels .entry) ≡ calculus.labels b
         → tableStrings (now (characters .exit)) r (s .p) ≡ strings (asked (now (ticket .entry)) s) b (now (model .entry))) ⌝ }
     ensures { λ r. ⌜ Table (now (characters .exit)) r (s .p) ⌝ }
 {

@@ -29,16 +29,16 @@ abbrev μ-loop : tie.MeasureT-loop
 -- the test of one variable
 told : (c : tie.After-tally Inv-loop μ-loop)
     →
-    let args = c .before .before .before .before .before .args in
+    let args = c .before .before .before .before .before .before .args in
     c .tally .result
     ≡ cond (eqℤ (modelValue (numbered (args .s)) (now (args .model)) len (c .before .before .before .before .loop .y)) (toZ w64 (ofZ w64 (args .wanted)))
-    && eqb (lowestVariable (args .labels) (c .before .before .before .before .loop .y)) (c .before .before .before .before .loop .y))
+    && eqb (lowestVariable (now (args .labels)) (c .before .before .before .before .loop .y)) (c .before .before .before .before .loop .y))
     1 0
 told c =
-    let args = c .before .before .before .before .before .args in
+    let args = c .before .before .before .before .before .before .args in
     c .tally .ensures .0
     ∙ ap (λ (z : ℤ). cond (eqℤ z (toZ w64 (ofZ w64 (args .wanted)))
-    && eqb (lowestVariable (args .labels) (c .before .before .before .before .loop .y)) (c .before .before .before .before .loop .y))
+    && eqb (lowestVariable (now (args .labels)) (c .before .before .before .before .loop .y)) (c .before .before .before .before .loop .y))
     1 0)
     (toZ-ofZ (record { sfits = c .before .value-of .ok }) ∙ c .before .value-of .ensures)
 
@@ -63,20 +63,21 @@ loop-less c = search needs
 loop-again : tie.Need-loop-again Inv-loop μ-loop
 loop-again c =
     let l = c .before .before .before .before .loop in
-    let s = c .before .before .before .before .before .args in (
+    let s = c .before .before .before .before .before .before .args in (
       omega arith,
       omega arith,
       ap (λ (k : ℕ). k + c .tally .result) (l .inv .2)
-          ∙ count-more (numbered (s .s)) (s .labels) (now (s .model)) (toZ w64 (ofZ w64 (s .wanted))) (l .y) (c .tally .result) (told c),
+          ∙ count-more (numbered (s .s)) (now (s .labels)) (now (s .model)) (toZ w64 (ofZ w64 (s .wanted))) (l .y) (c .tally .result) (told c),
     )
 
 returns : tie.Need-returns Inv-loop μ-loop
 returns c =
     let l = c .before .before .loop in
-    let s = c .before .before .before in
+    let s = c .before .before .before .before in
     let e : l .y ≡ s .args .s .p = omega arith in (
       l .inv .2
-          ∙ ap₂ (λ (m : ℕ) (z : ℤ). length (lowestOfLength (numbered (s .args .s)) (s .args .labels) (now (s .args .model)) z m)) e (toZ-ofZ (s .fits .wanted)),
+          ∙ ap₂ (λ (m : ℕ) (z : ℤ). length (lowestOfLength (numbered (s .args .s)) (now (s .args .labels)) (now (s .args .model)) z m)) e
+          (toZ-ofZ (s .fits .wanted)),
       omega arith,
     )
 

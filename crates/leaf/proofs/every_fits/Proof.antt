@@ -28,8 +28,8 @@ values-fit-requires c κs = search needs
 returns : tie.Need-returns Inv-loop μ-loop
 returns c =
     let l = c .before .before .before .before .loop in
-    let s = c .before .before .before .before .before .before .args in
-    sym (every-no (byValues (asked (now (s .ticket)) (s .s)) (s .labels) (now (s .model))) (s .s .p) (l .x) (omega arith)
+    let s = c .before .before .before .before .before .before .before .args in
+    sym (every-no (byValues (asked (now (s .ticket)) (s .s)) (now (s .labels)) (now (s .model))) (s .s .p) (l .x) (omega arith)
     (sym (c .before .values-fit .ensures) ∙ not-true _ (c .if2 .taken)))
 
 add-x : tie.Need-add-x Inv-loop μ-loop
@@ -41,18 +41,18 @@ loop-less c = search needs
 loop-again : tie.Need-loop-again Inv-loop μ-loop
 loop-again c =
     let l = c .before .before .before .before .loop in
-    let s = c .before .before .before .before .before .before .args in (
+    let s = c .before .before .before .before .before .before .before .args in (
       omega arith,
-      every-more (byValues (asked (now (s .ticket)) (s .s)) (s .labels) (now (s .model))) (l .x) (l .inv .1)
+      every-more (byValues (asked (now (s .ticket)) (s .s)) (now (s .labels)) (now (s .model))) (l .x) (l .inv .1)
           (sym (c .before .values-fit .ensures) ∙ not-false _ (c .if2 .left)),
     )
 
 returns-2 : tie.Need-returns-2 Inv-loop μ-loop
 returns-2 c =
     let l = c .before .before .loop in
-    let s = c .before .before .before .before .args in
+    let s = c .before .before .before .before .before .args in
     let e : l .x ≡ s .s .p = omega arith in
-    sym (ap (λ (k : ℕ). allBelow k (byValues (asked (now (s .ticket)) (s .s)) (s .labels) (now (s .model)))) (sym e) ∙ l .inv .1)
+    sym (ap (λ (k : ℕ). allBelow k (byValues (asked (now (s .ticket)) (s .s)) (now (s .labels)) (now (s .model)))) (sym e) ∙ l .inv .1)
 
 pub every-fits-spec : {M : Type 1} → statement M
 every-fits-spec =

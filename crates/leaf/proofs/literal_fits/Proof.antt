@@ -19,12 +19,14 @@ use Rattle.leaf.proofs.literal_fits.Tie as tie
 
 -- the literal that was found
 found-is : (c : tie.After-known-told) →
-    let args = c .before .before .before .before .before .before .args in
-    literalIn (asked (now (args .ticket)) (args .s)) (args .labels) (args .x) ≡ some (c .before .found .given .0 .0)
+    let args = c .before .before .before .before .before .before .before .args in
+    literalIn (asked (now (args .ticket)) (args .s)) (now (args .labels)) (args .x) ≡ some (c .before .found .given .0 .0)
 unfolding literalOf
 found-is c =
-    let s = c .before .before .before .before .before .before .args in
-    literal-in (now (s .ticket)) (s .s) (s .labels) (s .x) ∙ sym (c .before .before .before .class-literal .ensures) ∙ ap literalOf (c .before .found .given .1)
+    let s = c .before .before .before .before .before .before .before .args in
+    literal-in (now (s .ticket)) (s .s) (now (s .labels)) (s .x)
+    ∙ sym (c .before .before .before .class-literal .ensures)
+    ∙ ap literalOf (c .before .found .given .1)
 
 add-class-literal : tie.Need-add-class-literal
 add-class-literal c = search needs
@@ -37,8 +39,8 @@ enum-known-found c = search needs
 
 literal-text-requires : tie.Need-literal-text-requires
 literal-text-requires c κs =
-    let s = c .before .before .before .before .before .before in
-    literal-whole (now (s .args .ticket)) (s .args .s) (s .args .labels) (s .args .x) (c .before .found .given .0 .0) (found-is c) (s .pre .0)
+    let s = c .before .before .before .before .before .before .before in
+    literal-whole (now (s .args .ticket)) (s .args .s) (now (s .args .labels)) (s .args .x) (c .before .found .given .0 .0) (found-is c) (s .pre .0)
 
 fits-text-requires : tie.Need-fits-text-requires
 fits-text-requires c κs = c .literal-text .ensures .0
@@ -49,7 +51,7 @@ enum-told c = search needs
 returns : tie.Need-returns
 unfolding asked
 returns c =
-    let s = c .before .before .before .before .before .before .before .before in
+    let s = c .before .before .before .before .before .before .before .before .before in
     let b = now (s .args .ticket) in
     let l = c .before .before .before .found .given .0 .0 in
     c .fits-text .ensures
@@ -57,16 +59,16 @@ returns c =
     (toZ-ofZ (s .fits .code))
     ∙ ap (λ (t : List ℕ). textFits t (s .args .len) (s .args .code))
     (c .before .literal-text .ensures .1 (s .args .s .literals)
-    (literal-known b (s .args .s) (s .args .labels) (s .args .x) l (found-is (c .before .before))))
+    (literal-known b (s .args .s) (now (s .args .labels)) (s .args .x) l (found-is (c .before .before))))
     ∙ sym (literal-some (asked b (s .args .s)) (s .args .len) (s .args .code) _ l (found-is (c .before .before)))
 
 returns-2 : tie.Need-returns-2
 unfolding literalOf
 returns-2 c =
-    let s = c .before .before .before .before .before .args in
+    let s = c .before .before .before .before .before .before .args in
     let b = now (s .ticket) in
     sym (literal-none (asked b (s .s)) (s .len) (s .code) _
-    (literal-in b (s .s) (s .labels) (s .x) ∙ sym (c .before .before .class-literal .ensures) ∙ ap literalOf (c .enum-told .given .1)))
+    (literal-in b (s .s) (now (s .labels)) (s .x) ∙ sym (c .before .before .class-literal .ensures) ∙ ap literalOf (c .enum-told .given .1)))
 
 pub literal-fits-spec : {M : Type 1} → statement M
 literal-fits-spec =

@@ -18,11 +18,12 @@ use Rattle.leaf.proofs.saturated.Tie as tie
 -- S-Conf's test
 conflict-test : (c : tie.After-conflict)
     → c .conflict .result
-    ≡ conflict (asked (now (c .before .before .before .args .ticket)) (c .before .before .before .args .s))
-    (branchOf (now (c .before .before .before .args .work)) (c .before .before .before .args .count))
+    ≡ conflict (asked (now (c .before .before .before .before .args .ticket)) (c .before .before .before .before .args .s))
+    (branchOf (now (c .before .before .before .before .args .work)) (c .before .before .before .before .args .count))
 conflict-test c =
-    let s = c .before .before .before in
-    c .conflict .ensures ∙ conflict-is (now (s .args .ticket)) (s .args .s) (s .args .labels) (branchOf (now (s .args .work)) (s .args .count)) (s .pre .1)
+    let s = c .before .before .before .before in
+    c .conflict .ensures
+    ∙ conflict-is (now (s .args .ticket)) (s .args .s) (now (s .args .labels)) (branchOf (now (s .args .work)) (s .args .count)) (s .pre .1)
 
 add-conflict : tie.Need-add-conflict
 add-conflict c = search needs
@@ -32,7 +33,7 @@ conflict-requires c κs = search needs
 
 returns : tie.Need-returns
 returns c =
-    let s = c .before .before .before .before .args in
+    let s = c .before .before .before .before .before .args in
     let u = asked (now (s .ticket)) (s .s) in
     let b = branchOf (now (s .work)) (s .count) in
     sym (saturated-is u b (now (s .model))
@@ -44,7 +45,7 @@ every-fits-requires c κs = search needs
 returns-2 : tie.Need-returns-2
 unfolding asked
 returns-2 c =
-    let s = c .before .before .before .before .before in
+    let s = c .before .before .before .before .before .before in
     let u = asked (now (s .args .ticket)) (s .args .s) in
     let m = now (s .args .model) in
     let b = branchOf (now (s .args .work)) (s .args .count) in

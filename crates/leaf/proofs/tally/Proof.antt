@@ -1,5 +1,6 @@
 -- `leaf::tally` meets its contract.
 use borrow.Author.Needs.{needs}
+use denote.Ref.{now}
 use borrow.Author.Tests.{not-false, not-true}
 use mathlib.Core.Path.{_∙_, _≡_, sym}
 use native.Mathlib.Omega.{arith}
@@ -11,24 +12,28 @@ use Rattle.leaf.proofs.tally.Statement.{statement}
 use Rattle.leaf.proofs.tally.Tie as tie
 
 -- the test of the length
-lengths : (c : tie.After-equal) → c .equal .result ≡ eqℤ (c .before .args .len) (c .before .args .wanted)
-lengths c = equal-read (c .equal .result) (c .before .args .len) (c .before .args .wanted) (c .before .fits .len) (c .before .fits .wanted) (c .equal .ensures)
+lengths : (c : tie.After-equal) → c .equal .result ≡ eqℤ (c .before .before .args .len) (c .before .before .args .wanted)
+lengths c =
+    equal-read (c .equal .result) (c .before .before .args .len) (c .before .before .args .wanted) (c .before .before .fits .len)
+    (c .before .before .fits .wanted) (c .equal .ensures)
 
 equal-requires : tie.Need-equal-requires
 equal-requires c κs = search needs
 
 returns : tie.Need-returns
 returns c =
-    let s = c .before .before .args in
-    (tally-other (lowestVariable (s .labels) (s .y)) (s .y) (eqℤ (s .len) (s .wanted)) (sym (lengths (c .before)) ∙ not-true _ (c .if1 .taken)), omega arith)
+    let s = c .before .before .before .args in (
+      tally-other (lowestVariable (now (s .labels)) (s .y)) (s .y) (eqℤ (s .len) (s .wanted)) (sym (lengths (c .before)) ∙ not-true _ (c .if1 .taken)),
+      omega arith,
+    )
 
 lowest-variable-requires : tie.Need-lowest-variable-requires
 lowest-variable-requires c κs = search needs
 
 returns-2 : tie.Need-returns-2
 returns-2 c =
-    let s = c .before .before .before .before .args in (
-      tally-higher (lowestVariable (s .labels) (s .y)) (s .y) (eqℤ (s .len) (s .wanted))
+    let s = c .before .before .before .before .before .args in (
+      tally-higher (lowestVariable (now (s .labels)) (s .y)) (s .y) (eqℤ (s .len) (s .wanted))
           (sym (lengths (c .before .before .before)) ∙ not-false _ (c .before .before .if1 .left))
           (λ e. c .if2 .taken (c .before .lowest-variable .ensures ∙ e)),
       omega arith,
@@ -36,8 +41,8 @@ returns-2 c =
 
 returns-3 : tie.Need-returns-3
 returns-3 c =
-    let s = c .before .before .before .before .args in (
-      tally-one (lowestVariable (s .labels) (s .y)) (s .y) (eqℤ (s .len) (s .wanted))
+    let s = c .before .before .before .before .before .args in (
+      tally-one (lowestVariable (now (s .labels)) (s .y)) (s .y) (eqℤ (s .len) (s .wanted))
           (sym (lengths (c .before .before .before)) ∙ not-false _ (c .before .before .if1 .left)) (sym (c .before .lowest-variable .ensures) ∙ c .if2 .left),
       omega arith,
     )

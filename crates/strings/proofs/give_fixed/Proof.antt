@@ -48,7 +48,9 @@ part-fill-fixed-end : tie.Need-part-fill-fixed-end Inv-loop μ-loop
 part-fill-fixed-end c = search needs
 
 fill-fixed-requires : tie.Need-fill-fixed-requires Inv-loop μ-loop
-fill-fixed-requires c κs = let s = c .before .before .before .before .before .before in ((s .pre .0 .0, search needs, search needs), s .pre .1)
+fill-fixed-requires c κs =
+    let s = c .before .before .before .before .before .before .before in
+    ((s .pre .0 .0, s .pre .0 .1, search needs, search needs), s .pre .1)
 
 mul-sizes : tie.Need-mul-sizes Inv-loop μ-loop
 mul-sizes c = search needs
@@ -65,7 +67,7 @@ loop-less c = search needs
 loop-again : tie.Need-loop-again Inv-loop μ-loop
 loop-again c =
     let l = c .before .before .before .before .before .before .loop in
-    let s = c .before .before .before .before .before .before .before .before .before .args in
+    let s = c .before .before .before .before .before .before .before .before .before .before .args in
     let r = c .before .before .fill-fixed in
     let v = r .last .1 .1 .1 .1 .1 .0 in
     let at = 64 * l .x in
@@ -80,7 +82,7 @@ loop-again c =
       simp length-set (l .inv .2),
       λ y h. ap (λ (cs : List ℕ). stringIn cs (set (l .sizes) (l .x) (r .result)) y) p
           ∙ stored-passed (l .characters) (l .sizes) (l .x) (r .result) v (omega arith) (λ q. omega arith) (omega arith) (omega arith)
-          (fixedAt (asked (now (s .ticket)) (s .s)) (s .labels) (now (s .model))) (l .inv .3) (r .ensures) y h,
+          (fixedAt (asked (now (s .ticket)) (s .s)) (now (s .labels)) (now (s .model))) (l .inv .3) (r .ensures) y h,
     )
 
 same-length : tie.Need-same-length Inv-loop μ-loop

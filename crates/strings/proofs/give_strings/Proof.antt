@@ -27,29 +27,30 @@ abbrev μ-loop : tie.MeasureT-loop
 μ-loop ticket model s labels characters₀ sizes₀ x₀ characters sizes x = s .p - x
 
 give-fixed-requires : tie.Need-give-fixed-requires Inv-loop μ-loop
-give-fixed-requires c κs = (c .before .before .before .pre .0, c .before .before .before .pre .1 .0)
+give-fixed-requires c κs = (c .before .before .before .before .pre .0, c .before .before .before .before .pre .1 .0)
 
 loop-holds : tie.Need-loop-holds Inv-loop μ-loop
 unfolding asked
 loop-holds c =
-    let s = c .before .before .before .before .before .before in
+    let s = c .before .before .before .before .before .before .before in
     let k : length (c .before .before .give-fixed .last .1 .1 .1 .1 .0) ≡ length (now (s .args .characters)) =
     c .before .before .give-fixed .kept .1 .1 .1 .1 .0 in (
       omega arith,
       s .pre .0 .0 .posed .stands .few-strings,
-      omega (arith, s .pre .0 .1),
+      omega (arith, s .pre .0 .2),
       refl,
       c .before .before .give-fixed .ok .1 .0 .1,
       (λ y h. omega arith),
-      λ b e. round-start (asked (now (s .args .ticket)) (s .args .s)) b (now (s .args .model)) (s .args .labels) _ _ e (c .before .before .give-fixed .ensures),
+      λ b e. round-start (asked (now (s .args .ticket)) (s .args .s)) b (now (s .args .model)) (now (s .args .labels)) _ _ e
+          (c .before .before .give-fixed .ensures),
     )
 
 complete-requires : tie.Need-complete-requires Inv-loop μ-loop
 unfolding asked
 complete-requires c κs =
-    let s = c .before .before .before .before .before .before .before .before .before .before in
+    let s = c .before .before .before .before .before .before .before .before .before .before .before in
     let l = c .before .before .before .loop in (
-      (search needs, some-character (s .pre .0 .0 .posed), s .pre .0 .0 .posed .stands .few-characters, c .before .if1 .taken, l .inv .2),
+      (search needs, s .pre .0 .1, some-character (s .pre .0 .0 .posed), s .pre .0 .0 .posed .stands .few-characters, c .before .if1 .taken, l .inv .2),
       (short-length (asked (now (s .args .ticket)) (s .args .s)) (now (s .args .model)) (l .x) (s .pre .1 .1) (c .before .if1 .taken), l .inv .5),
     )
 
@@ -58,7 +59,7 @@ mul-sizes c = search needs
 
 array-write-sizes : tie.Need-array-write-sizes Inv-loop μ-loop
 array-write-sizes c =
-    let args = c .before .before .before .before .before .before .before .before .before .before .before .before .before .args in
+    let args = c .before .before .before .before .before .before .before .before .before .before .before .before .before .before .args in
     let l = c .before .before .before .before .before .before .loop in
     let h : l .x < args .s .p = c .before .before .before .before .if1 .taken in
     omega (arith, l .inv .1)
@@ -73,7 +74,7 @@ loop-again : tie.Need-loop-again Inv-loop μ-loop
 unfolding asked
 loop-again c =
     let l = c .before .before .before .before .before .before .loop in
-    let s = c .before .before .before .before .before .before .before .before .before .before .before .before .before .args in
+    let s = c .before .before .before .before .before .before .before .before .before .before .before .before .before .before .args in
     let r = c .before .before .complete in
     let u = asked (now (s .ticket)) (s .s) in
     let m = now (s .model) in
@@ -102,7 +103,7 @@ returns : tie.Need-returns Inv-loop μ-loop
 unfolding asked
 returns c =
     let l = c .before .before .loop in
-    let s = c .before .before .before .before .before .before .before .before .before in
+    let s = c .before .before .before .before .before .before .before .before .before .before in
     let u = asked (now (s .args .ticket)) (s .args .s) in
     let m = now (s .args .model) in
     let x : l .x ≡ s .args .s .p = omega arith in (
