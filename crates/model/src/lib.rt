@@ -62,7 +62,7 @@ fn leaf_fault(
     }
     let columns = s.q + (s.p + s.p);
     let values = &model[..columns];
-    if !leaf::saturated(ticket, work, count, values, s, labels) {
+    if !leaf::saturated(ticket, work, count, values, s, &labels) {
         return 13;
     }
     if !leaf::short_lengths(values, s) {
@@ -127,6 +127,6 @@ pub fn write(ticket: &[u8], s: Progress, settled: Settled, answer: &mut [u8])
     let model = settled.model;
     let columns = s.q + (s.p + s.p);
     let mut characters = [0u32; TABLE_CHARACTERS];
-    let sizes = give_strings(ticket, &model[..columns], s, labels, &mut characters);
+    let sizes = give_strings(ticket, &model[..columns], s, &labels, &mut characters);
     write_answer(answer, &characters, &sizes, s.p, &model[..columns], s.q);
 }

@@ -28,12 +28,12 @@ keeps-test c =
 
 -- 13's and 14's
 saturated-test : (c : tie.After-saturated) →
-    let args = c .before .before .before .before .before .before .before .args in
+    let args = c .before .before .before .before .before .before .before .before .args in
     c .saturated .result ≡ saturated (asked (now (args .ticket)) (args .s)) (branchOf (now (args .work)) (args .count)) (values (args .s) (now (args .model)))
 saturated-test c = c .saturated .ensures
 
 lengths-test : (c : tie.After-short-lengths) →
-    let args = c .before .before .before .before .before .before .before .before .before .args in
+    let args = c .before .before .before .before .before .before .before .before .before .before .args in
     c .short-lengths .result ≡ shortLengths (asked (now (args .ticket)) (args .s)) (values (args .s) (now (args .model)))
 unfolding asked
 lengths-test c = c .short-lengths .ensures
@@ -59,29 +59,39 @@ slice-aggregate-values c =
     sym (length-take-le (columnCount (numbered (s .args .s))) (now (s .args .model))
     (omega (arith, few-columns (now (s .args .ticket)) (s .args .s) (s .pre .0 .0), s .pre .0 .1 .all)))
 
+slice-aggregate-saturated : tie.Need-slice-aggregate-saturated
+slice-aggregate-saturated c = search needs
+
 saturated-requires : tie.Need-saturated-requires
 saturated-requires c κs =
-    let s = c .before .before .before .before .before .before in
-    ((columns-ready (now (s .args .ticket)) (s .args .s) (s .pre .0 .0) (now (s .args .model)) (s .pre .0 .1 .all), search needs, search needs), s .pre .1 .1)
+    let s = c .before .before .before .before .before .before .before in (
+      (
+        columns-ready (now (s .args .ticket)) (s .args .s) (s .pre .0 .0) (now (s .args .model)) (s .pre .0 .1 .all),
+        search needs,
+        search needs,
+        search needs,
+      ),
+      s .pre .1 .1,
+    )
 
 returns-2 : tie.Need-returns-2
 returns-2 c =
-    let if1 = c .before .before .before .before .before .if1 in
-    let after-keeps-facts = c .before .before .before .before .before .before in
-    let s = c .before .before .before .before .before .before .before .before .args in
+    let if1 = c .before .before .before .before .before .before .if1 in
+    let after-keeps-facts = c .before .before .before .before .before .before .before in
+    let s = c .before .before .before .before .before .before .before .before .before .args in
     leaf-tests (asked (now (s .ticket)) (s .s)) (branchOf (now (s .work)) (s .count)) (values (s .s) (now (s .model))) true false _
     (sym (keeps-test after-keeps-facts) ∙ not-false _ (if1 .left)) (sym (saturated-test (c .before)) ∙ not-true _ (c .if2 .taken)) refl
 
 short-lengths-requires : tie.Need-short-lengths-requires
 short-lengths-requires c κs =
-    let s = c .before .before .before .before .before .before .before .before in
+    let s = c .before .before .before .before .before .before .before .before .before in
     search (needs, columns-ready (now (s .args .ticket)) (s .args .s) (s .pre .0 .0) (now (s .args .model)) (s .pre .0 .1 .all))
 
 returns-3 : tie.Need-returns-3
 returns-3 c =
-    let if1 = c .before .before .before .before .before .before .before .if1 in
-    let after-keeps-facts = c .before .before .before .before .before .before .before .before in
-    let s = c .before .before .before .before .before .before .before .before .before .before .args in
+    let if1 = c .before .before .before .before .before .before .before .before .if1 in
+    let after-keeps-facts = c .before .before .before .before .before .before .before .before .before in
+    let s = c .before .before .before .before .before .before .before .before .before .before .before .args in
     leaf-tests (asked (now (s .ticket)) (s .s)) (branchOf (now (s .work)) (s .count)) (values (s .s) (now (s .model))) true true false
     (sym (keeps-test after-keeps-facts) ∙ not-false _ (if1 .left))
     (sym (saturated-test (c .before .before .before)) ∙ not-false _ (c .before .before .if2 .left))
@@ -89,9 +99,9 @@ returns-3 c =
 
 returns-4 : tie.Need-returns-4
 returns-4 c =
-    let if1 = c .before .before .before .before .before .before .before .if1 in
-    let after-keeps-facts = c .before .before .before .before .before .before .before .before in
-    let s = c .before .before .before .before .before .before .before .before .before .before .args in
+    let if1 = c .before .before .before .before .before .before .before .before .if1 in
+    let after-keeps-facts = c .before .before .before .before .before .before .before .before .before in
+    let s = c .before .before .before .before .before .before .before .before .before .before .before .args in
     leaf-tests (asked (now (s .ticket)) (s .s)) (branchOf (now (s .work)) (s .count)) (values (s .s) (now (s .model))) true true true
     (sym (keeps-test after-keeps-facts) ∙ not-false _ (if1 .left))
     (sym (saturated-test (c .before .before .before)) ∙ not-false _ (c .before .before .if2 .left))
@@ -106,6 +116,7 @@ leaf-fault-spec =
     add-columns
     add-columns-2
     slice-aggregate-values
+    slice-aggregate-saturated
     saturated-requires
     returns-2
     short-lengths-requires

@@ -29,10 +29,13 @@ slice-aggregate-give-strings c =
 slice-aggregate-give-strings-2 : tie.Need-slice-aggregate-give-strings-2
 slice-aggregate-give-strings-2 c = search needs
 
+slice-aggregate-give-strings-3 : tie.Need-slice-aggregate-give-strings-3
+slice-aggregate-give-strings-3 c = search needs
+
 give-strings-requires : tie.Need-give-strings-requires
 give-strings-requires c κs =
-    let w = c .before .before .before .before .before .before .before .before .pre .0 in
-    ((w .ready, search needs), (w .small, w .short-lengths))
+    let w = c .before .before .before .before .before .before .before .before .before .pre .0 in
+    ((w .ready, search needs, search needs), (w .small, w .short-lengths))
 
 slice-aggregate-write-answer : tie.Need-slice-aggregate-write-answer
 slice-aggregate-write-answer c = search needs
@@ -42,18 +45,18 @@ slice-aggregate-write-answer-2 c = search needs
 
 array-share-prefix-model-2 : tie.Need-array-share-prefix-model-2
 array-share-prefix-model-2 c =
-    let s = c .before .before .before .before .before .before .before .before .before .before .before .before .before in
+    let s = c .before .before .before .before .before .before .before .before .before .before .before .before .before .before in
     columns-there (now (s .args .ticket)) (s .args .s) (s .args .settled) (s .pre .0)
 
 slice-aggregate-write-answer-3 : tie.Need-slice-aggregate-write-answer-3
 slice-aggregate-write-answer-3 c =
-    let s = c .before .before .before .before .before .before .before .before .before .before .before .before .before .before in
+    let s = c .before .before .before .before .before .before .before .before .before .before .before .before .before .before .before in
     sym (columns-long (now (s .args .ticket)) (s .args .s) (s .args .settled) (s .pre .0))
 
 write-answer-requires : tie.Need-write-answer-requires
 write-answer-requires c κs =
     let give-strings = c .before .before .before .before .before .give-strings in
-    let s = c .before .before .before .before .before .before .before .before .before .before .before .before .before .before in
+    let s = c .before .before .before .before .before .before .before .before .before .before .before .before .before .before .before in
     (give-strings .ensures .1, integers-there (now (s .args .ticket)) (s .args .s) (s .args .settled) (s .pre .0), s .pre .1)
 
 same-length : tie.Need-same-length
@@ -62,7 +65,7 @@ same-length c = search needs
 returns : tie.Need-returns
 returns c br m a =
     let give-strings = c .before .before .before .before .before .before .before .before .give-strings in
-    let s = c .before .before .before .before .before .before .before .before .before .before .before .before .before .before .before .before .before .args in
+    let s = c .before .before .before .before .before .before .before .before .before .before .before .before .before .before .before .before .before .before .args in
     c .before .before .write-answer .ensures
     ∙ ap (λ (x : Assignment). encode x ++ drop (length (encode x)) (now (s .answer)))
     (answer-is (now (s .ticket)) (s .s) br m (s .settled) a _ _ (give-strings .ensures .0 br (a .classes)))
@@ -76,6 +79,7 @@ write-spec =
     array-share-prefix-model
     slice-aggregate-give-strings
     slice-aggregate-give-strings-2
+    slice-aggregate-give-strings-3
     give-strings-requires
     slice-aggregate-write-answer
     slice-aggregate-write-answer-2
