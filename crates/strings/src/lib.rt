@@ -92,9 +92,9 @@ fn is_row(characters: &[u32], y: usize, size: usize, w: &[u32]) -> bool
 }
 
 // Is w a string of the table?
-fn is_given(characters: &[u32], sizes: [usize; VARIABLE_LIMIT], p: usize, w: &[u32]) -> bool
-    requires { ⌜ (p ≤ variableLimit) × (lengthLimit * p ≤ length (now characters)) ⌝ }
-    ensures { λ r. ⌜ r ≡ given (now (w .entry)) (givenStrings (now (characters .entry)) sizes p) ⌝ }
+fn is_given(characters: &[u32], sizes: &[usize], p: usize, w: &[u32]) -> bool
+    requires { ⌜ (length (now sizes) ≡ variableLimit) × (p ≤ variableLimit) × (lengthLimit * p ≤ length (now characters)) ⌝ }
+    ensures { λ r. ⌜ r ≡ given (now (w .entry)) (givenStrings (now (characters .entry)) (now (sizes .entry)) p) ⌝ }
 {
     let mut y = 0;
     while y < p {
@@ -108,15 +108,10 @@ fn is_given(characters: &[u32], sizes: [usize; VARIABLE_LIMIT], p: usize, w: &[u
 }
 
 // "the smallest string of its length, by code points, not yet given".
-fn fresh(
-    characters: &[u32],
-    sizes: [usize; VARIABLE_LIMIT],
-    p: usize,
-    n: usize,
-    m: usize,
-) -> [u32; LENGTH_LIMIT]
-    requires { ⌜ (p ≤ variableLimit) × (m ≤ lengthLimit) × (lengthLimit * p ≤ length (now characters)) × (1 ≤ n) × (n ≤ alphabetLimit) ⌝ }
-    ensures { λ r. ⌜ take m r ≡ freshFrom p n m (givenStrings (now (characters .entry)) sizes p) 0 ⌝ }
+fn fresh(characters: &[u32], sizes: &[usize], p: usize, n: usize, m: usize) -> [u32; LENGTH_LIMIT]
+    requires { ⌜ (length (now sizes) ≡ variableLimit) × (p ≤ variableLimit) × (m ≤ lengthLimit) × (lengthLimit * p ≤ length (now characters)) × (1 ≤ n)
+        × (n ≤ alphabetLimit) ⌝ }
+    ensures { λ r. ⌜ take m r ≡ freshFrom p n m (givenStrings (now (characters .entry)) (now (sizes .entry)) p) 0 ⌝ }
 {
     let mut k = 0;
     while k < p {
@@ -161,14 +156,14 @@ fn row_of(characters: &[u32], y: usize, m: usize) -> [u32; LENGTH_LIMIT]
     out
 }
 
-// The string of variable x becomes the first `size` characters of w.
-fn store(characters: &mut [u32], x: usize, w: [u32; LENGTH_LIMIT], size: usize)
-    requires { ⌜ (x < variableLimit) × (size ≤ lengthLimit) × (lengthLimit * x + lengthLimit ≤ length (now characters)) ⌝ }
-    ensures { λ _. ⌜ now (characters .exit) ≡ sets (now (characters .entry)) (lengthLimit * x) (take size w) ⌝ }
+// The string of variable x becomes w.
+fn store(characters: &mut [u32], x: usize, w: &[u32])
+    requires { ⌜ (x < variableLimit) × (length (now w) ≤ lengthLimit) × (lengthLimit * x + lengthLimit ≤ length (now characters)) ⌝ }
+    ensures { λ _. ⌜ now (characters .exit) ≡ sets (now (characters .entry)) (lengthLimit * x) (now (w .entry)) ⌝ }
 {
     let from = LENGTH_LIMIT * x;
     let mut i = 0;
-    while i < size {
+    while i < w.len() {
         let c = w[i];
         characters[from + i] = c;
         i += 1;
@@ -249,16 +244,17 @@ fn complete(
     s: Progress,
     labels: &[u8],
     characters: &mut [u32],
-    sizes: [usize; VARIABLE_LIMIT],
+    sizes: &[usize],
     x: usize,
 ) -> usize
     requires { ⌜ Modelled (now model) s × (length (now labels) ≡ nodeCount) × (1 ≤ s .n) × (s .n ≤ alphabetLimit) × (x < s .p)
-        × (lengthLimit * s .p ≤ length (now characters)) ⌝ }
+        × (lengthLimit * s .p ≤ length (now characters)) × (length (now sizes) ≡ variableLimit) ⌝ }
     requires { ⌜ natAbs (modelValue (numbered s) (now model) len x) ≤ lengthLimit ⌝ }
-    requires { ⌜ ((y : ℕ) → y < x → getD sizes y 0 ≤ lengthLimit) ⌝ }
+    requires { ⌜ ((y : ℕ) → y < x → getD (now sizes) y 0 ≤ lengthLimit) ⌝ }
     ensures { λ r. ⌜ now (characters .exit)
-        ≡ sets (now (characters .entry)) (lengthLimit * x) (completedBy s (now (labels .entry)) (now (model .entry)) (now (characters .entry)) sizes x) ⌝ }
-    ensures { λ r. ⌜ r ≡ length (completedBy s (now (labels .entry)) (now (model .entry)) (now (characters .entry)) sizes x) ⌝ }
+        ≡ sets (now (characters .entry)) (lengthLimit * x)
+        (completedBy s (now (labels .entry)) (now (model .entry)) (now (characters .entry)) (now (sizes .entry)) x) ⌝ }
+    ensures { λ r. ⌜ r ≡ length (completedBy s (now (labels .entry)) (now (model .entry)) (now (characters .entry)) (now (sizes .entry)) x) ⌝ }
     ensures { λ r. ⌜ r ≤ lengthLimit ⌝ }
 {
     let own = sizes[x];
@@ -269,13 +265,13 @@ fn complete(
     if first < x {
         let size = sizes[first];
         let w = row_of(characters, first, size);
-        store(characters, x, w, size);
+        store(characters, x, &w[..size]);
         return size;
     }
     let len = leaf::value_of(model, s, LEN, x);
     let m = leaf::magnitude(len);
     let w = fresh(characters, sizes, s.p, s.n, m);
-    store(characters, x, w, m);
+    store(characters, x, &w[..m]);
     m
 }
 
@@ -298,7 +294,7 @@ pub fn give_strings(
     let mut sizes = give_fixed(ticket, model, s, labels, characters);
     let mut x = 0;
     while x < s.p {
-        let size = complete(model, s, labels, characters, sizes, x);
+        let size = complete(model, s, labels, characters, &sizes, x);
         sizes[x] = size;
         x += 1;
     }

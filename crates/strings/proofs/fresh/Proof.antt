@@ -24,9 +24,9 @@ abbrev μ-loop : tie.MeasureT-loop
 
 loop-holds : tie.Need-loop-holds Inv-loop μ-loop
 loop-holds c =
-    let s = c .before .args in
+    let s = c .before .before .args in
     let e : s .p - 0 ≡ s .p = omega arith in
-    (omega arith, ap (λ (d : ℕ). freshFrom d (s .n) (s .m) (givenStrings (now (s .characters)) (s .sizes) (s .p)) 0) e)
+    (omega arith, ap (λ (d : ℕ). freshFrom d (s .n) (s .m) (givenStrings (now (s .characters)) (now (s .sizes)) (s .p)) 0) e)
 
 fill-word-requires : tie.Need-fill-word-requires Inv-loop μ-loop
 fill-word-requires c κs = (refl, omega arith, omega arith, omega arith, omega arith)
@@ -36,7 +36,7 @@ array-share-prefix-w c = let n : length (c .fill-word .last .0) ≡ 64 = c .fill
 
 slice-aggregate-is-given : tie.Need-slice-aggregate-is-given Inv-loop μ-loop
 slice-aggregate-is-given c =
-    let args = c .before .before .before .before .before .before .args in
+    let args = c .before .before .before .before .before .before .before .args in
     let n : length (c .before .fill-word .last .0) ≡ 64 = c .before .fill-word .ensures .1 in
     sym (length-take-le (args .m) (c .before .fill-word .last .0) (omega arith))
 
@@ -46,8 +46,8 @@ is-given-requires c κs = search needs
 returns : tie.Need-returns Inv-loop μ-loop
 returns c =
     let l = c .before .before .before .before .before .before .loop in
-    let s = c .before .before .before .before .before .before .before .before .args in
-    let g = givenStrings (now (s .characters)) (s .sizes) (s .p) in
+    let s = c .before .before .before .before .before .before .before .before .before .args in
+    let g = givenStrings (now (s .characters)) (now (s .sizes)) (s .p) in
     let e : given (word (s .n) (s .m) (l .k)) g ≡ false =
     ap (λ (w : List ℕ). given w g) (sym (c .before .before .before .fill-word .ensures .0))
     ∙ sym (c .before .is-given .ensures)
@@ -63,8 +63,8 @@ loop-less c = search needs
 loop-again : tie.Need-loop-again Inv-loop μ-loop
 loop-again c =
     let l = c .before .before .before .before .before .before .loop in
-    let s = c .before .before .before .before .before .before .before .before .args in
-    let g = givenStrings (now (s .characters)) (s .sizes) (s .p) in
+    let s = c .before .before .before .before .before .before .before .before .before .args in
+    let g = givenStrings (now (s .characters)) (now (s .sizes)) (s .p) in
     let e : given (word (s .n) (s .m) (l .k)) g ≡ true =
     ap (λ (w : List ℕ). given w g) (sym (c .before .before .before .fill-word .ensures .0))
     ∙ sym (c .before .is-given .ensures)
@@ -78,8 +78,8 @@ fill-word-requires-2 c κs = (refl, omega arith, omega arith, omega arith, omega
 returns-2 : tie.Need-returns-2 Inv-loop μ-loop
 returns-2 c =
     let l = c .before .before .before .loop in
-    let s = c .before .before .before .before .before .args in
-    let g = givenStrings (now (s .characters)) (s .sizes) (s .p) in
+    let s = c .before .before .before .before .before .before .args in
+    let g = givenStrings (now (s .characters)) (now (s .sizes)) (s .p) in
     let e : s .p ≡ l .k = omega arith in
     c .fill-word2 .ensures .0 ∙ ap (λ (k : ℕ). word (s .n) (s .m) k) e ∙ sym (fresh-done (s .n) (s .m) g (l .k) (s .p - l .k) (omega arith)) ∙ l .inv .1
 

@@ -45,13 +45,24 @@ loop-holds c =
           (c .before .before .give-fixed .ensures),
     )
 
+slice-aggregate-complete : tie.Need-slice-aggregate-complete Inv-loop μ-loop
+slice-aggregate-complete c = search needs
+
 complete-requires : tie.Need-complete-requires Inv-loop μ-loop
 unfolding asked
 complete-requires c κs =
-    let s = c .before .before .before .before .before .before .before .before .before .before .before in
-    let l = c .before .before .before .loop in (
-      (search needs, s .pre .0 .1, some-character (s .pre .0 .0 .posed), s .pre .0 .0 .posed .stands .few-characters, c .before .if1 .taken, l .inv .2),
-      (short-length (asked (now (s .args .ticket)) (s .args .s)) (now (s .args .model)) (l .x) (s .pre .1 .1) (c .before .if1 .taken), l .inv .5),
+    let s = c .before .before .before .before .before .before .before .before .before .before .before .before in
+    let l = c .before .before .before .before .loop in (
+      (
+        search needs,
+        s .pre .0 .1,
+        some-character (s .pre .0 .0 .posed),
+        s .pre .0 .0 .posed .stands .few-characters,
+        c .before .before .if1 .taken,
+        l .inv .2,
+        l .inv .4,
+      ),
+      (short-length (asked (now (s .args .ticket)) (s .args .s)) (now (s .args .model)) (l .x) (s .pre .1 .1) (c .before .before .if1 .taken), l .inv .5),
     )
 
 mul-sizes : tie.Need-mul-sizes Inv-loop μ-loop
@@ -59,9 +70,9 @@ mul-sizes c = search needs
 
 array-write-sizes : tie.Need-array-write-sizes Inv-loop μ-loop
 array-write-sizes c =
-    let args = c .before .before .before .before .before .before .before .before .before .before .before .before .before .before .args in
-    let l = c .before .before .before .before .before .before .loop in
-    let h : l .x < args .s .p = c .before .before .before .before .if1 .taken in
+    let args = c .before .before .before .before .before .before .before .before .before .before .before .before .before .before .before .args in
+    let l = c .before .before .before .before .before .before .before .loop in
+    let h : l .x < args .s .p = c .before .before .before .before .before .if1 .taken in
     omega (arith, l .inv .1)
 
 add-x : tie.Need-add-x Inv-loop μ-loop
@@ -73,12 +84,12 @@ loop-less c = search needs
 loop-again : tie.Need-loop-again Inv-loop μ-loop
 unfolding asked
 loop-again c =
-    let l = c .before .before .before .before .before .before .loop in
-    let s = c .before .before .before .before .before .before .before .before .before .before .before .before .before .before .args in
+    let l = c .before .before .before .before .before .before .before .loop in
+    let s = c .before .before .before .before .before .before .before .before .before .before .before .before .before .before .before .args in
     let r = c .before .before .complete in
     let u = asked (now (s .ticket)) (s .s) in
     let m = now (s .model) in
-    let h : l .x < s .s .p = c .before .before .before .before .if1 .taken in
+    let h : l .x < s .s .p = c .before .before .before .before .before .if1 .taken in
     let few : s .s .p ≤ 16 = l .inv .1 in
     let room : 64 * s .s .p ≤ length (l .characters) = l .inv .2 in
     let all : length (l .sizes) ≡ 16 = l .inv .4 in (
@@ -119,6 +130,7 @@ give-strings-spec =
     μ-loop
     give-fixed-requires
     loop-holds
+    slice-aggregate-complete
     complete-requires
     mul-sizes
     array-write-sizes

@@ -3,7 +3,7 @@ use Prim.Native.Nat.{_*_, _+_, _-_, _≤_, ℕ}
 use borrow.Author.Needs.{needs}
 use denote.Ref.{now}
 use lib.ListN.{getD, length, length-set, set, take}
-use lib.Seq.{sets}
+use lib.Seq.{sets, take-all}
 use mathlib.Core.List.{List}
 use mathlib.Core.Path.{_∙_, _≡_, ap, refl}
 use native.Mathlib.Omega.{arith}
@@ -12,10 +12,10 @@ use Rattle.strings.proofs.store.Statement.{statement}
 use Rattle.strings.proofs.store.Tie as tie
 
 abbrev Inv-loop : tie.InvT-loop
-Inv-loop characters₀ x size w from i₀ characters i = (i ≤ size) × (length characters ≡ length characters₀) × (characters ≡ sets characters₀ (64 * x) (take i w))
+Inv-loop characters₀ x w from i₀ characters i = (i ≤ length w) × (length characters ≡ length characters₀) × (characters ≡ sets characters₀ (64 * x) (take i w))
 
 abbrev μ-loop : tie.MeasureT-loop
-μ-loop characters₀ x size w from i₀ characters i = size - i
+μ-loop characters₀ x w from i₀ characters i = length w - i
 
 mul-from : tie.Need-mul-from Inv-loop μ-loop
 mul-from c = search needs
@@ -26,8 +26,8 @@ loop-holds c = (omega arith, refl, refl)
 mul-c : tie.Need-mul-c Inv-loop μ-loop
 mul-c c = search needs
 
-array-read-c : tie.Need-array-read-c Inv-loop μ-loop
-array-read-c c = search needs
+shared-slice-read-c : tie.Need-shared-slice-read-c Inv-loop μ-loop
+shared-slice-read-c c = search needs
 
 add-characters : tie.Need-add-characters Inv-loop μ-loop
 add-characters c = search needs
@@ -46,13 +46,12 @@ loop-less c = search needs
 
 loop-again : tie.Need-loop-again Inv-loop μ-loop
 loop-again c =
-    let l = c .before .loop in
-    let s = c .before .before in
-    let n : length (s .args .t3) ≡ 64 = s .good .1 .1 .0 .1 .0 .1 in (
+    let l = c .before .before .loop in
+    let s = c .before .before .before .args in (
       omega arith,
       simp length-set (l .inv .1),
-      ap (λ (b : List ℕ). set b (64 * s .args .x + l .i) (getD (s .args .t3) (l .i) 0)) (l .inv .2)
-          ∙ stored-more (now (s .args .characters)) (s .args .t3) (64 * s .args .x) (l .i) (omega arith),
+      ap (λ (b : List ℕ). set b (64 * s .x + l .i) (getD (now (s .w)) (l .i) 0)) (l .inv .2)
+          ∙ stored-more (now (s .characters)) (now (s .w)) (64 * s .x) (l .i) (omega arith),
     )
 
 same-length : tie.Need-same-length Inv-loop μ-loop
@@ -62,8 +61,7 @@ returns : tie.Need-returns Inv-loop μ-loop
 returns c =
     let l = c .before .loop in
     let s = c .before .before .args in
-    let e : l .i ≡ s .size = omega arith in
-    l .inv .2 ∙ ap (λ (i : ℕ). sets (now (s .characters)) (64 * s .x) (take i (s .t3))) e
+    l .inv .2 ∙ ap (λ (v : List ℕ). sets (now (s .characters)) (64 * s .x) v) (take-all (l .i) (now (s .w)) (omega arith))
 
 pub store-spec : {M : Type 1} → statement M
 store-spec =
@@ -74,7 +72,7 @@ store-spec =
     mul-from
     loop-holds
     mul-c
-    array-read-c
+    shared-slice-read-c
     add-characters
     mul-characters
     slice-write-characters
