@@ -100,22 +100,11 @@ pub fn walk(
         let rule = rule_of(u16_at(ticket, i + RECORD_HEAD));
         known = classes_for(rule, known, work, count);
         let labels = known.labels;
-        let pending = b.depth as usize;
-        match take_step(
-            ticket,
-            s,
-            claim,
-            rule,
-            i,
-            size,
-            work,
-            count,
-            pending,
-            labels,
-        ) {
+        let depth = b.depth as usize;
+        match take_step(ticket, s, claim, rule, i, size, work, count, depth, labels) {
             Action::Refused(c) => return Walked::Refused(c, k),
             Action::Closes => {
-                if pending == 0 {
+                if depth == 0 {
                     return Walked::Closed(i + RECORD_HEAD + size, k + 1);
                 }
                 let split = b.latest();

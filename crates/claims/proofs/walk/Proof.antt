@@ -235,8 +235,8 @@ classes-for-requires c κs =
     let o = atLoop (foundAt (c .before .before .before)) .loop in
     (o .inv .knows, ready (c .before) .ready .fine)
 
-cast-pending : tie.Need-cast-pending Inv-loop μ-loop
-cast-pending c = search needs
+cast-depth : tie.Need-cast-depth Inv-loop μ-loop
+cast-depth c = search needs
 
 take-step-requires : tie.Need-take-step-requires Inv-loop μ-loop
 take-step-requires c κs =
@@ -483,7 +483,7 @@ walk-spec =
     u16-at-requires
     rule-of-requires
     classes-for-requires
-    cast-pending
+    cast-depth
     take-step-requires
     enum-known-c
     same-length-4
