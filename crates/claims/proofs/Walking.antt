@@ -10,7 +10,6 @@ use lib.Seq.{take-length}
 use lib.IntN.{ℤ}
 use borrow.Author.Tests.{eqb-true}
 use Rattle.calculus.specs.Limits.{ticketBytes, factLimit, pendingLimit}
-use Rattle.calculus.specs.Classes.{labels}
 use Rattle.calculus.specs.Facts.{Fact, Branch}
 use Rattle.calculus.specs.Walk.{Waiting, Walk, closed, cutBack}
 use Rattle.format.specs.Records.{size, kind, next}
@@ -40,9 +39,14 @@ use Rattle.derivation.proofs.Closing.{rooted-mark}
 use Rattle.derivation.proofs.Acting as acting
 use Rattle.derivation.proofs.Acting.{entered, same-rows, holds-closed, entered-closed, entered-next, extended, entered-one, split-up, few-split, entered-more}
 use Rattle.claims.specs.declared.Walked as walked
-use Rattle.claims.specs.Outcomes.{endsAt, walkedOf, LeafAt}
+use Rattle.claims.specs.Outcomes.{endsAt, firstUpto, walkedOf, LeafAt}
 use Rattle.format.proofs.Faults.{not-both}
 use Rattle.claims.proofs.Turns.{turn-none, turn-faulty, turn-moved, turn-taken}
+
+-- no more than the question's constraints are known at first
+pub first-few : (claim : Claim) (n : ℕ) → firstUpto claim n ≤ n
+first-few NoSolution n = omega arith
+first-few Strings n = omega arith
 
 -- the state that the loop's branch is in order for, under each claim
 unfoldable pub Holds : Claim → List ℕ → Progress → List ℤ → code.Branch → Type 0
@@ -349,24 +353,22 @@ module _ (b : List ℕ) (s : Progress) where
 
   -- ---- classes that are set back
 
-  -- what is known of the question's constraints holds at the mark of the last pending split
-  pub first-known : (w : List ℤ) (c : code.Branch) (first : Known)
+  -- what was known of the question's constraints at the start, with the work area v, holds at the mark of the last pending split
+  pub first-known : (v w : List ℤ) (c : code.Branch) (first : Known)
+      → branchOf v (s .constraints) ≡ asked b s .constraints
+      → Knows v (s .constraints) first
       → InOrder b s w c
       → 0 < c .depth
-      → length (asked b s .constraints) ≡ s .constraints
-      → first .upto ≡ s .constraints
-      → first .labels ≡ labels (asked b s .constraints)
       → Knows w (latestOf (stack c) .mark) first
-  first-known w c first h d n up e =
-      let r : Rooted (asked b s) (branchOf w (c .count)) = h .ok .rooted in
-      let l : first .upto ≤ c .count = omega (arith, r .long, length-branch w (c .count)) in
-      record {
-        few = omega (arith, rooted-mark h d (latestOf (stack c)) refl);
-        labelled =
-            e
-            ∙ ap labels (sym (r .first))
-            ∙ ap labels (ap (λ (j : ℕ). take j (branchOf w (c .count))) (n ∙ sym up) ∙ branch-take w (c .count) (first .upto) l);
-      }
+  first-known v w c first root h o d =
+      let r : Rooted (asked b s) (branchOf w (c .count)) = o .ok .rooted in
+      let n : length (asked b s .constraints) ≡ s .constraints = sym (ap length root) ∙ length-branch v (s .constraints) in
+      let same : branchOf w (s .constraints) ≡ branchOf v (s .constraints) =
+      sym (branch-take w (c .count) (s .constraints) (omega (arith, r .long, n, length-branch w (c .count))))
+      ∙ ap (λ (j : ℕ). take j (branchOf w (c .count))) (sym n)
+      ∙ r .first
+      ∙ sym root in
+      knows-more (knows-kept same h) (omega (arith, n, rooted-mark o d (latestOf (stack c)) refl))
 
   -- and what was set back there on the branch of the next child
   pub known-below : (v w : List ℤ) (mark : ℕ) (d : code.Branch) (known : Known) → KeepsBelow mark v w d → Knows v mark known → Knows w (d .count) known

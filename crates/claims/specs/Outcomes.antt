@@ -30,6 +30,11 @@ abbrev pub endsAt : Claim → ℕ → Bool
 endsAt NoSolution k = false
 endsAt Strings k = eqb k 7
 
+-- of how many facts labels are kept to be set back to: of the question's constraints under claim 1
+abbrev pub firstUpto : Claim → ℕ → ℕ
+firstUpto NoSolution constraints = constraints
+firstUpto Strings constraints = 0
+
 -- a question that was read, with its constraints in their rows
 abbrev pub Loaded : List ℕ → Progress → List ℤ → Type 0
 Loaded b s work = Posed b s × Fine work (s .constraints) × (branchOf work (s .constraints) ≡ asked b s .constraints)

@@ -2,11 +2,15 @@
 ghost use mathlib.Core.Path.{_≡_};
 ghost use Prim.Native.Nat.{_+_, _≤_};
 ghost use lib.ListN.{length};
+ghost use Rattle.calculus.specs.Classes.{labels};
+ghost use Rattle.rows.specs.Rows.{branchOf};
+ghost use Rattle.rows.specs.Work.{Fine};
 ghost use Rattle.question.specs.Posed.{Posed};
 ghost use Rattle.steps.specs.Faults.{faultUnder};
 ghost use Rattle.delimiters.specs.Numbers.{openFault};
-ghost use Rattle.claims.specs.Outcomes.{WholeRecord, endsAt, Loaded, walkFrom, walkedOf, LeafAt};
+ghost use Rattle.claims.specs.Outcomes.{WholeRecord, endsAt, firstUpto, Loaded, walkFrom, walkedOf, LeafAt};
 use branch::Branch;
+use classes::Known;
 use classes::bring_up;
 use classes::nothing_known;
 use classes::set_back;
@@ -57,6 +61,18 @@ fn record_fault(
     step_fault(ticket, s, claim, record + RECORD_HEAD, size)
 }
 
+// What is known of the classes of the question's constraints, for branches that are cut back. Under claim 2 none is.
+fn first_known(claim: Claim, work: &[i64], constraints: usize) -> Known
+    requires { ⌜ Fine (now work) constraints ⌝ }
+    ensures { λ r. ⌜ r .upto ≡ firstUpto claim constraints ⌝ }
+    ensures { λ r. ⌜ r .labels ≡ labels (branchOf (now (work .entry)) (firstUpto claim constraints)) ⌝ }
+{
+    match claim {
+        Claim::NoSolution => bring_up(nothing_known(), work, constraints),
+        Claim::Strings => nothing_known(),
+    }
+}
+
 // ---- all of them
 
 // Refused: the number and the record. Closed: every branch is closed; the position and the number of the record behind. Model: the position and the
@@ -80,7 +96,7 @@ pub fn walk(
     ensures walked { λ x. ⌜ walkedOf (now (ticket .entry)) s (now (work .exit)) x ≡ walkFrom claim (now (ticket .entry)) s r «record» ⌝ }
     ensures leaf { λ x. ⌜ LeafAt (now (ticket .entry)) (now (work .exit)) x ⌝ }
 {
-    let first = bring_up(nothing_known(), work, s.constraints);
+    let first = first_known(claim, work, s.constraints);
     let mut known = first;
     let mut b = Branch::new(s.constraints);
     let mut i = record;

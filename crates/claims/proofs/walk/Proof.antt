@@ -23,7 +23,7 @@ use Rattle.rows.proofs.Branches.{length-branch}
 use Rattle.records.proofs.Finding.{found-whole, not-whole, all-there}
 use Rattle.classes.specs.declared.Known.{Known}
 use Rattle.classes.specs.Classes.{Knows}
-use Rattle.classes.proofs.Laws.{knows-nothing, knows-back}
+use Rattle.classes.proofs.Laws.{knows-back}
 use Rattle.conclusions.proofs.Labels.{known-for}
 use Rattle.question.specs.Posed.{asked}
 use Rattle.steps.specs.Faults.{faultUnder}
@@ -37,11 +37,12 @@ use Rattle.derivation.specs.Ok.{InOrder}
 use Rattle.derivation.specs.Actions.{numberOf, Acts, ReadyUnder}
 use Rattle.derivation.proofs.Holding.{few-splits}
 use Rattle.derivation.proofs.Closing.{open-depth}
-use Rattle.claims.specs.Outcomes.{endsAt, LeafAt}
+use Rattle.claims.specs.Outcomes.{endsAt, firstUpto, LeafAt}
 use Rattle.claims.proofs.Numbers.{form-refused, its-kind, its-form, its-field, its-trial}
-use Rattle.claims.proofs.Walking.{fine-rows, pendingOn, Going, going-same, starts, going-none}
+use Rattle.claims.proofs.Walking.{first-few, fine-rows, pendingOn, Going, going-same, starts, going-none}
 use Rattle.claims.proofs.Walking.{going-refused, going-model, leaf-here, Stepped, same-pending, some-number}
-use Rattle.claims.proofs.Walking.{going-closed, still-open, going-next, few-extended, going-one, can-mark, going-more, first-known, known-below}
+use Rattle.claims.proofs.Walking.{going-closed, still-open, going-next, few-extended, going-one, can-mark, going-more, known-below}
+use Rattle.claims.proofs.Walking as laws
 use Rattle.claims.proofs.walk.Statement.{statement}
 use Rattle.claims.proofs.walk.Tie as tie
 
@@ -59,39 +60,38 @@ abbrev Loop : Type 0
 Loop = tie.At-loop Inv-loop μ-loop
 
 abbrev startOf : Loop → tie.Start Inv-loop μ-loop
-startOf l = l .before .before .before .before .before .before
+startOf l = l .before .before .before .before .before
 
 abbrev bytes : Loop → List ℕ
 bytes l = now (startOf l .args .ticket)
 
 -- ---- the start
 
-nothing-known-requires : tie.Need-nothing-known-requires Inv-loop μ-loop
-nothing-known-requires c κs = search needs
-
-bring-up-requires : tie.Need-bring-up-requires Inv-loop μ-loop
-bring-up-requires c κs =
-    let s = c .before .before .before in
-    let f = s .pre .0 .1 in
-    let none = c .before .nothing-known in (
-      knows-nothing (now (s .args .work)) (s .args .s .constraints) (none .result) (none .ensures .0) (none .ensures .1),
-      (f .few, omega (arith, f .few, f .room)),
-    )
+first-known-requires : tie.Need-first-known-requires Inv-loop μ-loop
+first-known-requires c κs = c .before .before .pre .0 .1
 
 new-requires : tie.Need-new-requires Inv-loop μ-loop
-new-requires c κs = c .before .before .before .before .pre .0 .1 .few
+new-requires c κs = c .before .before .before .pre .0 .1 .few
+
+-- what is known at first
+known-first : (c : tie.After-first-known Inv-loop μ-loop) →
+    let a = c .before .before .before .args in
+    Knows (now (a .work)) (a .s .constraints) (c .first-known .result)
+known-first c =
+    let a = c .before .before .before .args in
+    let first = c .first-known in
+    let few : firstUpto (a .claim) (a .s .constraints) ≤ a .s .constraints = first-few (a .claim) (a .s .constraints) in
+    record {
+      few = omega (arith, first .ensures .0);
+      labelled = first .ensures .1 ∙ ap (λ (n : ℕ). labels (branchOf (now (a .work)) n)) (sym (first .ensures .0));
+    }
 
 loop-holds : tie.Need-loop-holds Inv-loop μ-loop
 loop-holds c =
-    let s = c .before .before .before .before .before in
+    let s = c .before .before .before .before in
     let w = now (s .args .work) in
-    let first = c .before .bring-up in
-    let known : Knows w (s .args .s .constraints) (first .result) = record {
-      few = omega (arith, first .ensures .0);
-      labelled = first .ensures .1 ∙ ap (λ j. labels (branchOf w j)) (sym (first .ensures .0));
-    } in
     starts (now (s .args .ticket)) (s .args .s) w (c .new .result) (s .pre .0 .0) (s .pre .0 .1) (s .pre .0 .2) (c .new .ensures .0) (c .new .ensures .1)
-    (s .args .claim) (s .args .r) (s .args .«record») (first .result) (s .pre .1) known
+    (s .args .claim) (s .args .r) (s .args .«record») (c .before .first-known .result) (s .pre .1) (known-first (c .before))
 
 read-at-requires : tie.Need-read-at-requires Inv-loop μ-loop
 read-at-requires c κs = search needs
@@ -278,7 +278,13 @@ going : (c : tie.After-take-step Inv-loop μ-loop) →
     (o .work) (o .b) (c .before .before .before .before .classes-for .result) (o .i) (o .k)
 going c =
     let g = stoodAt c .loop .inv in
-    record { kept = g .kept; low = g .low; holds = g .holds; knows = known-for (g .knows) (c .before .before .before .before .classes-for .ensures) .0; rest = g .rest }
+    record {
+      kept = g .kept;
+      low = g .low;
+      holds = g .holds;
+      knows = known-for (g .knows) (c .before .before .before .before .classes-for .ensures) .0;
+      rest = g .rest;
+    }
 
 stepped : (c : tie.After-take-step Inv-loop μ-loop) →
     let a = startOf (stoodAt c) .args in
@@ -332,14 +338,14 @@ returns-4 c =
 enum-told : tie.Need-enum-told Inv-loop μ-loop
 enum-told c = search needs
 
+add-t37 : tie.Need-add-t37 Inv-loop μ-loop
+add-t37 c = let t = c .before .before .before .before in fits (stoodAt t .loop .i + 6) (omega (arith, ends-within t))
+
 add-t38 : tie.Need-add-t38 Inv-loop μ-loop
-add-t38 c = let t = c .before .before .before .before in fits (stoodAt t .loop .i + 6) (omega (arith, ends-within t))
+add-t38 c = let t = c .before .before .before .before in fits (stoodAt t .loop .i + 6 + bodyOf t) (ends-within t)
 
 add-t39 : tie.Need-add-t39 Inv-loop μ-loop
-add-t39 c = let t = c .before .before .before .before in fits (stoodAt t .loop .i + 6 + bodyOf t) (ends-within t)
-
-add-t40 : tie.Need-add-t40 Inv-loop μ-loop
-add-t40 c =
+add-t39 c =
     let t = c .before .before .before .before in
     fits (stoodAt t .loop .k + 1) (omega (arith, stoodAt t .loop .inv .low, ends-within t))
 
@@ -364,15 +370,14 @@ opened t q =
 
 -- what is known of the question's constraints holds at the mark of its last pending split
 first-there : (t : tie.After-take-step Inv-loop μ-loop) → t .take-step .result ≡ Closes → 0 < stoodAt t .loop .b .depth →
-    let first = stoodAt t .before .before .bring-up .result in
+    let first = stoodAt t .before .before .first-known .result in
     Knows (workOf t) (latestOf (stack (stoodAt t .loop .b)) .mark) first
 first-there t q d =
     let s = startOf (stoodAt t) in
     let a = s .args in
-    let first = stoodAt t .before .before .bring-up in
-    let root = s .pre .0 .2 in
-    first-known (now (a .ticket)) (a .s) (workOf t) (stoodAt t .loop .b) (first .result) (opened t q .0) d
-    (sym (ap length root) ∙ length-branch (now (a .work)) (a .s .constraints)) (first .ensures .0) (first .ensures .1 ∙ ap labels root)
+    let first = stoodAt t .before .before in
+    laws.first-known (now (a .ticket)) (a .s) (now (a .work)) (workOf t) (stoodAt t .loop .b) (first .first-known .result) (s .pre .0 .2) (known-first first)
+    (opened t q .0) d
 
 latest-requires : tie.Need-latest-requires Inv-loop μ-loop
 latest-requires c κs =
@@ -441,7 +446,7 @@ loop-again c =
     ⊎-elim
     (λ w.
     let q = w .1 .given .1 in
-    let first = l .before .before .bring-up .result in
+    let first = l .before .before .first-known .result in
     let mark = w .3 .result .mark in
     let known =
     subst (λ (x : Known). Knows (workOf t) mark x) (sym (w .5 .ensures))
@@ -464,8 +469,7 @@ walk-spec =
     (tie.spec
     Inv-loop
     μ-loop
-    nothing-known-requires
-    bring-up-requires
+    first-known-requires
     new-requires
     loop-holds
     read-at-requires
@@ -489,9 +493,9 @@ walk-spec =
     same-length-4
     returns-4
     enum-told
+    add-t37
     add-t38
     add-t39
-    add-t40
     same-length-5
     returns-5
     latest-requires
