@@ -33,7 +33,7 @@ use Rattle.derivation.specs.State.{childOn, waitings, stateOf, triedAt, KeepsBe
 use Rattle.derivation.specs.Ok.{Rooted, AllPend, InOrder}
 use Rattle.derivation.specs.Actions.{numberOf, Follows, Acts}
 use Rattle.derivation.specs.declared.Action.{Action}
-use Rattle.derivation.specs.declared.Action.the-variants.{Refused, Closes, Extends, Splits}
+use Rattle.derivation.specs.declared.Action.the-variants.{Closes, Extends, Splits}
 use Rattle.derivation.proofs.Holding.{fine, waiting}
 use Rattle.derivation.proofs.Closing.{rooted-mark}
 use Rattle.derivation.proofs.Acting as acting
@@ -184,14 +184,6 @@ module _ (b : List ℕ) (s : Progress) where
   unfolding Holds
   same-pending NoSolution w c i h = ap (λ (j : ℕ). triedAt NoSolution b s i w (c .count) j) (sym (waiting h))
   same-pending Strings w c i h = refl
-
-  pub some-number : (claim : Claim) (w : List ℤ) (c : code.Branch) (i : ℕ) (v : List ℤ) (f : ℕ)
-      → Acts claim b (asked b s) i (c .depth) w (c .count) v (Refused f)
-      → f ≡ 0
-      → ⊥
-  unfolding Acts
-  some-number NoSolution w c i v f h = h
-  some-number Strings w c i v f h = h
 
   -- under claim 2 no branch closes and none splits: the child taken follows
   module _ {w : List ℤ} {c : code.Branch} {i m : ℕ} {v : List ℤ} {a : Action} (t : Stepped Strings w c i m v a) where

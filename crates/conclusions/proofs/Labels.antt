@@ -6,7 +6,6 @@ use mathlib.Core.List.{List}
 use native.Mathlib.Omega.{arith}
 use lib.IntN.{ℤ}
 use Rattle.calculus.specs.Classes.{labels}
-use Rattle.format.proofs.Faults.{not-both}
 use Rattle.rows.specs.Rows.{branchOf}
 use Rattle.classes.specs.declared.Known.{Known}
 use Rattle.classes.specs.Classes.{Knows}

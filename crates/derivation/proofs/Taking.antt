@@ -168,11 +168,6 @@ module _ (b : List ℕ) (s : Progress) (at m : ℕ) (em : m ≡ size b at) (w : 
       → Follows b (asked b s) (branchOf w count) at v k
   follows v k e f = record { rows = e ∙ ap (λ (i : ℕ). withChild b s (at + 6) i w count (childField b (at + 6))) em; fine = f }
 
-  pub refuses : (claim : Claim) (pending n : ℕ) (v : List ℤ) → (n ≡ 0 → ⊥) → Acts claim b (asked b s) at pending w count v (action.Refused n)
-  unfolding Acts
-  refuses NoSolution pending n v h = h
-  refuses Strings pending n v h = h
-
   -- a rule that closes has no child to take
   pub none-to-take : Ready b s (at + 6) m w count → conclusionsOf (rule b (at + 6)) ≡ Nothing → (pending : ℕ) → 8 ≡ triedAt Strings b s at w count pending
   none-to-take h c pending = by-size Strings pending 8 (closing-eight h (childField b (at + 6)) c)

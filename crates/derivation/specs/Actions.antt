@@ -56,11 +56,10 @@ pub record Follows (b : List ℕ) (u : Question) (br : Branch) (at : ℕ) (w : L
 -- the step in the record at a position, under a claim, on the branch of the first count rows of the work area v with so many splits pending; w is the work
 -- area behind it. Under claim 2 no branch closes, and no split is pending
 unfoldable pub Acts : Claim → List ℕ → Question → ℕ → ℕ → List ℤ → ℕ → List ℤ → Action → Type 0
-Acts NoSolution b u at pending v count w (action.the-variants.Refused n) = n ≡ 0 → ⊥
+Acts claim b u at pending v count w (action.the-variants.Refused n) = n ≡ 0 → ⊥
 Acts NoSolution b u at pending v count w action.the-variants.Closes = (offeredIn b u (branchOf v count) at ≡ some []) × (branchOf w count ≡ branchOf v count)
 Acts NoSolution b u at pending v count w (action.the-variants.Extends k) = Begins b u (branchOf v count) at 1 w k
 Acts NoSolution b u at pending v count w (action.the-variants.Splits k n) = Begins b u (branchOf v count) at n w k × Branches b at n pending
-Acts Strings b u at pending v count w (action.the-variants.Refused n) = n ≡ 0 → ⊥
 Acts Strings b u at pending v count w action.the-variants.Closes = ⊥
 Acts Strings b u at pending v count w (action.the-variants.Extends k) = Follows b u (branchOf v count) at w k
 Acts Strings b u at pending v count w (action.the-variants.Splits k n) = ⊥

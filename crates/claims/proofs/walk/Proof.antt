@@ -19,7 +19,6 @@ use Rattle.format.proofs.Decoded.{at-least}
 use Rattle.format.specs.Reading.{stepsOn}
 use Rattle.format.specs.Checking.{checker}
 use Rattle.rows.specs.Rows.{branchOf}
-use Rattle.rows.proofs.Branches.{length-branch}
 use Rattle.records.proofs.Finding.{found-whole, not-whole, all-there}
 use Rattle.classes.specs.declared.Known.{Known}
 use Rattle.classes.specs.Classes.{Knows}
@@ -40,7 +39,7 @@ use Rattle.derivation.proofs.Closing.{open-depth}
 use Rattle.claims.specs.Outcomes.{endsAt, firstUpto, LeafAt}
 use Rattle.claims.proofs.Numbers.{form-refused, its-kind, its-form, its-field, its-trial}
 use Rattle.claims.proofs.Walking.{first-few, fine-rows, pendingOn, Going, going-same, starts, going-none}
-use Rattle.claims.proofs.Walking.{going-refused, going-model, leaf-here, Stepped, same-pending, some-number}
+use Rattle.claims.proofs.Walking.{going-refused, going-model, leaf-here, Stepped, same-pending}
 use Rattle.claims.proofs.Walking.{going-closed, still-open, going-next, few-extended, going-one, can-mark, going-more, known-below}
 use Rattle.claims.proofs.Walking as laws
 use Rattle.claims.proofs.walk.Statement.{statement}
@@ -318,7 +317,7 @@ same-length-4 : tie.Need-same-length-4 Inv-loop μ-loop
 same-length-4 c = let t = c .before .before .before .before in same-work t ∙ stoodAt t .loop .inv .kept
 
 returns-4 : tie.Need-returns-4 Inv-loop μ-loop
-unfolding LeafAt
+unfolding LeafAt Acts
 returns-4 c =
     let t = c .before .before .before .before in
     let l = stoodAt t in
@@ -328,8 +327,7 @@ returns-4 c =
     let e = c .before .c .given .1 in
     let st = stepped t in (
       going-refused b (a .s) (going t) _ (st .whole) _ (ap numberOf (sym e) ∙ st .number)
-          (some-number b (a .s) (a .claim) (o .work) (o .b) (o .i) (workOf t) _
-          (subst (Acts (a .claim) b (asked b (a .s)) (o .i) (o .b .depth) (o .work) (o .b .count) (workOf t)) e (st .acts))),
+          (subst (Acts (a .claim) b (asked b (a .s)) (o .i) (o .b .depth) (o .work) (o .b .count) (workOf t)) e (st .acts)),
       tt,
     )
 

@@ -1,8 +1,7 @@
 -- `classes::same_class` meets its contract.
 use denote.Ref.{now}
 use lib.Dec.{eqb}
-use lib.ListN.{length}
-use mathlib.Core.Path.{_≡_, ap₂}
+use mathlib.Core.Path.{ap₂}
 use native.Mathlib.Omega.{arith}
 use Rattle.lists.proofs.Lists.{getD-any}
 use Rattle.classes.proofs.same_class.Statement.{statement}

@@ -27,10 +27,15 @@ use Rattle.rows.specs.Work.{single}
 use Rattle.conclusions.proofs.of_literal.Statement.{statement}
 use Rattle.conclusions.proofs.of_literal.Tie as tie
 
+-- the labels, which are lent on
+abbrev labelsOf : tie.Start → List ℕ
+labelsOf s = s .args .t7
+
 -- the literal that was found
 found-is : (c : tie.After-known-told) →
-    let a = c .before .before .before .before .before .before .before .args in
-    lowestLiteral (a .t7) (a .x) 0 (a .s .literals + 1) ≡ some (c .before .found .given .0 .0)
+    let s = c .before .before .before .before .before .before .before in
+    let a = s .args in
+    lowestLiteral (labelsOf s) (a .x) 0 (a .s .literals + 1) ≡ some (c .before .found .given .0 .0)
 unfolding literalOf
 found-is c = sym (c .before .before .before .class-literal .ensures) ∙ ap literalOf (c .before .found .given .1)
 
@@ -38,8 +43,9 @@ few : (c : tie.After-known-told) →
     let a = c .before .before .before .before .before .before .before .args in
     c .before .found .given .0 .0 ≤ a .s .literals
 few c =
-    let a = c .before .before .before .before .before .before .before .args in
-    omega (arith, literal-below (a .t7) (a .x) (a .s .literals + 1) (c .before .found .given .0 .0) (found-is c))
+    let s = c .before .before .before .before .before .before .before in
+    let a = s .args in
+    omega (arith, literal-below (labelsOf s) (a .x) (a .s .literals + 1) (c .before .found .given .0 .0) (found-is c))
 
 -- the constant
 constant-is : (c : tie.After-negative-of-text) →
@@ -62,7 +68,7 @@ adds c =
     let told = c .before .before .before in
     let s = told .before .before .before .before .before .before .before in
     let a = s .args in
-    literal-adds (now (a .ticket)) (a .s) (branchOf (now (a .work)) (a .count)) (a .t7) (a .x) (s .pre .1) (a .function) (told .before .found .given .0 .0)
+    literal-adds (now (a .ticket)) (a .s) (branchOf (now (a .work)) (a .count)) (labelsOf s) (a .x) (s .pre .1) (a .function) (told .before .found .given .0 .0)
     (c .column-of .result) (c .before .negative-of-text .result) (found-is told) (c .column-of .ensures .0) (c .column-of .ensures .1)
     (constant-is (c .before))
 
@@ -114,7 +120,7 @@ returns-2 c =
     let s = c .before .before .before .before .before .before in
     let a = s .args in
     eight (now (a .work)) _ (a .count) _
-    (literal-none (now (a .ticket)) (a .s) (branchOf (now (a .work)) (a .count)) (a .t7) (a .x) (s .pre .1) (functionOf (a .function))
+    (literal-none (now (a .ticket)) (a .s) (branchOf (now (a .work)) (a .count)) (labelsOf s) (a .x) (s .pre .1) (functionOf (a .function))
     (sym (c .before .before .class-literal .ensures) ∙ ap literalOf (c .enum-told .given .1)))
 
 same-length : tie.Need-same-length

@@ -12,7 +12,7 @@ use Rattle.conclusions.specs.Made.{closingOf}
 use Rattle.derivation.specs.State.{triedAt}
 use Rattle.derivation.specs.Actions.{Acts}
 use Rattle.derivation.specs.declared.Action.the-variants.{Closes}
-use Rattle.derivation.proofs.Taking.{step-open, step-closes, no-children, ready-by, refuses, none-to-take}
+use Rattle.derivation.proofs.Taking.{step-open, step-closes, no-children, ready-by, none-to-take}
 use Rattle.derivation.proofs.take_closing.Statement.{statement}
 use Rattle.derivation.proofs.take_closing.Tie as tie
 
@@ -28,6 +28,7 @@ closes-requires c κs =
     (ready-by (s .pre .0) (s .pre .1 .0), s .pre .1 .1)
 
 returns : tie.Need-returns
+unfolding Acts
 returns c =
     let s = c .before .before .before .before .before in
     let a = s .args in
@@ -38,7 +39,7 @@ returns c =
     (ap closingOf (sym (not-true _ (c .if1 .taken))) ∙ c .before .closes .ensures) in (
       λ pending. eight pending
           ∙ ap (λ (x : Claim). triedAt x b (a .s) (a .«record») w (a .count) pending) (sym (c .before .before .enum-told .given .1)),
-      λ pending. refuses b (a .s) (a .«record») (a .size) (s .pre .0 .sized) w (a .count) (a .claim) pending 8 w (λ n. omega arith),
+      λ pending n. omega arith,
     )
 
 enum-told-2 : tie.Need-enum-told-2
@@ -62,6 +63,7 @@ returns-2 c =
     )
 
 returns-3 : tie.Need-returns-3
+unfolding Acts
 returns-3 c =
     let s = c .before .before .before in
     let a = s .args in
@@ -70,7 +72,7 @@ returns-3 c =
     let sized = s .pre .0 .sized in (
       λ pending. none-to-take b (a .s) (a .«record») (a .size) sized w (a .count) (s .pre .0 .ready) (its-kind (ready-by (s .pre .0) (s .pre .1 .0))) pending
           ∙ ap (λ (x : Claim). triedAt x b (a .s) (a .«record») w (a .count) pending) (sym (c .enum-told2 .given .1)),
-      λ pending. refuses b (a .s) (a .«record») (a .size) sized w (a .count) (a .claim) pending 8 w (λ n. omega arith),
+      λ pending n. omega arith,
     )
 
 pub take-closing-spec : {M : Type 1} → statement M

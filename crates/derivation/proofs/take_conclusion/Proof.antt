@@ -2,7 +2,8 @@
 use borrow.Author.Needs.{needs}
 use denote.Ref.{now}
 use mathlib.Core.Path.{sym, _∙_}
-use Rattle.derivation.proofs.Taking.{refuses, one-number, one-acts}
+use Rattle.derivation.specs.Actions.{Acts}
+use Rattle.derivation.proofs.Taking.{one-number, one-acts}
 use Rattle.derivation.proofs.take_conclusion.Statement.{statement}
 use Rattle.derivation.proofs.take_conclusion.Tie as tie
 
@@ -16,6 +17,7 @@ same-length : tie.Need-same-length
 same-length c = search needs
 
 returns : tie.Need-returns
+unfolding Acts
 returns c =
     let s = c .before .before .before .before .before in
     let a = s .args in
@@ -24,7 +26,7 @@ returns c =
     let f = c .before .before .conclude in
     λ claim pending fits. (
       one-number b (a .s) (a .«record») (a .size) (s .pre .0 .1) w (a .count) (a .rule) (s .pre .0 .0) (f .result) (f .ensures .0) claim pending fits,
-      refuses b (a .s) (a .«record») (a .size) (s .pre .0 .1) w (a .count) claim pending (f .result) (f .last .1 .1 .1 .1 .1 .0) (c .if1 .taken),
+      c .if1 .taken,
     )
 
 add-t14 : tie.Need-add-t14

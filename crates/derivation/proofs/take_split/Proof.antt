@@ -13,7 +13,7 @@ use Rattle.steps.specs.Offered.{withChild, childFault}
 use Rattle.steps.specs.Ready.{ReadyBy}
 use Rattle.steps.proofs.Bodies.{four-bytes, form-fits, shape-by}
 use Rattle.derivation.specs.Actions.{numberOf, Acts}
-use Rattle.derivation.proofs.Taking.{ready-by, by-size, refuses, begun-number, begun-fits, begun-acts}
+use Rattle.derivation.proofs.Taking.{ready-by, by-size, begun-number, begun-fits, begun-acts}
 use Rattle.derivation.proofs.take_split.Statement.{statement}
 use Rattle.derivation.proofs.take_split.Tie as tie
 
@@ -39,6 +39,7 @@ same-length : tie.Need-same-length
 same-length c = search needs
 
 returns : tie.Need-returns
+unfolding Acts
 returns c =
     let s = c .before .before .before .before in
     let a = s .args in
@@ -46,7 +47,7 @@ returns c =
     let w = now (a .work) in
     let f = c .before .split-fault in (
       by-size b (a .s) (a .«record») (a .size) (s .pre .0 .sized) w (a .count) (a .claim) (a .pending) (f .result) (f .ensures),
-      refuses b (a .s) (a .«record») (a .size) (s .pre .0 .sized) w (a .count) (a .claim) (a .pending) (f .result) w (c .if1 .taken),
+      c .if1 .taken,
     )
 
 child-count-requires : tie.Need-child-count-requires
