@@ -7,9 +7,9 @@ ghost use Rattle.branch.specs.Stack.{split, stack, latestOf, begunOf};
 use limits::PENDING_LIMIT;
 
 // A split with children pending, "that is, not yet begun": the number of facts before it, the position of its step's record, the number of
-// its next child, from 1, and that of its last.
+// its next child, from 1, and that of its last. No byte is left between the fields.
 pub struct Split {
-    pub mark: u8,
+    pub mark: u16,
     pub at: u16,
     pub child: u8,
     pub last: u8,
@@ -17,8 +17,8 @@ pub struct Split {
 
 // "At most 128 facts stand on a branch and at most 64 splits have children pending"
 pub struct Branch {
-    pub count: u8,
-    pub depth: u8,
+    pub count: u16,
+    pub depth: u16,
     pub splits: [Split; PENDING_LIMIT],
 }
 
@@ -35,7 +35,7 @@ impl Branch {
             last: 0,
         };
         Branch {
-            count: count as u8,
+            count: count as u16,
             depth: 0,
             splits: [none; PENDING_LIMIT],
         }
@@ -47,7 +47,7 @@ impl Branch {
         ensures { λ r. ⌜ (r .count ≡ count) × (stack r ≡ stack self) ⌝ }
     {
         let mut b = self;
-        b.count = count as u8;
+        b.count = count as u16;
         b
     }
 
@@ -65,7 +65,7 @@ impl Branch {
             child: 2,
             last: last as u8,
         };
-        b.depth = (d + 1) as u8;
+        b.depth = (d + 1) as u16;
         b
     }
 
@@ -108,7 +108,7 @@ impl Branch {
             };
             return b;
         }
-        b.depth = d as u8;
+        b.depth = d as u16;
         b
     }
 }

@@ -112,14 +112,14 @@ fn sum(ticket: &[u8], body: usize, size: usize, work: &mut [i64], count: usize) 
     if !sums::sum_row(&mut row, ticket, body + 8, pairs, divisor, work, count) {
         return 8;
     }
-    if !rows::fact_within(&row) {
-        return 9;
-    }
     if FACT_LIMIT <= count {
-        return 10;
+        return if rows::fact_within(&row) { 10 } else { 9 };
     }
-    rows::put_row(work, count, &row);
-    0
+    if rows::put_within(work, count, &row) {
+        0
+    } else {
+        9
+    }
 }
 
 // S-Prop: "Adds f(x) − f(y) = 0", for different variables of one class.

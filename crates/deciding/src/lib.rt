@@ -21,12 +21,15 @@ use delimiters::claim_fault;
 use delimiters::claim_of;
 use delimiters::end_fault;
 use encoding::RECORD_HEAD;
+use limits::COLUMN_LIMIT;
+use limits::LITERALS_FROM;
 use model::settle;
 use model::write;
 use question::CHECKING;
 use question::Progress;
 use question::Reading;
 use question::read_question;
+use records::record_places;
 use records::u16_at;
 use records::u32_at;
 
@@ -67,7 +70,18 @@ fn at_model(
         (now (answer .entry)) (now (answer .exit)) o ⌝ }
 {
     let size = u32_at(ticket, at);
-    let settled = settle(ticket, s, at + RECORD_HEAD, size, work, count);
+    let places = record_places(ticket, LITERALS_FROM, s.literals);
+    let mut model = [0i64; COLUMN_LIMIT];
+    let settled = settle(
+        ticket,
+        &places,
+        s,
+        at + RECORD_HEAD,
+        size,
+        work,
+        count,
+        &mut model,
+    );
     let f = settled.fault;
     if f != 0 {
         return Outcome::Refused(f, r);
@@ -76,7 +90,8 @@ fn at_model(
     if c != 0 {
         return Outcome::Refused(c, r + 1);
     }
-    write(ticket, s, settled, answer);
+    let labels = settled.labels;
+    write(ticket, &places, s, &labels, &model, answer);
     Outcome::Strings
 }
 

@@ -27,11 +27,13 @@ use Rattle.calculus.proofs.Powers.{least-power}
 use Rattle.calculus.proofs.Lowest.{lowests-few}
 use Rattle.format.specs.Places.{skip, literalsFrom}
 use Rattle.format.specs.StepForms.{functionOf}
+use Rattle.records.specs.Placed.{Placed}
 use Rattle.classes.proofs.Laws.{literal-below}
 use Rattle.question.specs.declared.Progress.{Progress}
 use Rattle.question.specs.Columns.{columnAt}
 use Rattle.question.specs.Posed.{asked, numbered, Posed}
 use Rattle.question.proofs.Posed.{literal-count, literal-in, literals-to}
+use Rattle.leaf.specs.Leaf.{LiteralsAt}
 use Rattle.leaf.specs.Values.{textFits, literalFits, lValidFits, codeIn, codeBy, codeFits, roomy, varFits, pairBy, pairFits}
 
 -- ---- tests of a variable
@@ -199,6 +201,10 @@ module _ (b : List ℕ) (s : Progress) (ls : List ℕ) (x l : ℕ) (e : literalI
 
   pub literal-whole : Posed b s → skip b l literalsFrom ≤ length b
   literal-whole h = literals-to h l literal-known
+
+-- the first l of the literals stand at their places
+pub placed-to : {b places : List ℕ} {s : Progress} → LiteralsAt b places s → (l : ℕ) → l ≤ s .literals → Placed b literalsFrom l places × (l < length places)
+placed-to h l few = (λ x g. h .placed x (omega arith), omega (arith, h .enough))
 
 -- the tests without literals do not read the bytes
 module _ (b : List ℕ) (s : Progress) (ls : List ℕ) (m : List ℤ) where

@@ -1,10 +1,12 @@
 -- What the tests of a leaf ask of its question and its model.
-use Prim.Native.Nat.{ℕ, _≤_}
+use Prim.Native.Nat.{ℕ, _≤_, _<_}
 use mathlib.Core.List.{List}
 use lib.ListN.{length}
 use lib.IntN.{ℤ}
 use Rattle.calculus.specs.Limits.{variableLimit}
 use Rattle.calculus.specs.Facts.{columnCount}
+use Rattle.format.specs.Places.{literalsFrom}
+use Rattle.records.specs.Placed.{Placed}
 use Rattle.question.specs.declared.Progress.{Progress}
 use Rattle.question.specs.Posed.{numbered, Posed}
 
@@ -14,7 +16,13 @@ pub record Modelled (m : List ℤ) (s : Progress) : Type 0 where
   pub few-integers : s .q ≤ variableLimit
   pub columns : columnCount (numbered s) ≤ length m
 
+-- the literals of a question stand at these places in the bytes b
+pub record LiteralsAt (b places : List ℕ) (s : Progress) : Type 0 where
+  pub placed : Placed b literalsFrom (s .literals) places
+  pub enough : s .literals < length places
+
 -- m has one for each column of a question that was read from the bytes b
-pub record LeafReady (b : List ℕ) (m : List ℤ) (s : Progress) : Type 0 where
+pub record LeafReady (b places : List ℕ) (m : List ℤ) (s : Progress) : Type 0 where
   pub posed : Posed b s
+  pub literals : LiteralsAt b places s
   pub columns : columnCount (numbered s) ≤ length m

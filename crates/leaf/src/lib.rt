@@ -19,7 +19,7 @@ ghost use Rattle.format.specs.StepForms.{functionOf};
 ghost use Rattle.format.specs.Checking.{shortLengths};
 ghost use Rattle.rows.specs.Rows.{rowLength, branchOf};
 ghost use Rattle.question.specs.Posed.{asked, numbered, Posed};
-ghost use Rattle.leaf.specs.Leaf.{Modelled, LeafReady};
+ghost use Rattle.leaf.specs.Leaf.{Modelled, LiteralsAt, LeafReady};
 ghost use Rattle.leaf.specs.Values.{textFits, literalFits, lValidFits, codeFits, roomy, varFits, pairBy, pairWith, pairFits, byValues};
 use classes::Lowest;
 use encoding::CODE;
@@ -76,14 +76,22 @@ fn fits_text(ticket: &[u8], at: usize, count: usize, len: i64, code: i64) -> boo
 }
 
 // L-Intro and C-Collapse for variable x, whose length and code are given.
-fn literal_fits(ticket: &[u8], s: Progress, labels: &[u8], x: usize, len: i64, code: i64) -> bool
-    requires { ⌜ Posed (now ticket) s × (length (now labels) ≡ nodeCount) × (x < variableLimit) ⌝ }
+fn literal_fits(
+    ticket: &[u8],
+    places: &[usize],
+    s: Progress,
+    labels: &[u8],
+    x: usize,
+    len: i64,
+    code: i64,
+) -> bool
+    requires { ⌜ Posed (now ticket) s × (length (now labels) ≡ nodeCount) × (x < variableLimit) × LiteralsAt (now ticket) (now places) s ⌝ }
     ensures { λ r. ⌜ r ≡ literalFits (asked (now (ticket .entry)) s) (literalIn (asked (now (ticket .entry)) s) (now (labels .entry)) x) len code ⌝ }
 {
     let found = classes::class_literal(labels, s.literals + 1, x);
     match found {
         Lowest::Literal(l) => {
-            let text = question::literal_text(ticket, l);
+            let text = question::placed_text(ticket, places, l);
             fits_text(ticket, text.at, text.count, len, code)
         }
         Lowest::Nothing => true,
@@ -179,13 +187,20 @@ fn card_fits(model: &[i64], s: Progress, labels: &[u8], x: usize) -> bool
 }
 
 // L-Intro, C-Collapse, L-Valid, C-Valid and Card for variable x.
-fn var_fits(ticket: &[u8], model: &[i64], s: Progress, labels: &[u8], x: usize) -> bool
-    requires { ⌜ LeafReady (now ticket) (now model) s × (length (now labels) ≡ nodeCount) × (x < s .p) ⌝ }
+fn var_fits(
+    ticket: &[u8],
+    places: &[usize],
+    model: &[i64],
+    s: Progress,
+    labels: &[u8],
+    x: usize,
+) -> bool
+    requires { ⌜ LeafReady (now ticket) (now places) (now model) s × (length (now labels) ≡ nodeCount) × (x < s .p) ⌝ }
     ensures { λ r. ⌜ r ≡ varFits (asked (now (ticket .entry)) s) (now (labels .entry)) (now (model .entry)) x ⌝ }
 {
     let len = value_of(model, s, LEN, x);
     let code = value_of(model, s, CODE, x);
-    if !literal_fits(ticket, s, labels, x, len, code) {
+    if !literal_fits(ticket, places, s, labels, x, len, code) {
         return false;
     }
     if !length_fits(labels, x, len) {
@@ -254,23 +269,30 @@ fn pairs_fit(model: &[i64], s: Progress, labels: &[u8], x: usize) -> bool
 // ---- every variable
 
 // The rules for variable x, itself and with every variable.
-fn values_fit(ticket: &[u8], model: &[i64], s: Progress, labels: &[u8], x: usize) -> bool
-    requires { ⌜ LeafReady (now ticket) (now model) s × (length (now labels) ≡ nodeCount) × (x < s .p) ⌝ }
+fn values_fit(
+    ticket: &[u8],
+    places: &[usize],
+    model: &[i64],
+    s: Progress,
+    labels: &[u8],
+    x: usize,
+) -> bool
+    requires { ⌜ LeafReady (now ticket) (now places) (now model) s × (length (now labels) ≡ nodeCount) × (x < s .p) ⌝ }
     ensures { λ r. ⌜ r ≡ byValues (asked (now (ticket .entry)) s) (now (labels .entry)) (now (model .entry)) x ⌝ }
 {
-    if !var_fits(ticket, model, s, labels, x) {
+    if !var_fits(ticket, places, model, s, labels, x) {
         return false;
     }
     pairs_fit(model, s, labels, x)
 }
 
-fn every_fits(ticket: &[u8], model: &[i64], s: Progress, labels: &[u8]) -> bool
-    requires { ⌜ LeafReady (now ticket) (now model) s × (length (now labels) ≡ nodeCount) ⌝ }
+fn every_fits(ticket: &[u8], places: &[usize], model: &[i64], s: Progress, labels: &[u8]) -> bool
+    requires { ⌜ LeafReady (now ticket) (now places) (now model) s × (length (now labels) ≡ nodeCount) ⌝ }
     ensures { λ r. ⌜ r ≡ allBelow (s .p) (byValues (asked (now (ticket .entry)) s) (now (labels .entry)) (now (model .entry))) ⌝ }
 {
     let mut x = 0;
     while x < s.p {
-        if !values_fit(ticket, model, s, labels, x) {
+        if !values_fit(ticket, places, model, s, labels, x) {
             return false;
         }
         x += 1;
@@ -281,20 +303,21 @@ fn every_fits(ticket: &[u8], model: &[i64], s: Progress, labels: &[u8]) -> bool
 // "A leaf is settled by its model if S-Conf does not fit and, for every choice of operands whose premise holds in rules 6 to 12, some child holds already".
 pub fn saturated(
     ticket: &[u8],
+    places: &[usize],
     work: &[i64],
     count: usize,
     model: &[i64],
     s: Progress,
     labels: &[u8],
 ) -> bool
-    requires { ⌜ LeafReady (now ticket) (now model) s × (count ≤ factLimit) × (rowLength * count ≤ length (now work)) × (length (now labels) ≡ nodeCount) ⌝ }
+    requires { ⌜ LeafReady (now ticket) (now places) (now model) s × (count ≤ factLimit) × (rowLength * count ≤ length (now work)) × (length (now labels) ≡ nodeCount) ⌝ }
     requires { ⌜ now labels ≡ classes.labels (branchOf (now work) count) ⌝ }
     ensures { λ r. ⌜ r ≡ test.saturated (asked (now (ticket .entry)) s) (branchOf (now (work .entry)) count) (now (model .entry)) ⌝ }
 {
     if classes::conflict(work, count, labels, s.literals + 1) {
         return false;
     }
-    every_fits(ticket, model, s, labels)
+    every_fits(ticket, places, model, s, labels)
 }
 
 // No "length passes 64".

@@ -12,27 +12,28 @@ use Rattle.format.specs.Checking.{answerOf}
 use Rattle.answer.specs.Table.{tableStrings, tableAnswer, Integers}
 use Rattle.question.specs.declared.Progress.{Progress}
 use Rattle.question.specs.Posed.{asked, numbered}
-use Rattle.model.specs.declared.Settled.{Settled}
 use Rattle.model.specs.Settled.{values, Writable, Answers}
 
-module _ (b : List ℕ) (s : Progress) (r : Settled) (w : Writable b s r) where
+module _ (b places : List ℕ) (s : Progress) (held : List ℤ) (w : Writable b places s held) where
   -- the model has a number for each column
-  pub columns-there : columnCount (numbered s) ≤ length (r .model)
-  columns-there = omega (arith, length-take (columnCount (numbered s)) (r .model), w .ready .columns)
+  pub columns-there : columnCount (numbered s) ≤ length held
+  columns-there = omega (arith, length-take (columnCount (numbered s)) held, w .ready .columns)
 
-  pub columns-long : length (values s (r .model)) ≡ columnCount (numbered s)
-  columns-long = length-take-le (columnCount (numbered s)) (r .model) columns-there
+  pub columns-long : length (values s held) ≡ columnCount (numbered s)
+  columns-long = length-take-le (columnCount (numbered s)) held columns-there
 
-  pub integers-there : Integers (values s (r .model)) (s .q)
+  pub integers-there : Integers (values s held) (s .q)
   integers-there = record {
     few = w .ready .posed .stands .few-integers;
     there = omega (arith, columns-long);
     small = λ i h. omega (arith, w .small i);
   }
 
-pub answer-is : (b : List ℕ) (s : Progress) (br : Branch) (m : List ℤ) (r : Settled) → Answers b s br m r → (characters sizes : List ℕ)
-    → tableStrings characters sizes (s .p) ≡ strings (asked b s) br (values s (r .model))
-    → tableAnswer characters sizes (s .p) (values s (r .model)) (s .q) ≡ answerOf (asked b s) br m
+pub answer-is : (b places : List ℕ) (s : Progress) (br : Branch) (m : List ℤ) (ls : List ℕ) (held : List ℤ)
+    → Answers b places s br m ls held
+    → (characters sizes : List ℕ)
+    → tableStrings characters sizes (s .p) ≡ strings (asked b s) br (values s held)
+    → tableAnswer characters sizes (s .p) (values s held) (s .q) ≡ answerOf (asked b s) br m
 unfolding asked
-answer-is b s br m r a characters sizes e =
-    ap (λ (ss : List (List ℕ)). record { strs = ss; ints = take (s .q) (values s (r .model)) }) e ∙ ap (answerOf (asked b s) br) (a .model)
+answer-is b places s br m ls held a characters sizes e =
+    ap (λ (ss : List (List ℕ)). record { strs = ss; ints = take (s .q) (values s held) }) e ∙ ap (answerOf (asked b s) br) (a .model)

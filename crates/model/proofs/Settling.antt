@@ -20,7 +20,7 @@ use Rattle.rows.specs.Work.{Within}
 use Rattle.rows.proofs.Values.{within-filled}
 use Rattle.question.specs.declared.Progress.{Progress}
 use Rattle.question.specs.Posed.{asked, numbered, Posed}
-use Rattle.leaf.specs.Leaf.{LeafReady}
+use Rattle.leaf.specs.Leaf.{LiteralsAt, LeafReady}
 use Rattle.model.specs.Settled.{values, Filled, Answers}
 use Rattle.model.proofs.Tested.{lengths-pass, model-tests}
 
@@ -44,14 +44,21 @@ module _ (s : Progress) (m held : List ℤ) (few : columnCount (numbered s) ≤ 
 
 -- ---- a question that stands
 
-module _ (b : List ℕ) (s : Progress) (h : Posed b s) where
-  pub few-columns : columnCount (numbered s) ≤ columnLimit
-  few-columns = omega (arith, h .stands .few-strings, h .stands .few-integers)
+pub few-columns : (b : List ℕ) (s : Progress) → Posed b s → columnCount (numbered s) ≤ columnLimit
+few-columns b s h = omega (arith, h .stands .few-strings, h .stands .few-integers)
+
+module _ (b places : List ℕ) (s : Progress) (h : Posed b s) (p : LiteralsAt b places s) where
+  few : columnCount (numbered s) ≤ columnLimit
+  few = few-columns b s h
 
   -- the numbers of the columns are there
-  pub columns-ready : (held : List ℤ) → length held ≡ columnLimit → LeafReady b (values s held) s
+  pub columns-ready : (held : List ℤ) → length held ≡ columnLimit → LeafReady b places (values s held) s
   columns-ready held all =
-      record { posed = h; columns = omega (arith, few-columns, length-take-le (columnCount (numbered s)) held (omega (arith, few-columns, all))) }
+      record {
+        posed = h;
+        literals = p;
+        columns = omega (arith, few, length-take-le (columnCount (numbered s)) held (omega (arith, few, all)));
+      }
 
   -- ---- the model's record, with its body at a position
 
@@ -64,10 +71,10 @@ module _ (b : List ℕ) (s : Progress) (h : Posed b s) where
     long = length-i32s b at (columnCount (numbered s))
 
     held-are : values s held ≡ m
-    held-are = columns-are s m held few-columns long e
+    held-are = columns-are s m held few long e
 
     pub held-filled : Filled held s
-    held-filled = model-filled s m held few-columns long e small
+    held-filled = model-filled s m held few long e small
 
     module _ (br : Branch) (size r : ℕ) (n : size ≡ 4 * columnCount (numbered s)) (c : ls ≡ labels br)
         (tested : r ≡ leafFault (asked b s) br (values s held)) where
@@ -77,14 +84,14 @@ module _ (b : List ℕ) (s : Progress) (h : Posed b s) where
           tested ∙ ap (leafFault (asked b s) br) held-are
           ∙ model-tests b (asked b s) (leafFault (asked b s) br m) at size true true (eq-eqb size (4 * columnCount (numbered s)) n) small
 
-      pub settled-answers : r ≡ 0 → Answers b s br (modelAt b (asked b s) at) (record { fault = r; labels = ls; model = held })
+      pub settled-answers : r ≡ 0 → Answers b places s br (modelAt b (asked b s) at) ls held
       unfolding asked
       settled-answers z = record {
         classes = c;
         model = held-are;
         writable = record {
           ready = columns-ready held (held-filled .all);
-          small = columns-small s m held few-columns long e small;
+          small = columns-small s m held few long e small;
           short-lengths = lengths-pass (asked b s) br (values s held) (sym tested ∙ z);
         };
       }

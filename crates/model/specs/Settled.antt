@@ -15,7 +15,6 @@ use Rattle.rows.specs.Work.{Within}
 use Rattle.question.specs.declared.Progress.{Progress}
 use Rattle.question.specs.Posed.{asked, numbered}
 use Rattle.leaf.specs.Leaf.{LeafReady}
-use Rattle.model.specs.declared.Settled.{Settled}
 
 -- the numbers of the question's columns
 abbrev pub values : Progress → List ℤ → List ℤ
@@ -34,14 +33,14 @@ pub record Filled (m : List ℤ) (s : Progress) : Type 0 where
   pub rest : m ≡ values s m ++ zeros (columnLimit - columnCount (numbered s))
   pub small : Within valueLimit m
 
--- what the strings are given by, in the bytes b
-pub record Writable (b : List ℕ) (s : Progress) (r : Settled) : Type 0 where
-  pub ready : LeafReady b (values s (r .model)) s
-  pub small : Within valueLimit (values s (r .model))
-  pub short-lengths : shortLengths (asked b s) (values s (r .model)) ≡ true
+-- what the strings are given by, in the bytes b: the numbers held, and the literals at their places
+pub record Writable (b places : List ℕ) (s : Progress) (held : List ℤ) : Type 0 where
+  pub ready : LeafReady b places (values s held) s
+  pub small : Within valueLimit (values s held)
+  pub short-lengths : shortLengths (asked b s) (values s held) ≡ true
 
--- it is the leaf br with the model m
-pub record Answers (b : List ℕ) (s : Progress) (br : Branch) (m : List ℤ) (r : Settled) : Type 0 where
-  pub classes : r .labels ≡ labels br
-  pub model : values s (r .model) ≡ m
-  pub writable : Writable b s r
+-- they are the leaf br with the model m, by the labels ls
+pub record Answers (b places : List ℕ) (s : Progress) (br : Branch) (m : List ℤ) (ls : List ℕ) (held : List ℤ) : Type 0 where
+  pub classes : ls ≡ labels br
+  pub model : values s held ≡ m
+  pub writable : Writable b places s held

@@ -15,9 +15,9 @@ ghost use Rattle.format.specs.Demands.{answerAfter};
 ghost use Rattle.rows.specs.Rows.{branchOf};
 ghost use Rattle.rows.specs.Work.{Fine};
 ghost use Rattle.question.specs.Posed.{asked, Posed};
+ghost use Rattle.leaf.specs.Leaf.{LiteralsAt};
 ghost use Rattle.model.specs.Settled.{values, modelOf, faultOf, Filled, Writable, Answers};
 use answer::write_answer;
-use limits::COLUMN_LIMIT;
 use limits::LENGTH_LIMIT;
 use limits::NODE_COUNT;
 use limits::VARIABLE_LIMIT;
@@ -29,31 +29,30 @@ use strings::give_strings;
 // The table of strings: a row for each string variable that there may be.
 const TABLE_CHARACTERS: usize = LENGTH_LIMIT * VARIABLE_LIMIT;
 
-// "an i32 for each column", and zeros for the columns that there are not.
-fn read_model(ticket: &[u8], at: usize, columns: usize) -> [i64; COLUMN_LIMIT]
-    requires { ⌜ (columns ≤ columnLimit) × (at + 4 * columns ≤ length (now ticket)) ⌝ }
-    ensures { λ r. ⌜ r ≡ i32s (now (ticket .entry)) at columns ++ zeros (columnLimit - columns) ⌝ }
+// "an i32 for each column", into zeros; those of the columns that there are not stay.
+fn read_model(model: &mut [i64], ticket: &[u8], at: usize, columns: usize)
+    requires { ⌜ (now model ≡ zeros columnLimit) × (columns ≤ columnLimit) × (at + 4 * columns ≤ length (now ticket)) ⌝ }
+    ensures { λ _. ⌜ now (model .exit) ≡ i32s (now (ticket .entry)) at columns ++ zeros (columnLimit - columns) ⌝ }
 {
-    let mut model = [0i64; COLUMN_LIMIT];
     let mut j = 0;
     while j < columns {
         let z = i32_at(ticket, at + 4 * j);
         model[j] = z;
         j += 1;
     }
-    model
 }
 
 // "at the model, 12 when it breaks an arithmetic fact, 13 when the leaf is not settled, 14 when a length passes 64"
 fn leaf_fault(
     ticket: &[u8],
+    places: &[usize],
     work: &[i64],
     count: usize,
     model: &[i64],
     s: Progress,
     labels: [u8; NODE_COUNT],
 ) -> usize
-    requires { ⌜ Posed (now ticket) s × Filled (now model) s ⌝ }
+    requires { ⌜ Posed (now ticket) s × Filled (now model) s × LiteralsAt (now ticket) (now places) s ⌝ }
     requires { ⌜ Fine (now work) count × (labels ≡ calculus.labels (branchOf (now work) count)) ⌝ }
     ensures { λ r. ⌜ r ≡ leafFault (asked (now (ticket .entry)) s) (branchOf (now (work .entry)) count) (values s (now (model .entry))) ⌝ }
 {
@@ -62,7 +61,7 @@ fn leaf_fault(
     }
     let columns = s.q + (s.p + s.p);
     let values = &model[..columns];
-    if !leaf::saturated(ticket, work, count, values, s, &labels) {
+    if !leaf::saturated(ticket, places, work, count, values, s, &labels) {
         return 13;
     }
     if !leaf::short_lengths(values, s) {
@@ -71,62 +70,58 @@ fn leaf_fault(
     0
 }
 
-// The first number that applies to a model's record, 0 for none, and the leaf's labels and the model, which the answer is written from.
+// The first number that applies to a model's record, 0 for none, and the leaf's labels, which the answer is written by.
 pub struct Settled {
     pub fault: usize,
     pub labels: [u8; NODE_COUNT],
-    pub model: [i64; COLUMN_LIMIT],
 }
 
-// The record of a model with its body at a position, on the branch of the first count rows.
+// The record of a model with its body at a position, on the branch of the first count rows. The model's numbers are filled into zeros.
 pub fn settle(
     ticket: &[u8],
+    places: &[usize],
     s: Progress,
     at: usize,
     size: usize,
     work: &[i64],
     count: usize,
+    model: &mut [i64],
 ) -> Settled
-    requires { ⌜ Posed (now ticket) s × (at + size ≤ length (now ticket)) × Fine (now work) count ⌝ }
+    requires { ⌜ Posed (now ticket) s × (at + size ≤ length (now ticket)) × Fine (now work) count × LiteralsAt (now ticket) (now places) s
+        × (now model ≡ zeros columnLimit) ⌝ }
     ensures fault { λ r. ⌜ r .fault ≡ faultOf (now (ticket .entry)) s (branchOf (now (work .entry)) count) at size ⌝ }
-    ensures settled { λ r. ⌜ (r .fault ≡ 0 → Answers (now (ticket .entry)) s (branchOf (now (work .entry)) count) (modelOf (now (ticket .entry)) s at) r) ⌝ }
+    ensures settled { λ r. ⌜ (r .fault ≡ 0 → Answers (now (ticket .entry)) (now (places .entry)) s (branchOf (now (work .entry)) count)
+        (modelOf (now (ticket .entry)) s at) (r .labels) (now (model .exit))) ⌝ }
 {
     let labels = classes::labels(work, count);
     let columns = s.q + (s.p + s.p);
-    let unread = [0i64; COLUMN_LIMIT];
     if size != 4 * columns {
-        return Settled {
-            fault: 5,
-            labels,
-            model: unread,
-        };
+        return Settled { fault: 5, labels };
     }
     if !integers_within(ticket, at, columns) {
-        return Settled {
-            fault: 6,
-            labels,
-            model: unread,
-        };
+        return Settled { fault: 6, labels };
     }
-    let model = read_model(ticket, at, columns);
-    let fault = leaf_fault(ticket, work, count, &model, s, labels);
-    Settled {
-        fault,
-        labels,
-        model,
-    }
+    read_model(model, ticket, at, columns);
+    let fault = leaf_fault(ticket, places, work, count, model, s, labels);
+    Settled { fault, labels }
 }
 
 // "The strings .. The integers are the model's": the answer of a leaf that is settled by its model.
-pub fn write(ticket: &[u8], s: Progress, settled: Settled, answer: &mut [u8])
-    requires { ⌜ Writable (now ticket) s settled × (answerBytes ≤ length (now answer)) ⌝ }
-    ensures { λ _. ⌜ ((br : Branch) (m : List ℤ) → Answers (now (ticket .entry)) s br m settled
+pub fn write(
+    ticket: &[u8],
+    places: &[usize],
+    s: Progress,
+    labels: &[u8],
+    model: &[i64],
+    answer: &mut [u8],
+)
+    requires { ⌜ Writable (now ticket) (now places) s (now model) × (length (now labels) ≡ calculus.nodeCount) × (answerBytes ≤ length (now answer)) ⌝ }
+    ensures { λ _. ⌜ ((br : Branch) (m : List ℤ) → Answers (now (ticket .entry)) (now (places .entry)) s br m (now (labels .entry)) (now (model .entry))
         → now (answer .exit) ≡ answerAfter (Strings (encode (answerOf (asked (now (ticket .entry)) s) br m))) (now (answer .entry))) ⌝ }
 {
-    let labels = settled.labels;
-    let model = settled.model;
     let columns = s.q + (s.p + s.p);
+    let values = &model[..columns];
     let mut characters = [0u32; TABLE_CHARACTERS];
-    let sizes = give_strings(ticket, &model[..columns], s, &labels, &mut characters);
-    write_answer(answer, &characters, &sizes, s.p, &model[..columns], s.q);
+    let sizes = give_strings(ticket, places, values, s, labels, &mut characters);
+    write_answer(answer, &characters, &sizes, s.p, values, s.q);
 }

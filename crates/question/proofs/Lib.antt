@@ -1,5 +1,6 @@
 pub mod Loops
 pub mod Texts
+pub mod Literals
 pub mod Standing
 pub mod Columns
 pub mod Constraints

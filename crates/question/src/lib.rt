@@ -1,9 +1,8 @@
 // The question: "Kinds 1 to 4 are the question". Checking and judging read it with this one reader, each in its manner, by position: what is kept of it is
 // numbers, and its literals and constraints stay where they stand in the bytes.
 ghost use mathlib.Core.Path.{_≡_};
-ghost use mathlib.Core.List.{[], _∷_};
-ghost use Prim.Native.Nat.{ℕ, _+_, _*_, _<_, _≤_};
-ghost use lib.ListN.{length, getD};
+ghost use Prim.Native.Nat.{_+_, _*_, _-_, _<_, _≤_};
+ghost use lib.ListN.{length};
 ghost use lib.IntN.{natAbs};
 ghost use Rattle.calculus.specs.Limits.{variableLimit, columnLimit};
 ghost use Rattle.calculus.specs.Alphabet.{allCharacters};
@@ -15,9 +14,11 @@ ghost use Rattle.format.specs.Question.{literalRank, rankOf, headFault, textOf,
 ghost use Rattle.format.specs.Question.{rising, formRange, arithmeticFault, constraintFault, rankInPlace, questionBodyFault, roomFor, questionFault};
 ghost use Rattle.format.specs.Question.{questionAdvanced, ending, readBy};
 ghost use Rattle.format.specs.Places.{skip, texts, literalsFrom};
+ghost use Rattle.records.specs.Placed.{Placed};
 ghost use Rattle.question.specs.Progress.{mannerOf, progressOf, readingOf};
 ghost use Rattle.question.specs.Standing.{StandsTo, NextAt};
 ghost use Rattle.question.specs.Columns.{columnAt};
+ghost use Rattle.question.specs.Texts.{LiteralText};
 use encoding::IS_LITERAL;
 use encoding::KIND_ARITHMETIC;
 use encoding::KIND_CLAIM;
@@ -556,20 +557,44 @@ pub struct Text {
     pub count: usize,
 }
 
-// The text of literal l; "literal 0 is the empty string and is never written".
-pub fn literal_text(b: &[u8], l: usize) -> Text
-    requires { ⌜ skip (now b) l literalsFrom ≤ length (now b) ⌝ }
-    ensures { λ r. ⌜ (r .at + 4 * r .count ≤ length (now (b .entry))) × ((k : ℕ) → l ≤ k → u32s (now (b .entry)) (r .at) (r .count) ≡ getD ([] ∷ texts (now (b .entry)) k literalsFrom) l []) ⌝ }
+// The text of literal l, which is written: its record stands at a position.
+fn written_text(b: &[u8], l: usize, from: usize) -> Text
+    requires { ⌜ (0 < l) × (skip (now b) l literalsFrom ≤ length (now b)) × (from ≡ skip (now b) (l - 1) literalsFrom) ⌝ }
+    ensures { λ r. ⌜ LiteralText (now (b .entry)) l r ⌝ }
 {
-    if l == 0 {
-        return Text { at: 0, count: 0 };
-    }
-    let from = behind_literals(b, l - 1);
     let size = u32_at(b, from);
     Text {
         at: from + RECORD_HEAD,
         count: size / 4,
     }
+}
+
+// "literal 0 is the empty string and is never written"
+const EMPTY_TEXT: Text = Text { at: 0, count: 0 };
+
+// The text of literal l, which is looked for from the first one on.
+pub fn literal_text(b: &[u8], l: usize) -> Text
+    requires { ⌜ skip (now b) l literalsFrom ≤ length (now b) ⌝ }
+    ensures { λ r. ⌜ LiteralText (now (b .entry)) l r ⌝ }
+{
+    if l == 0 {
+        return EMPTY_TEXT;
+    }
+    let from = behind_literals(b, l - 1);
+    written_text(b, l, from)
+}
+
+// The text of literal l, where the places of the literals are known.
+pub fn placed_text(b: &[u8], places: &[usize], l: usize) -> Text
+    requires { ⌜ skip (now b) l literalsFrom ≤ length (now b) ⌝ }
+    requires { ⌜ Placed (now b) literalsFrom l (now places) × (l < length (now places)) ⌝ }
+    ensures { λ r. ⌜ LiteralText (now (b .entry)) l r ⌝ }
+{
+    if l == 0 {
+        return EMPTY_TEXT;
+    }
+    let from = places[l - 1];
+    written_text(b, l, from)
 }
 
 // "code (the code point of a one-character string, else −1)", of a text.

@@ -71,29 +71,6 @@ pub fn row_at(work: &[i64], k: usize) -> &[i64]
     &work[from..to]
 }
 
-// A row becomes another one.
-fn fill_row(out: &mut [i64], row: &[i64])
-    requires { ⌜ (length (now out) ≡ rowLength) × (length (now row) ≡ rowLength) ⌝ }
-    ensures { λ _. ⌜ now (out .exit) ≡ now (row .entry) ⌝ }
-{
-    let mut j = 0;
-    while j < ROW_LENGTH {
-        let x = row[j];
-        out[j] = x;
-        j += 1;
-    }
-}
-
-// Row k becomes the given one, behind the facts before it.
-pub fn put_row(work: &mut [i64], k: usize, row: &[i64])
-    requires { ⌜ (k < factLimit) × (workNumbers ≤ length (now work)) × (length (now row) ≡ rowLength) ⌝ }
-    ensures { λ _. ⌜ Behind (now (work .entry)) k (factOf (now (row .entry))) (now (work .exit)) ⌝ }
-{
-    let from = ROW_LENGTH * k;
-    let to = from + ROW_LENGTH;
-    fill_row(&mut work[from..to], row);
-}
-
 // The tag that counts: any number that is no tag counts as that of ≠.
 pub fn tag_of(row: &[i64]) -> usize
     requires { ⌜ length (now row) ≡ rowLength ⌝ }
@@ -350,6 +327,37 @@ pub fn fact_within(row: &[i64]) -> bool
         return true;
     }
     form_within(row)
+}
+
+// A row becomes another one, as long as the numbers behind its tag are within the limit. Are they all?
+fn fill_within(out: &mut [i64], row: &[i64]) -> bool
+    requires { ⌜ (length (now out) ≡ rowLength) × (length (now row) ≡ rowLength) ⌝ }
+    ensures { λ r. ⌜ r ≡ allWithin numberLimit (drop 1 (now (row .entry))) ⌝ }
+    ensures { λ r. ⌜ (r ≡ true → now (out .exit) ≡ now (row .entry)) ⌝ }
+{
+    let tag = row[TAG];
+    out[TAG] = tag;
+    let mut j = CONSTANT;
+    while j < ROW_LENGTH {
+        let x = row[j];
+        if !in_limit(x) {
+            return false;
+        }
+        out[j] = x;
+        j += 1;
+    }
+    true
+}
+
+// The given row of an arithmetic fact, behind the first k facts, where all its numbers are within the limit. Are they?
+pub fn put_within(work: &mut [i64], k: usize, row: &[i64]) -> bool
+    requires { ⌜ (k < factLimit) × (workNumbers ≤ length (now work)) × (length (now row) ≡ rowLength) × (tagOf (factOf (now row)) ≤ 2) ⌝ }
+    ensures { λ r. ⌜ r ≡ factWithin (factOf (now (row .entry))) ⌝ }
+    ensures { λ r. ⌜ (r ≡ true → Behind (now (work .entry)) k (factOf (now (row .entry))) (now (work .exit))) ⌝ }
+{
+    let from = ROW_LENGTH * k;
+    let to = from + ROW_LENGTH;
+    fill_within(&mut work[from..to], row)
 }
 
 // ---- tests

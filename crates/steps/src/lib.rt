@@ -77,19 +77,20 @@ pub const CHILD_FIELD: usize = 2;
 
 pub const OPERANDS: usize = 4;
 
-// The least length of a body, rule and child counted in, the stride and the greatest count: at most so many strides more.
-pub struct Form(pub usize, pub usize, pub usize);
+// The least length of a body, rule and child counted in, the stride and the greatest count: at most so many strides more. The numbers are narrow, since the
+// table is put together at each use.
+pub struct Form(pub u16, pub u16, pub u16);
 
 // The numbers of the rules, and 0, which is for no rule.
 const RULE_NUMBERS: usize = 14;
 
 // By rule number; at 0: "for an unknown rule, only when under 4 bytes".
 const FORMS: [Form; RULE_NUMBERS] = [
-    Form(4, 1, TICKET_BYTES),
+    Form(4, 1, TICKET_BYTES as u16),
     // Sum
-    Form(14, 6, SUMMAND_LIMIT - 1),
+    Form(14, 6, SUMMAND_LIMIT as u16 - 1),
     // Branch
-    Form(8, 6, COLUMN_LIMIT),
+    Form(8, 6, COLUMN_LIMIT as u16),
     // Apart
     Form(6, 1, 0),
     // A-Conf
@@ -109,7 +110,7 @@ const FORMS: [Form; RULE_NUMBERS] = [
     // C-Inj
     Form(8, 1, 0),
     // Card
-    Form(8, 2, VARIABLE_LIMIT - 2),
+    Form(8, 2, VARIABLE_LIMIT as u16 - 2),
     // Join
     Form(8, 1, 0),
 ];
@@ -129,9 +130,9 @@ fn fits_form(f: Form, size: usize) -> bool
     requires { ⌜ 0 < f .1 ⌝ }
     ensures { λ r. ⌜ r ≡ fitsForm (stepForm f) size ⌝ }
 {
-    let least = f.0;
-    let stride = f.1;
-    let greatest = f.2;
+    let least = f.0 as usize;
+    let stride = f.1 as usize;
+    let greatest = f.2 as usize;
     if size < least {
         return false;
     }

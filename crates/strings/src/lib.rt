@@ -188,20 +188,21 @@ fn fill_character(row: &mut [u32], len: i64, code: i64) -> usize
 // What the first two rounds give to variable x: "a class with a literal gets it; a class of length 1 gets the character of its code".
 fn fill_fixed(
     ticket: &[u8],
+    places: &[usize],
     model: &[i64],
     s: Progress,
     labels: &[u8],
     x: usize,
     row: &mut [u32],
 ) -> usize
-    requires { ⌜ LeafReady (now ticket) (now model) s × (length (now labels) ≡ nodeCount) × (x < s .p) × (length (now row) ≡ lengthLimit) ⌝ }
+    requires { ⌜ LeafReady (now ticket) (now places) (now model) s × (length (now labels) ≡ nodeCount) × (x < s .p) × (length (now row) ≡ lengthLimit) ⌝ }
     requires { ⌜ Within valueLimit (now model) ⌝ }
     ensures { λ r. ⌜ sized r (now (row .exit)) ≡ fixedAt (asked (now (ticket .entry)) s) (now (labels .entry)) (now (model .entry)) x ⌝ }
 {
     let found = classes::class_literal(labels, s.literals + 1, x);
     match found {
         Lowest::Literal(l) => {
-            let literal = question::literal_text(ticket, l);
+            let literal = question::placed_text(ticket, places, l);
             fill_text(row, ticket, literal.at, literal.count);
             literal.count
         }
@@ -216,12 +217,13 @@ fn fill_fixed(
 // The first two rounds for every variable; answers the sizes.
 fn give_fixed(
     ticket: &[u8],
+    places: &[usize],
     model: &[i64],
     s: Progress,
     labels: &[u8],
     characters: &mut [u32],
 ) -> [usize; VARIABLE_LIMIT]
-    requires { ⌜ LeafReady (now ticket) (now model) s × (length (now labels) ≡ nodeCount) × (lengthLimit * s .p ≤ length (now characters)) ⌝ }
+    requires { ⌜ LeafReady (now ticket) (now places) (now model) s × (length (now labels) ≡ nodeCount) × (lengthLimit * s .p ≤ length (now characters)) ⌝ }
     requires { ⌜ Within valueLimit (now model) ⌝ }
     ensures { λ r. ⌜ ((y : ℕ) → y < s .p
         → stringIn (now (characters .exit)) r y ≡ fixedAt (asked (now (ticket .entry)) s) (now (labels .entry)) (now (model .entry)) y) ⌝ }
@@ -231,7 +233,15 @@ fn give_fixed(
     while x < s.p {
         let from = LENGTH_LIMIT * x;
         let to = from + LENGTH_LIMIT;
-        let size = fill_fixed(ticket, model, s, labels, x, &mut characters[from..to]);
+        let size = fill_fixed(
+            ticket,
+            places,
+            model,
+            s,
+            labels,
+            x,
+            &mut characters[from..to],
+        );
         sizes[x] = size;
         x += 1;
     }
@@ -279,19 +289,20 @@ fn complete(
 // its length, by code points, not yet given". Fills the table with the strings and answers their sizes.
 pub fn give_strings(
     ticket: &[u8],
+    places: &[usize],
     model: &[i64],
     s: Progress,
     labels: &[u8],
     characters: &mut [u32],
 ) -> [usize; VARIABLE_LIMIT]
-    requires { ⌜ LeafReady (now ticket) (now model) s × (length (now labels) ≡ nodeCount) × (lengthLimit * s .p ≤ length (now characters)) ⌝ }
+    requires { ⌜ LeafReady (now ticket) (now places) (now model) s × (length (now labels) ≡ nodeCount) × (lengthLimit * s .p ≤ length (now characters)) ⌝ }
     requires { ⌜ Within valueLimit (now model) ⌝ }
     requires { ⌜ shortLengths (asked (now ticket) s) (now model) ≡ true ⌝ }
     ensures { λ r. ⌜ ((b : Branch) → now (labels .entry) ≡ calculus.labels b
         → tableStrings (now (characters .exit)) r (s .p) ≡ strings (asked (now (ticket .entry)) s) b (now (model .entry))) ⌝ }
     ensures { λ r. ⌜ Table (now (characters .exit)) r (s .p) ⌝ }
 {
-    let mut sizes = give_fixed(ticket, model, s, labels, characters);
+    let mut sizes = give_fixed(ticket, places, model, s, labels, characters);
     let mut x = 0;
     while x < s.p {
         let size = complete(model, s, labels, characters, &sizes, x);

@@ -9,7 +9,7 @@ use mathlib.Core.Path.{_∙_, _≡_, ap, sym}
 use native.Mathlib.Omega.{arith}
 use Rattle.calculus.specs.Facts.{Question}
 use Rattle.conclusions.proofs.Forms.{SumBody, sum-body}
-use Rattle.conclusions.proofs.Laws.{sum-adds, sum-none}
+use Rattle.conclusions.proofs.Laws.{sum-adds, sum-none, sum-tag}
 use Rattle.conclusions.proofs.Tried.{concluded, eight, nine, ten}
 use Rattle.format.specs.Fields.{u32}
 use Rattle.format.specs.StepForms.{sumPairs}
@@ -89,12 +89,12 @@ same-length-2 c = search needs
 
 returns-2 : tie.Need-returns-2
 returns-2 c =
-    let if1 = c .before .before .before .if1 in
-    let after-sum = c .before .before .before .before .before in
+    let if1 = c .before .before .before .before .if1 in
+    let after-sum = c .before .before .before .before .before .before in
     let a = after-sum .before .before .before .before .before .args in
-    λ (u : Question). nine (now (a .work)) _ (a .count) _ _
+    λ (u : Question). ten (now (a .work)) _ (a .count) _ _
     (sum-adds u _ _ _ (after-sum .sum-row .result) (row after-sum) (summed after-sum) (not-false _ (if1 .left)))
-    (sym (c .before .fact-within .ensures) ∙ not-true _ (c .if2 .taken))
+    (sym (c .before .fact-within .ensures) ∙ c .if3 .taken) (c .before .before .before .if2 .taken)
 
 same-length-3 : tie.Need-same-length-3
 same-length-3 c = search needs
@@ -104,31 +104,51 @@ returns-3 c =
     let if1 = c .before .before .before .before .if1 in
     let after-sum = c .before .before .before .before .before .before in
     let a = after-sum .before .before .before .before .before .args in
-    λ (u : Question). ten (now (a .work)) _ (a .count) _ _
+    λ (u : Question). nine (now (a .work)) _ (a .count) _ _
     (sum-adds u _ _ _ (after-sum .sum-row .result) (row after-sum) (summed after-sum) (not-false _ (if1 .left)))
-    (sym (c .before .before .fact-within .ensures) ∙ not-false _ (c .before .if2 .left)) (c .if3 .taken)
+    (sym (c .before .fact-within .ensures) ∙ c .if3 .left)
 
-slice-aggregate-put-row : tie.Need-slice-aggregate-put-row
-slice-aggregate-put-row c = search needs
+slice-aggregate-put-within : tie.Need-slice-aggregate-put-within
+slice-aggregate-put-within c = search needs
 
-put-row-requires : tie.Need-put-row-requires
-put-row-requires c κs = search needs
+put-within-requires : tie.Need-put-within-requires
+put-within-requires c κs =
+    let if1 = c .before .before .before .if1 in
+    let after-sum = c .before .before .before .before .before in
+    let s = after-sum .before .before .before .before .before in (
+      omega (arith, c .before .before .if2 .left),
+      s .pre .1 .room,
+      search needs,
+      sum-tag _ _ _ (after-sum .sum-row .result) (row after-sum) (summed after-sum) (not-false _ (if1 .left)),
+    )
 
 same-length-4 : tie.Need-same-length-4
 same-length-4 c = search needs
 
 returns-4 : tie.Need-returns-4
 returns-4 c =
-    let if3 = c .before .before .before .before .if3 in
+    let put-within = c .before .before .put-within in
     let if2 = c .before .before .before .before .before .if2 in
-    let fact-within = c .before .before .before .before .before .before .fact-within in
-    let if1 = c .before .before .before .before .before .before .before .before .if1 in
-    let after-sum = c .before .before .before .before .before .before .before .before .before .before in
+    let if1 = c .before .before .before .before .before .before .if1 in
+    let after-sum = c .before .before .before .before .before .before .before .before in
     let s = after-sum .before .before .before .before .before in
     let a = s .args in
     λ (u : Question). concluded (now (a .work)) _ (a .count) _ _
     (sum-adds u _ _ _ (after-sum .sum-row .result) (row after-sum) (summed after-sum) (not-false _ (if1 .left)))
-    (sym (fact-within .ensures) ∙ not-false _ (if2 .left)) (s .pre .1) (omega (arith, if3 .left)) (search needs) (c .before .put-row .ensures)
+    (sym (put-within .ensures .0) ∙ c .if4 .taken) (s .pre .1) (omega (arith, if2 .left)) (search needs) (put-within .ensures .1 (c .if4 .taken))
+
+same-length-5 : tie.Need-same-length-5
+same-length-5 c = search needs
+
+returns-5 : tie.Need-returns-5
+returns-5 c =
+    let put-within = c .before .before .put-within in
+    let if1 = c .before .before .before .before .before .before .if1 in
+    let after-sum = c .before .before .before .before .before .before .before .before in
+    let a = after-sum .before .before .before .before .before .args in
+    λ (u : Question). nine (now (a .work)) _ (a .count) _ _
+    (sum-adds u _ _ _ (after-sum .sum-row .result) (row after-sum) (summed after-sum) (not-false _ (if1 .left)))
+    (sym (put-within .ensures .0) ∙ c .if4 .left)
 
 pub sum-spec : {M : Type 1} → statement M
 sum-spec =
@@ -148,7 +168,9 @@ sum-spec =
     returns-2
     same-length-3
     returns-3
-    slice-aggregate-put-row
-    put-row-requires
+    slice-aggregate-put-within
+    put-within-requires
     same-length-4
-    returns-4)
+    returns-4
+    same-length-5
+    returns-5)

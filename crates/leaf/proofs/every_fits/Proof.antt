@@ -14,10 +14,10 @@ use Rattle.leaf.proofs.every_fits.Statement.{statement}
 use Rattle.leaf.proofs.every_fits.Tie as tie
 
 abbrev Inv-loop : tie.InvT-loop
-Inv-loop ticket model s labels x₀ x = (x ≤ s .p) × (allBelow x (byValues (asked ticket s) labels model) ≡ true)
+Inv-loop ticket places model s labels x₀ x = (x ≤ s .p) × (allBelow x (byValues (asked ticket s) labels model) ≡ true)
 
 abbrev μ-loop : tie.MeasureT-loop
-μ-loop ticket model s labels x₀ x = s .p - x
+μ-loop ticket places model s labels x₀ x = s .p - x
 
 loop-holds : tie.Need-loop-holds Inv-loop μ-loop
 loop-holds c = (omega arith, refl)
@@ -28,7 +28,7 @@ values-fit-requires c κs = search needs
 returns : tie.Need-returns Inv-loop μ-loop
 returns c =
     let l = c .before .before .before .before .loop in
-    let s = c .before .before .before .before .before .before .before .args in
+    let s = c .before .before .before .before .before .before .before .before .args in
     sym (every-no (byValues (asked (now (s .ticket)) (s .s)) (now (s .labels)) (now (s .model))) (s .s .p) (l .x) (omega arith)
     (sym (c .before .values-fit .ensures) ∙ not-true _ (c .if2 .taken)))
 
@@ -41,7 +41,7 @@ loop-less c = search needs
 loop-again : tie.Need-loop-again Inv-loop μ-loop
 loop-again c =
     let l = c .before .before .before .before .loop in
-    let s = c .before .before .before .before .before .before .before .args in (
+    let s = c .before .before .before .before .before .before .before .before .args in (
       omega arith,
       every-more (byValues (asked (now (s .ticket)) (s .s)) (now (s .labels)) (now (s .model))) (l .x) (l .inv .1)
           (sym (c .before .values-fit .ensures) ∙ not-false _ (c .if2 .left)),
@@ -50,7 +50,7 @@ loop-again c =
 returns-2 : tie.Need-returns-2 Inv-loop μ-loop
 returns-2 c =
     let l = c .before .before .loop in
-    let s = c .before .before .before .before .before .args in
+    let s = c .before .before .before .before .before .before .args in
     let e : l .x ≡ s .s .p = omega arith in
     sym (ap (λ (k : ℕ). allBelow k (byValues (asked (now (s .ticket)) (s .s)) (now (s .labels)) (now (s .model)))) (sym e) ∙ l .inv .1)
 

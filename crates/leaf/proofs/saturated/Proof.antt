@@ -17,11 +17,13 @@ use Rattle.leaf.proofs.saturated.Tie as tie
 
 -- S-Conf's test
 conflict-test : (c : tie.After-conflict)
-    → c .conflict .result
-    ≡ conflict (asked (now (c .before .before .before .before .args .ticket)) (c .before .before .before .before .args .s))
-    (branchOf (now (c .before .before .before .before .args .work)) (c .before .before .before .before .args .count))
+    →
+    let args = c .before .before .before .before .before .args in
+    c .conflict .result
+    ≡ conflict (asked (now (args .ticket)) (args .s))
+    (branchOf (now (args .work)) (args .count))
 conflict-test c =
-    let s = c .before .before .before .before in
+    let s = c .before .before .before .before .before in
     c .conflict .ensures
     ∙ conflict-is (now (s .args .ticket)) (s .args .s) (now (s .args .labels)) (branchOf (now (s .args .work)) (s .args .count)) (s .pre .1)
 
@@ -33,7 +35,7 @@ conflict-requires c κs = search needs
 
 returns : tie.Need-returns
 returns c =
-    let s = c .before .before .before .before .before .args in
+    let s = c .before .before .before .before .before .before .args in
     let u = asked (now (s .ticket)) (s .s) in
     let b = branchOf (now (s .work)) (s .count) in
     sym (saturated-is u b (now (s .model))
@@ -45,7 +47,7 @@ every-fits-requires c κs = search needs
 returns-2 : tie.Need-returns-2
 unfolding asked
 returns-2 c =
-    let s = c .before .before .before .before .before .before in
+    let s = c .before .before .before .before .before .before .before in
     let u = asked (now (s .args .ticket)) (s .args .s) in
     let m = now (s .args .model) in
     let b = branchOf (now (s .args .work)) (s .args .count) in

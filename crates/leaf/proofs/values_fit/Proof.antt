@@ -17,7 +17,7 @@ var-fits-requires c κs = search needs
 returns : tie.Need-returns
 unfolding asked
 returns c =
-    let s = c .before .before .before .before .args in
+    let s = c .before .before .before .before .before .args in
     let u = asked (now (s .ticket)) (s .s) in
     sym (ap (λ (t : Bool). t && allBelow (s .s .p) (pairFits u (now (s .labels)) (now (s .model)) (s .x)))
     (sym (c .before .var-fits .ensures) ∙ not-true _ (c .if1 .taken)))
@@ -28,7 +28,7 @@ pairs-fit-requires c κs = search needs
 returns-2 : tie.Need-returns-2
 unfolding asked
 returns-2 c =
-    let s = c .before .before .before .before .before .args in
+    let s = c .before .before .before .before .before .before .args in
     let u = asked (now (s .ticket)) (s .s) in
     c .pairs-fit .ensures
     ∙ pairs-any (now (s .ticket)) (s .s) (now (s .labels)) (now (s .model)) (s .x)

@@ -20,20 +20,20 @@ use Rattle.model.proofs.leaf_fault.Tie as tie
 -- 12's test
 keeps-test : (c : tie.After-keeps-facts)
     → c .keeps-facts .result
-    ≡ keeps (values (c .before .before .args .s) (now (c .before .before .args .model)))
-    (branchOf (now (c .before .before .args .work)) (c .before .before .args .count))
+    ≡ keeps (values (c .before .before .before .args .s) (now (c .before .before .before .args .model)))
+    (branchOf (now (c .before .before .before .args .work)) (c .before .before .before .args .count))
 keeps-test c =
-    let s = c .before .before in
+    let s = c .before .before .before in
     c .keeps-facts .ensures ∙ keeps-columns (now (s .args .model)) (s .args .s) (branchOf (now (s .args .work)) (s .args .count)) (s .pre .0 .1)
 
 -- 13's and 14's
 saturated-test : (c : tie.After-saturated) →
-    let args = c .before .before .before .before .before .before .before .before .args in
+    let args = c .before .before .before .before .before .before .before .before .before .args in
     c .saturated .result ≡ saturated (asked (now (args .ticket)) (args .s)) (branchOf (now (args .work)) (args .count)) (values (args .s) (now (args .model)))
 saturated-test c = c .saturated .ensures
 
 lengths-test : (c : tie.After-short-lengths) →
-    let args = c .before .before .before .before .before .before .before .before .before .before .args in
+    let args = c .before .before .before .before .before .before .before .before .before .before .before .args in
     c .short-lengths .result ≡ shortLengths (asked (now (args .ticket)) (args .s)) (values (args .s) (now (args .model)))
 unfolding asked
 lengths-test c = c .short-lengths .ensures
@@ -43,7 +43,7 @@ keeps-facts-requires c κs = search needs
 
 returns : tie.Need-returns
 returns c =
-    let s = c .before .before .before .args in
+    let s = c .before .before .before .before .args in
     leaf-tests (asked (now (s .ticket)) (s .s)) (branchOf (now (s .work)) (s .count)) (values (s .s) (now (s .model))) false _ _
     (sym (keeps-test (c .before)) ∙ not-true _ (c .if1 .taken)) refl refl
 
@@ -55,7 +55,7 @@ add-columns-2 c = search needs
 
 slice-aggregate-values : tie.Need-slice-aggregate-values
 slice-aggregate-values c =
-    let s = c .before .before .before .before .before .before in
+    let s = c .before .before .before .before .before .before .before in
     sym (length-take-le (columnCount (numbered (s .args .s))) (now (s .args .model))
     (omega (arith, few-columns (now (s .args .ticket)) (s .args .s) (s .pre .0 .0), s .pre .0 .1 .all)))
 
@@ -64,9 +64,9 @@ slice-aggregate-saturated c = search needs
 
 saturated-requires : tie.Need-saturated-requires
 saturated-requires c κs =
-    let s = c .before .before .before .before .before .before .before in (
+    let s = c .before .before .before .before .before .before .before .before in (
       (
-        columns-ready (now (s .args .ticket)) (s .args .s) (s .pre .0 .0) (now (s .args .model)) (s .pre .0 .1 .all),
+        columns-ready (now (s .args .ticket)) (now (s .args .places)) (s .args .s) (s .pre .0 .0) (s .pre .0 .2) (now (s .args .model)) (s .pre .0 .1 .all),
         search needs,
         search needs,
         search needs,
@@ -78,20 +78,23 @@ returns-2 : tie.Need-returns-2
 returns-2 c =
     let if1 = c .before .before .before .before .before .before .if1 in
     let after-keeps-facts = c .before .before .before .before .before .before .before in
-    let s = c .before .before .before .before .before .before .before .before .before .args in
+    let s = c .before .before .before .before .before .before .before .before .before .before .args in
     leaf-tests (asked (now (s .ticket)) (s .s)) (branchOf (now (s .work)) (s .count)) (values (s .s) (now (s .model))) true false _
     (sym (keeps-test after-keeps-facts) ∙ not-false _ (if1 .left)) (sym (saturated-test (c .before)) ∙ not-true _ (c .if2 .taken)) refl
 
 short-lengths-requires : tie.Need-short-lengths-requires
 short-lengths-requires c κs =
-    let s = c .before .before .before .before .before .before .before .before .before in
-    search (needs, columns-ready (now (s .args .ticket)) (s .args .s) (s .pre .0 .0) (now (s .args .model)) (s .pre .0 .1 .all))
+    let s = c .before .before .before .before .before .before .before .before .before .before in
+    search (
+      needs,
+      columns-ready (now (s .args .ticket)) (now (s .args .places)) (s .args .s) (s .pre .0 .0) (s .pre .0 .2) (now (s .args .model)) (s .pre .0 .1 .all),
+    )
 
 returns-3 : tie.Need-returns-3
 returns-3 c =
     let if1 = c .before .before .before .before .before .before .before .before .if1 in
     let after-keeps-facts = c .before .before .before .before .before .before .before .before .before in
-    let s = c .before .before .before .before .before .before .before .before .before .before .before .args in
+    let s = c .before .before .before .before .before .before .before .before .before .before .before .before .args in
     leaf-tests (asked (now (s .ticket)) (s .s)) (branchOf (now (s .work)) (s .count)) (values (s .s) (now (s .model))) true true false
     (sym (keeps-test after-keeps-facts) ∙ not-false _ (if1 .left))
     (sym (saturated-test (c .before .before .before)) ∙ not-false _ (c .before .before .if2 .left))
@@ -101,7 +104,7 @@ returns-4 : tie.Need-returns-4
 returns-4 c =
     let if1 = c .before .before .before .before .before .before .before .before .if1 in
     let after-keeps-facts = c .before .before .before .before .before .before .before .before .before in
-    let s = c .before .before .before .before .before .before .before .before .before .before .before .args in
+    let s = c .before .before .before .before .before .before .before .before .before .before .before .before .args in
     leaf-tests (asked (now (s .ticket)) (s .s)) (branchOf (now (s .work)) (s .count)) (values (s .s) (now (s .model))) true true true
     (sym (keeps-test after-keeps-facts) ∙ not-false _ (if1 .left))
     (sym (saturated-test (c .before .before .before)) ∙ not-false _ (c .before .before .if2 .left))

@@ -32,7 +32,7 @@ mul-if1 c = search needs
 returns : tie.Need-returns
 unfolding asked
 returns c =
-    let s = c .before .before .before .before .before .args in
+    let s = c .before .before .before .before .before .before .args in
     let b = now (s .ticket) in
     let u = asked b (s .s) in (
       model-tests b u (leafFault u (branchOf (now (s .work)) (s .count)) (modelAt b u (s .at))) (s .at) (s .size) false _ (ne-eqb _ _ (c .if1 .taken)) refl,
@@ -44,14 +44,14 @@ integers-within-requires c κs = search needs
 
 -- the body has a number for each column
 fits : (c : tie.Else1) →
-    let args = c .before .before .before .before .before .args in
+    let args = c .before .before .before .before .before .before .args in
     args .size ≡ 4 * (args .s .q + (args .s .p + args .s .p))
 fits c = omega arith
 
 returns-2 : tie.Need-returns-2
 unfolding asked
 returns-2 c =
-    let s = c .before .before .before .before .before .before .before .args in
+    let s = c .before .before .before .before .before .before .before .before .args in
     let b = now (s .ticket) in
     let u = asked b (s .s) in (
       model-tests b u (leafFault u (branchOf (now (s .work)) (s .count)) (modelAt b u (s .at))) (s .at) (s .size) true false
@@ -62,43 +62,43 @@ returns-2 c =
 read-model-requires : tie.Need-read-model-requires
 read-model-requires c κs = search needs
 
-slice-aggregate-leaf-fault : tie.Need-slice-aggregate-leaf-fault
-slice-aggregate-leaf-fault c = search needs
-
 -- the model's numbers are small
 small : (c : tie.Else2) →
-    let args = c .before .before .before .before .before .before .before .args in
+    let args = c .before .before .before .before .before .before .before .before .args in
     allWithin valueLimit (i32s (now (args .ticket)) (args .at) (args .s .q + (args .s .p + args .s .p))) ≡ true
 small c = sym (c .before .integers-within .ensures) ∙ not-false _ (c .if2 .left)
 
 leaf-fault-requires : tie.Need-leaf-fault-requires
 leaf-fault-requires c κs =
-    let s = c .before .before .before .before .before .before .before .before .before in
-    let ls = c .before .before .before .before .before .before .before .labels in (
+    let s = c .before .before .before .before .before .before .before .before .before .before .before .before in
+    let ls = c .before .before .before .before .before .before .before .before .before .labels in (
       (
         s .pre .0,
-        held-filled (now (s .args .ticket)) (s .args .s) (s .pre .0) (s .args .at) (ls .result) (c .before .read-model .result) (small (c .before .before))
-            (c .before .read-model .ensures),
+        held-filled (now (s .args .ticket)) (now (s .args .places)) (s .args .s) (s .pre .0) (s .pre .3) (s .args .at) (ls .result) _
+            (small (c .before .before .before .before)) (c .before .before .read-model .ensures),
+        s .pre .3,
       ),
       (s .pre .2, ls .ensures),
     )
 
+same-length : tie.Need-same-length
+same-length c = search needs
+
 returns-3 : tie.Need-returns-3
 returns-3 c =
-    let else1 = c .before .before .before .before .before in
+    let read-model = c .before .before .before .read-model in
+    let else2 = c .before .before .before .before .before in
+    let else1 = else2 .before .before in
     let labels = else1 .before .before .before .labels in
-    let s = c .before .before .before .before .before .before .before .before .before .before in
+    let s = else1 .before .before .before .before .before .before in
     let b = now (s .args .ticket) in
+    let places = now (s .args .places) in
     let br = branchOf (now (s .args .work)) (s .args .count) in
-    let ls = labels .result in
-    let held = c .before .before .read-model .result in
-    let e = c .before .before .read-model .ensures in
-    let i = small (c .before .before .before) in
     let n : s .args .size ≡ 4 * (s .args .s .q + (s .args .s .p + s .args .s .p)) = fits else1 in (
-      settled-fault b (s .args .s) (s .pre .0) (s .args .at) ls held i e br (s .args .size) (c .leaf-fault .result) n (labels .ensures)
-          (c .leaf-fault .ensures),
-      settled-answers b (s .args .s) (s .pre .0) (s .args .at) ls held i e br (s .args .size) (c .leaf-fault .result) n (labels .ensures)
-          (c .leaf-fault .ensures),
+      settled-fault b places (s .args .s) (s .pre .0) (s .pre .3) (s .args .at) (labels .result) _ (small else2) (read-model .ensures) br (s .args .size)
+          (c .leaf-fault .result) n (labels .ensures) (c .leaf-fault .ensures),
+      settled-answers b places (s .args .s) (s .pre .0) (s .pre .3) (s .args .at) (labels .result) _ (small else2) (read-model .ensures) br (s .args .size)
+          (c .leaf-fault .result) n (labels .ensures) (c .leaf-fault .ensures),
     )
 
 pub settle-spec : {M : Type 1} → statement M
@@ -113,6 +113,6 @@ settle-spec =
     integers-within-requires
     returns-2
     read-model-requires
-    slice-aggregate-leaf-fault
     leaf-fault-requires
+    same-length
     returns-3)

@@ -5,6 +5,15 @@ use Rattle.question.proofs.Loops.{tests}
 use Rattle.steps.proofs.fits_form.Statement.{statement}
 use Rattle.steps.proofs.fits_form.Tie as tie
 
+cast-least : tie.Need-cast-least
+cast-least c = search needs
+
+cast-stride : tie.Need-cast-stride
+cast-stride c = search needs
+
+cast-greatest : tie.Need-cast-greatest
+cast-greatest c = search needs
+
 returns : tie.Need-returns
 returns c = search (tests, arith)
 
@@ -21,4 +30,4 @@ returns-3 : tie.Need-returns-3
 returns-3 c = search (tests, arith)
 
 pub fits-form-spec : {M : Type 1} → statement M
-fits-form-spec = tie.close (tie.spec returns rem-if2 returns-2 div-result returns-3)
+fits-form-spec = tie.close (tie.spec cast-least cast-stride cast-greatest returns rem-if2 returns-2 div-result returns-3)

@@ -18,7 +18,7 @@ use Rattle.calculus.specs.Strings.{oneChar}
 use Rattle.classes.specs.Classes.{literalOf}
 use Rattle.format.proofs.Fields.{length-u32s}
 use Rattle.format.specs.Fields.{u32s}
-use Rattle.leaf.proofs.Laws.{literal-known, literal-whole}
+use Rattle.leaf.proofs.Laws.{literal-known, literal-whole, placed-to}
 use Rattle.question.proofs.Posed.{literal-in, literal-short}
 use Rattle.question.specs.Posed.{asked, numbered}
 use Rattle.strings.proofs.Table.{fixed-literal, fixed-other, sized-some}
@@ -27,39 +27,39 @@ use Rattle.strings.proofs.fill_fixed.Tie as tie
 
 -- the literal that was found
 found-is : (c : tie.After-known-told) →
-    let args = c .before .before .before .before .before .before .before .before .args in
+    let args = c .before .before .before .before .before .before .before .before .before .args in
     literalIn (asked (now (args .ticket)) (args .s)) (now (args .labels)) (args .x) ≡ some (c .before .found .given .0 .0)
 unfolding literalOf
 found-is c =
-    let s = c .before .before .before .before .before .before .before .before .args in
+    let s = c .before .before .before .before .before .before .before .before .before .args in
     literal-in (now (s .ticket)) (s .s) (now (s .labels)) (s .x)
     ∙ sym (c .before .before .before .class-literal .ensures)
     ∙ ap literalOf (c .before .found .given .1)
 
 -- it is one of the question's
 within : (c : tie.After-known-told) →
-    let args = c .before .before .before .before .before .before .before .before .args in
+    let args = c .before .before .before .before .before .before .before .before .before .args in
     c .before .found .given .0 .0 ≤ args .s .literals
 within c =
-    let s = c .before .before .before .before .before .before .before .before .args in
+    let s = c .before .before .before .before .before .before .before .before .before .args in
     literal-known (now (s .ticket)) (s .s) (now (s .labels)) (s .x) (c .before .found .given .0 .0) (found-is c)
 
 -- its text was found
-text-is : (c : tie.After-literal-text) →
-    let args = c .before .before .before .before .before .before .before .before .before .args in
-    u32s (now (args .ticket)) (c .literal-text .result .at) (c .literal-text .result .count)
+text-is : (c : tie.After-placed-text) →
+    let args = c .before .before .before .before .before .before .before .before .before .before .args in
+    u32s (now (args .ticket)) (c .placed-text .result .at) (c .placed-text .result .count)
     ≡ literal (asked (now (args .ticket)) (args .s)) (c .before .before .found .given .0 .0)
 unfolding asked
 text-is c =
-    let args = c .before .before .before .before .before .before .before .before .before .args in
-    c .literal-text .ensures .1 (args .s .literals) (within (c .before))
+    let args = c .before .before .before .before .before .before .before .before .before .before .args in
+    c .placed-text .ensures .1 (args .s .literals) (within (c .before))
 
 -- and has at most 64 characters
-short : (c : tie.After-literal-text) → c .literal-text .result .count ≤ 64
+short : (c : tie.After-placed-text) → c .placed-text .result .count ≤ 64
 short c =
-    let s = c .before .before .before .before .before .before .before .before .before in
+    let s = c .before .before .before .before .before .before .before .before .before .before in
     let b = now (s .args .ticket) in
-    let r = c .literal-text .result in
+    let r = c .placed-text .result in
     omega (
       arith,
       literal-short (s .pre .0 .0 .posed) (c .before .before .found .given .0 .0) (within (c .before)),
@@ -76,15 +76,18 @@ class-literal-requires c κs = search needs
 enum-known-found : tie.Need-enum-known-found
 enum-known-found c = search needs
 
-literal-text-requires : tie.Need-literal-text-requires
-literal-text-requires c κs =
-    let s = c .before .before .before .before .before .before .before .before in
-    literal-whole (now (s .args .ticket)) (s .args .s) (now (s .args .labels)) (s .args .x) (c .before .found .given .0 .0) (found-is c) (s .pre .0 .0 .posed)
+placed-text-requires : tie.Need-placed-text-requires
+placed-text-requires c κs =
+    let s = c .before .before .before .before .before .before .before .before .before in
+    let l = c .before .found .given .0 .0 in (
+      literal-whole (now (s .args .ticket)) (s .args .s) (now (s .args .labels)) (s .args .x) l (found-is c) (s .pre .0 .0 .posed),
+      placed-to (s .pre .0 .0 .literals) l (within c),
+    )
 
 fill-text-requires : tie.Need-fill-text-requires
 fill-text-requires c κs =
-    let s = c .before .before .before .before .before .before .before .before .before .before in
-    (c .before .literal-text .ensures .0, omega (arith, short (c .before), s .pre .0 .3), short (c .before))
+    let s = c .before .before .before .before .before .before .before .before .before .before .before in
+    (c .before .placed-text .ensures .0, omega (arith, short (c .before), s .pre .0 .3), short (c .before))
 
 enum-told : tie.Need-enum-told
 enum-told c = search needs
@@ -97,7 +100,7 @@ value-of-requires-2 c κs = search needs
 
 fill-character-requires : tie.Need-fill-character-requires
 fill-character-requires c κs =
-    let s = c .before .before .before .before .before .before .before .before .before .before in
+    let s = c .before .before .before .before .before .before .before .before .before .before .before in
     let e : toZ w64 (ofZ w64 (c .before .value-of2 .result)) ≡ modelValue (numbered (s .args .s)) (now (s .args .model)) code (s .args .x) =
     toZ-ofZ (record { sfits = c .before .value-of2 .ok }) ∙ c .before .value-of2 .ensures in
     (omega (arith, ap natAbs e, s .pre .1 (columnOf (numbered (s .args .s)) code (s .args .x))), s .pre .0 .3)
@@ -107,10 +110,10 @@ same-length c = search needs
 
 returns : tie.Need-returns
 returns c =
-    let s = c .before .before .before .before .before .before .before .before .before .before .before .before .before .args in
+    let s = c .before .before .before .before .before .before .before .before .before .before .before .before .before .before .args in
     let t = c .before .before .before .before in
     let l = t .before .before .found .given .0 .0 in
-    sized-some (t .literal-text .result .count) _ (short t)
+    sized-some (t .placed-text .result .count) _ (short t)
     ∙ ap some (c .before .before .fill-text .ensures ∙ text-is t)
     ∙ sym (fixed-literal (asked (now (s .ticket)) (s .s)) (now (s .labels)) (now (s .model)) (s .x) l (found-is (t .before)))
 
@@ -123,7 +126,7 @@ returns-2 c =
     let value-of = c .before .before .before .before .before .value-of in
     let enum-told-read = c .before .before .before .before .before .before .enum-told in
     let class-literal = c .before .before .before .before .before .before .before .before .class-literal in
-    let s = c .before .before .before .before .before .before .before .before .before .before .before .before .before .args in
+    let s = c .before .before .before .before .before .before .before .before .before .before .before .before .before .before .args in
     let b = now (s .ticket) in
     let e : literalIn (asked b (s .s)) (now (s .labels)) (s .x) ≡ none =
     literal-in b (s .s) (now (s .labels)) (s .x) ∙ sym (class-literal .ensures) ∙ ap literalOf (enum-told-read .given .1) in
@@ -139,7 +142,7 @@ fill-fixed-spec =
     add-class-literal
     class-literal-requires
     enum-known-found
-    literal-text-requires
+    placed-text-requires
     fill-text-requires
     enum-told
     value-of-requires

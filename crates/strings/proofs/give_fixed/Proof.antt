@@ -17,14 +17,14 @@ no-number : {A : Type 0} (y : ℕ) → y < 0 → A
 no-number y h = absurd (omega arith)
 
 abbrev Inv-loop : tie.InvT-loop
-Inv-loop ticket model s labels characters₀ sizes₀ x₀ characters sizes x =
+Inv-loop ticket places model s labels characters₀ sizes₀ x₀ characters sizes x =
     (x ≤ s .p)
     × (length characters ≡ length characters₀)
     × (length sizes ≡ 16)
     × ((y : ℕ) → y < x → stringIn characters sizes y ≡ fixedAt (asked ticket s) labels model y)
 
 abbrev μ-loop : tie.MeasureT-loop
-μ-loop ticket model s labels characters₀ sizes₀ x₀ characters sizes x = s .p - x
+μ-loop ticket places model s labels characters₀ sizes₀ x₀ characters sizes x = s .p - x
 
 loop-holds : tie.Need-loop-holds Inv-loop μ-loop
 loop-holds c = (omega arith, refl, refl, λ y h. no-number y h)
@@ -49,7 +49,7 @@ part-fill-fixed-end c = search needs
 
 fill-fixed-requires : tie.Need-fill-fixed-requires Inv-loop μ-loop
 fill-fixed-requires c κs =
-    let s = c .before .before .before .before .before .before .before in
+    let s = c .before .before .before .before .before .before .before .before in
     ((s .pre .0 .0, s .pre .0 .1, search needs, search needs), s .pre .1)
 
 mul-sizes : tie.Need-mul-sizes Inv-loop μ-loop
@@ -67,14 +67,14 @@ loop-less c = search needs
 loop-again : tie.Need-loop-again Inv-loop μ-loop
 loop-again c =
     let l = c .before .before .before .before .before .before .loop in
-    let s = c .before .before .before .before .before .before .before .before .before .before .args in
+    let s = c .before .before .before .before .before .before .before .before .before .before .before .args in
     let r = c .before .before .fill-fixed in
-    let v = r .last .1 .1 .1 .1 .1 .0 in
+    let v = r .last .1 .1 .1 .1 .1 .1 .0 in
     let at = 64 * l .x in
     let room : at + (at + 64 - at) ≤ length (l .characters) = omega arith in
     let part : length (take (at + 64 - at) (drop at (l .characters))) ≡ at + 64 - at =
     length-take-le (at + 64 - at) (drop at (l .characters)) (rw length-drop (omega arith)) in
-    let n : length v ≡ at + 64 - at = r .kept .1 .1 .1 .1 .1 .0 ∙ part in
+    let n : length v ≡ at + 64 - at = r .kept .1 .1 .1 .1 .1 .1 .0 ∙ part in
     let p : take at (l .characters) ++ (v ++ drop (at + 64 - at) (drop at (l .characters))) ≡ sets (l .characters) at v =
     part-stored (l .characters) v at (at + 64 - at) n room in (
       omega arith,

@@ -19,22 +19,24 @@ use Rattle.strings.proofs.give_strings.Statement.{statement}
 use Rattle.strings.proofs.give_strings.Tie as tie
 
 abbrev Inv-loop : tie.InvT-loop
-Inv-loop ticket model s labels characters₀ sizes₀ x₀ characters sizes x =
+Inv-loop ticket places model s labels characters₀ sizes₀ x₀ characters sizes x =
     (x ≤ s .p) × (s .p ≤ variableLimit) × (lengthLimit * s .p ≤ length characters) × (length characters ≡ length characters₀) × (length sizes ≡ variableLimit)
     × ((y : ℕ) → y < x → getD sizes y 0 ≤ lengthLimit) × ((b : Branch) → labels ≡ calculus.labels b → Filled (asked ticket s) b model characters sizes x)
 
 abbrev μ-loop : tie.MeasureT-loop
-μ-loop ticket model s labels characters₀ sizes₀ x₀ characters sizes x = s .p - x
+μ-loop ticket places model s labels characters₀ sizes₀ x₀ characters sizes x = s .p - x
 
 give-fixed-requires : tie.Need-give-fixed-requires Inv-loop μ-loop
-give-fixed-requires c κs = (c .before .before .before .before .pre .0, c .before .before .before .before .pre .1 .0)
+give-fixed-requires c κs =
+    let pre = c .before .before .before .before .before .pre in
+    (pre .0, pre .1 .0)
 
 loop-holds : tie.Need-loop-holds Inv-loop μ-loop
 unfolding asked
 loop-holds c =
-    let s = c .before .before .before .before .before .before .before in
-    let k : length (c .before .before .give-fixed .last .1 .1 .1 .1 .0) ≡ length (now (s .args .characters)) =
-    c .before .before .give-fixed .kept .1 .1 .1 .1 .0 in (
+    let s = c .before .before .before .before .before .before .before .before in
+    let k : length (c .before .before .give-fixed .last .1 .1 .1 .1 .1 .0) ≡ length (now (s .args .characters)) =
+    c .before .before .give-fixed .kept .1 .1 .1 .1 .1 .0 in (
       omega arith,
       s .pre .0 .0 .posed .stands .few-strings,
       omega (arith, s .pre .0 .2),
@@ -51,7 +53,7 @@ slice-aggregate-complete c = search needs
 complete-requires : tie.Need-complete-requires Inv-loop μ-loop
 unfolding asked
 complete-requires c κs =
-    let s = c .before .before .before .before .before .before .before .before .before .before .before .before in
+    let s = c .before .before .before .before .before .before .before .before .before .before .before .before .before in
     let l = c .before .before .before .before .loop in (
       (
         search needs,
@@ -70,7 +72,7 @@ mul-sizes c = search needs
 
 array-write-sizes : tie.Need-array-write-sizes Inv-loop μ-loop
 array-write-sizes c =
-    let args = c .before .before .before .before .before .before .before .before .before .before .before .before .before .before .before .args in
+    let args = c .before .before .before .before .before .before .before .before .before .before .before .before .before .before .before .before .args in
     let l = c .before .before .before .before .before .before .before .loop in
     let h : l .x < args .s .p = c .before .before .before .before .before .if1 .taken in
     omega (arith, l .inv .1)
@@ -85,7 +87,7 @@ loop-again : tie.Need-loop-again Inv-loop μ-loop
 unfolding asked
 loop-again c =
     let l = c .before .before .before .before .before .before .before .loop in
-    let s = c .before .before .before .before .before .before .before .before .before .before .before .before .before .before .before .args in
+    let s = c .before .before .before .before .before .before .before .before .before .before .before .before .before .before .before .before .args in
     let r = c .before .before .complete in
     let u = asked (now (s .ticket)) (s .s) in
     let m = now (s .model) in
@@ -108,13 +110,13 @@ loop-again c =
 same-length : tie.Need-same-length Inv-loop μ-loop
 same-length c =
     let give-fixed = c .before .before .before .before .before .give-fixed in
-    c .before .before .loop .inv .3 ∙ give-fixed .kept .1 .1 .1 .1 .0
+    c .before .before .loop .inv .3 ∙ give-fixed .kept .1 .1 .1 .1 .1 .0
 
 returns : tie.Need-returns Inv-loop μ-loop
 unfolding asked
 returns c =
     let l = c .before .before .loop in
-    let s = c .before .before .before .before .before .before .before .before .before .before in
+    let s = c .before .before .before .before .before .before .before .before .before .before .before in
     let u = asked (now (s .args .ticket)) (s .args .s) in
     let m = now (s .args .model) in
     let x : l .x ≡ s .args .s .p = omega arith in (

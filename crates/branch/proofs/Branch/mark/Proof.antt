@@ -11,11 +11,11 @@ use Rattle.branch.proofs.Branch.mark.Tie as tie
 cast-d : tie.Need-cast-d
 cast-d c = search needs
 
-cast-t7 : tie.Need-cast-t7
-cast-t7 c = search needs
-
 cast-b : tie.Need-cast-b
 cast-b c = search needs
+
+cast-t8 : tie.Need-cast-t8
+cast-t8 c = search needs
 
 mul-t10 : tie.Need-mul-t10
 mul-t10 c = search needs
@@ -38,4 +38,4 @@ returns c =
 
 pub mark-spec : {M : Type 1} → statement M
 mark-spec =
-    tie.close (tie.spec cast-d cast-t7 cast-b mul-t10 element-set-from-b add-b cast-b-2 returns)
+    tie.close (tie.spec cast-d cast-b cast-t8 mul-t10 element-set-from-b add-b cast-b-2 returns)
