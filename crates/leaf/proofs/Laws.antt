@@ -222,7 +222,7 @@ module _ (b : List ℕ) (s : Progress) (ls : List ℕ) (m : List ℤ) where
       || roomy (characterCount (s .n)) (length l) (natAbs (modelValue (numbered s) m len x)))
       (lowest-any (modelValue (numbered s) m len x) (s .p))
 
-  pub pairs-any : (x : ℕ) → allBelow (s .p) (pairFits (numbered s) ls m x) ≡ allBelow (s .p) (pairFits (asked b s) ls m x)
+  pub pairs-any : (x : ℕ) → allBelow x (pairFits (numbered s) ls m x) ≡ allBelow x (pairFits (asked b s) ls m x)
   unfolding asked pairFits
   pairs-any x = refl
 

@@ -1,3 +1,4 @@
 pub mod Saturation
 pub mod Signed
 pub mod Laws
+pub mod Pairs

@@ -20,7 +20,7 @@ ghost use Rattle.format.specs.Checking.{shortLengths};
 ghost use Rattle.rows.specs.Rows.{rowLength, branchOf};
 ghost use Rattle.question.specs.Posed.{asked, numbered, Posed};
 ghost use Rattle.leaf.specs.Leaf.{Modelled, LiteralsAt, LeafReady};
-ghost use Rattle.leaf.specs.Values.{textFits, literalFits, lValidFits, codeFits, roomy, varFits, pairBy, pairWith, pairFits, byValues};
+ghost use Rattle.leaf.specs.Values.{textFits, literalFits, lValidFits, codeFits, roomy, varFits, pairBy, pairWith, pairFits, byEarlier};
 use classes::Lowest;
 use encoding::CODE;
 use encoding::LEN;
@@ -249,15 +249,15 @@ fn pair_fits(
     pair_by(same, len, w, code, d)
 }
 
-// S-Prop and C-Inj for variable x with every variable.
+// S-Prop and C-Inj for variable x with every variable before it.
 fn pairs_fit(model: &[i64], s: Progress, labels: &[u8], x: usize) -> bool
     requires { ⌜ Modelled (now model) s × (length (now labels) ≡ nodeCount) × (x < s .p) ⌝ }
-    ensures { λ r. ⌜ r ≡ allBelow (s .p) (pairFits (numbered s) (now (labels .entry)) (now (model .entry)) x) ⌝ }
+    ensures { λ r. ⌜ r ≡ allBelow x (pairFits (numbered s) (now (labels .entry)) (now (model .entry)) x) ⌝ }
 {
     let len = value_of(model, s, LEN, x);
     let code = value_of(model, s, CODE, x);
     let mut y = 0;
-    while y < s.p {
+    while y < x {
         if !pair_fits(model, s, labels, x, len, code, y) {
             return false;
         }
@@ -268,7 +268,7 @@ fn pairs_fit(model: &[i64], s: Progress, labels: &[u8], x: usize) -> bool
 
 // ---- every variable
 
-// The rules for variable x, itself and with every variable.
+// The rules for variable x, itself and with every variable before it.
 fn values_fit(
     ticket: &[u8],
     places: &[usize],
@@ -278,7 +278,7 @@ fn values_fit(
     x: usize,
 ) -> bool
     requires { ⌜ LeafReady (now ticket) (now places) (now model) s × (length (now labels) ≡ nodeCount) × (x < s .p) ⌝ }
-    ensures { λ r. ⌜ r ≡ byValues (asked (now (ticket .entry)) s) (now (labels .entry)) (now (model .entry)) x ⌝ }
+    ensures { λ r. ⌜ r ≡ byEarlier (asked (now (ticket .entry)) s) (now (labels .entry)) (now (model .entry)) x ⌝ }
 {
     if !var_fits(ticket, places, model, s, labels, x) {
         return false;
@@ -288,7 +288,7 @@ fn values_fit(
 
 fn every_fits(ticket: &[u8], places: &[usize], model: &[i64], s: Progress, labels: &[u8]) -> bool
     requires { ⌜ LeafReady (now ticket) (now places) (now model) s × (length (now labels) ≡ nodeCount) ⌝ }
-    ensures { λ r. ⌜ r ≡ allBelow (s .p) (byValues (asked (now (ticket .entry)) s) (now (labels .entry)) (now (model .entry))) ⌝ }
+    ensures { λ r. ⌜ r ≡ allBelow (s .p) (byEarlier (asked (now (ticket .entry)) s) (now (labels .entry)) (now (model .entry))) ⌝ }
 {
     let mut x = 0;
     while x < s.p {

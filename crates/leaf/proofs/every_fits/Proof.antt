@@ -9,12 +9,12 @@ use native.Mathlib.Omega.{arith}
 use Rattle.lists.specs.Lists.{allBelow}
 use Rattle.leaf.proofs.Laws.{every-more, every-no}
 use Rattle.question.specs.Posed.{asked}
-use Rattle.leaf.specs.Values.{byValues}
+use Rattle.leaf.specs.Values.{byEarlier}
 use Rattle.leaf.proofs.every_fits.Statement.{statement}
 use Rattle.leaf.proofs.every_fits.Tie as tie
 
 abbrev Inv-loop : tie.InvT-loop
-Inv-loop ticket places model s labels x₀ x = (x ≤ s .p) × (allBelow x (byValues (asked ticket s) labels model) ≡ true)
+Inv-loop ticket places model s labels x₀ x = (x ≤ s .p) × (allBelow x (byEarlier (asked ticket s) labels model) ≡ true)
 
 abbrev μ-loop : tie.MeasureT-loop
 μ-loop ticket places model s labels x₀ x = s .p - x
@@ -29,7 +29,7 @@ returns : tie.Need-returns Inv-loop μ-loop
 returns c =
     let l = c .before .before .before .before .loop in
     let s = c .before .before .before .before .before .before .before .before .args in
-    sym (every-no (byValues (asked (now (s .ticket)) (s .s)) (now (s .labels)) (now (s .model))) (s .s .p) (l .x) (omega arith)
+    sym (every-no (byEarlier (asked (now (s .ticket)) (s .s)) (now (s .labels)) (now (s .model))) (s .s .p) (l .x) (omega arith)
     (sym (c .before .values-fit .ensures) ∙ not-true _ (c .if2 .taken)))
 
 add-x : tie.Need-add-x Inv-loop μ-loop
@@ -43,7 +43,7 @@ loop-again c =
     let l = c .before .before .before .before .loop in
     let s = c .before .before .before .before .before .before .before .before .args in (
       omega arith,
-      every-more (byValues (asked (now (s .ticket)) (s .s)) (now (s .labels)) (now (s .model))) (l .x) (l .inv .1)
+      every-more (byEarlier (asked (now (s .ticket)) (s .s)) (now (s .labels)) (now (s .model))) (l .x) (l .inv .1)
           (sym (c .before .values-fit .ensures) ∙ not-false _ (c .if2 .left)),
     )
 
@@ -52,7 +52,7 @@ returns-2 c =
     let l = c .before .before .loop in
     let s = c .before .before .before .before .before .before .args in
     let e : l .x ≡ s .s .p = omega arith in
-    sym (ap (λ (k : ℕ). allBelow k (byValues (asked (now (s .ticket)) (s .s)) (now (s .labels)) (now (s .model)))) (sym e) ∙ l .inv .1)
+    sym (ap (λ (k : ℕ). allBelow k (byEarlier (asked (now (s .ticket)) (s .s)) (now (s .labels)) (now (s .model)))) (sym e) ∙ l .inv .1)
 
 pub every-fits-spec : {M : Type 1} → statement M
 every-fits-spec =

@@ -16,22 +16,22 @@ use Rattle.leaf.proofs.pairs_fit.Statement.{statement}
 use Rattle.leaf.proofs.pairs_fit.Tie as tie
 
 abbrev Inv-loop : tie.InvT-loop
-Inv-loop model s labels x len code y₀ y = (y ≤ s .p) × (allBelow y (pairFits (numbered s) labels model x) ≡ true)
+Inv-loop model s labels x len code y₀ y = (y ≤ x) × (allBelow y (pairFits (numbered s) labels model x) ≡ true)
 
 abbrev μ-loop : tie.MeasureT-loop
-μ-loop model s labels x len code y₀ y = s .p - y
+μ-loop model s labels x len code y₀ y = x - y
 
 -- the test of one pair
 told : (c : tie.After-pair-fits Inv-loop μ-loop) →
-    let args = c .before .before .before .before .before .before .before .args in
-    c .pair-fits .result ≡ pairFits (numbered (args .s)) (now (args .labels)) (now (args .model)) (args .x) (c .before .before .before .loop .y)
+    let args = c .before .before .before .before .before .before .args in
+    c .pair-fits .result ≡ pairFits (numbered (args .s)) (now (args .labels)) (now (args .model)) (args .x) (c .before .before .loop .y)
 unfolding pairFits
 told c =
-    let len = c .before .before .before .before .before .value-of in
-    let code = c .before .before .before .before .value-of2 in
-    let args = c .before .before .before .before .before .before .before .args in
+    let len = c .before .before .before .before .value-of in
+    let code = c .before .before .before .value-of2 in
+    let args = c .before .before .before .before .before .before .args in
     c .pair-fits .ensures
-    ∙ ap₂ (λ (z w : ℤ). pairWith (numbered (args .s)) (now (args .labels)) (now (args .model)) (args .x) z w (c .before .before .before .loop .y))
+    ∙ ap₂ (λ (z w : ℤ). pairWith (numbered (args .s)) (now (args .labels)) (now (args .model)) (args .x) z w (c .before .before .loop .y))
     (toZ-ofZ (record { sfits = len .ok }) ∙ len .ensures) (toZ-ofZ (record { sfits = code .ok }) ∙ code .ensures)
 
 value-of-requires : tie.Need-value-of-requires Inv-loop μ-loop
@@ -48,10 +48,10 @@ pair-fits-requires c κs = search needs
 
 returns : tie.Need-returns Inv-loop μ-loop
 returns c =
-    let l = c .before .before .before .before .loop in
-    let s = c .before .before .before .before .before .before .before .before .args in
-    sym (every-no (pairFits (numbered (s .s)) (now (s .labels)) (now (s .model)) (s .x)) (s .s .p) (l .y) (omega arith)
-    (sym (told (c .before)) ∙ not-true _ (c .if2 .taken)))
+    let l = c .before .before .before .loop in
+    let s = c .before .before .before .before .before .before .before .args in
+    sym (every-no (pairFits (numbered (s .s)) (now (s .labels)) (now (s .model)) (s .x)) (s .x) (l .y) (omega arith)
+    (sym (told (c .before)) ∙ not-true _ (c .if1 .taken)))
 
 add-y : tie.Need-add-y Inv-loop μ-loop
 add-y c = search needs
@@ -61,18 +61,18 @@ loop-less c = search needs
 
 loop-again : tie.Need-loop-again Inv-loop μ-loop
 loop-again c =
-    let l = c .before .before .before .before .loop in
-    let s = c .before .before .before .before .before .before .before .before .args in (
+    let l = c .before .before .before .loop in
+    let s = c .before .before .before .before .before .before .before .args in (
       omega arith,
       every-more (pairFits (numbered (s .s)) (now (s .labels)) (now (s .model)) (s .x)) (l .y) (l .inv .1)
-          (sym (told (c .before)) ∙ not-false _ (c .if2 .left)),
+          (sym (told (c .before)) ∙ not-false _ (c .if1 .left)),
     )
 
 returns-2 : tie.Need-returns-2 Inv-loop μ-loop
 returns-2 c =
-    let l = c .before .before .loop in
-    let s = c .before .before .before .before .before .before .args in
-    let e : l .y ≡ s .s .p = omega arith in
+    let l = c .before .loop in
+    let s = c .before .before .before .before .before .args in
+    let e : l .y ≡ s .x = omega arith in
     sym (ap (λ (k : ℕ). allBelow k (pairFits (numbered (s .s)) (now (s .labels)) (now (s .model)) (s .x))) (sym e) ∙ l .inv .1)
 
 pub pairs-fit-spec : {M : Type 1} → statement M

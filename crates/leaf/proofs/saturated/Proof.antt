@@ -7,6 +7,7 @@ use mathlib.Core.List.{List}
 use mathlib.Core.Path.{_∙_, _≡_, ap, sym}
 use Rattle.lists.specs.Lists.{allBelow}
 use Rattle.calculus.specs.Classes.{conflict, labels}
+use Rattle.leaf.proofs.Pairs.{earlier-all}
 use Rattle.leaf.proofs.Laws.{conflict-is}
 use Rattle.leaf.proofs.Saturation.{saturated-is}
 use Rattle.question.specs.Posed.{asked}
@@ -52,6 +53,7 @@ returns-2 c =
     let m = now (s .args .model) in
     let b = branchOf (now (s .args .work)) (s .args .count) in
     c .every-fits .ensures
+    ∙ earlier-all u (now (s .args .labels)) m
     ∙ ap (λ (ls : List ℕ). allBelow (u .p) (byValues u ls m)) (s .pre .1)
     ∙ sym (saturated-is u b m
     ∙ ap (λ (t : Bool). not t && allBelow (u .p) (byValues u (labels b) m)) (sym (conflict-test (c .before .before)) ∙ c .before .if1 .left))

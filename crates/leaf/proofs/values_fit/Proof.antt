@@ -19,7 +19,7 @@ unfolding asked
 returns c =
     let s = c .before .before .before .before .before .args in
     let u = asked (now (s .ticket)) (s .s) in
-    sym (ap (λ (t : Bool). t && allBelow (s .s .p) (pairFits u (now (s .labels)) (now (s .model)) (s .x)))
+    sym (ap (λ (t : Bool). t && allBelow (s .x) (pairFits u (now (s .labels)) (now (s .model)) (s .x)))
     (sym (c .before .var-fits .ensures) ∙ not-true _ (c .if1 .taken)))
 
 pairs-fit-requires : tie.Need-pairs-fit-requires
@@ -32,7 +32,7 @@ returns-2 c =
     let u = asked (now (s .ticket)) (s .s) in
     c .pairs-fit .ensures
     ∙ pairs-any (now (s .ticket)) (s .s) (now (s .labels)) (now (s .model)) (s .x)
-    ∙ sym (ap (λ (t : Bool). t && allBelow (s .s .p) (pairFits u (now (s .labels)) (now (s .model)) (s .x)))
+    ∙ sym (ap (λ (t : Bool). t && allBelow (s .x) (pairFits u (now (s .labels)) (now (s .model)) (s .x)))
     (sym (c .before .before .var-fits .ensures) ∙ not-false _ (c .before .if1 .left)))
 
 pub values-fit-spec : {M : Type 1} → statement M
