@@ -32,11 +32,17 @@ build() {
     cargo build --quiet --release --offline --locked --manifest-path tests/Cargo.toml "$@"
 }
 
+# Every crate was proved, and by the logic that the prover was built for: it says pinned=no where that is another one.
+own_logic() {
+    grep -q '^logic=proved ' "$log" && ! grep -q 'pinned=no' "$log"
+}
+
 counted tests/statements.sh
 counted tests/floors.sh
 counted python3 tools/name_paths.py --check
 counted python3 tools/functions.py --check
 counted rt ci
+single own_logic
 if [ "$failed" -eq 0 ]; then
     single cargo test --quiet --release --offline --locked --manifest-path tests/Cargo.toml -p nuldwich_reference -p compare -p bench
     single make --no-print-directory host

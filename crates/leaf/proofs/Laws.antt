@@ -199,12 +199,10 @@ module _ (b : List ℕ) (s : Progress) (ls : List ℕ) (x l : ℕ) (e : literalI
   pub literal-known : l ≤ s .literals
   literal-known = omega (arith, literal-below ls x (s .literals + 1) l (sym (literal-in b s ls x) ∙ e))
 
-  pub literal-whole : Posed b s → skip b l literalsFrom ≤ length b
-  literal-whole h = literals-to h l literal-known
-
--- the first l of the literals stand at their places
-pub placed-to : {b places : List ℕ} {s : Progress} → LiteralsAt b places s → (l : ℕ) → l ≤ s .literals → Placed b literalsFrom l places × (l < length places)
-placed-to h l few = (λ x g. h .placed x (omega arith), omega (arith, h .enough))
+  -- it and those before it stand within the bytes, at their places
+  pub literal-placed : {places : List ℕ} → Posed b s → LiteralsAt b places s
+      → (skip b l literalsFrom ≤ length b) × (Placed b literalsFrom l places × (l < length places))
+  literal-placed h p = (literals-to h l literal-known, (λ y g. p .placed y (omega (arith, literal-known)), omega (arith, p .enough, literal-known)))
 
 -- the tests without literals do not read the bytes
 module _ (b : List ℕ) (s : Progress) (ls : List ℕ) (m : List ℤ) where

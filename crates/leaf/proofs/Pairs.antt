@@ -4,7 +4,7 @@ use native.Mathlib.Omega.{arith}
 use native.Mathlib.Decide.{decLt, ℕ-discrete}
 use mathlib.Core.Path.{_≡_, refl, sym, subst}
 use mathlib.Core.Logic.{_⊎_, inl, inr}
-use mathlib.Core.Bool.{Bool, true, false, not, _&&_, _||_}
+use mathlib.Core.Bool.{Bool, true, false, not, _||_}
 use mathlib.Core.List.{List}
 use lib.Dec.{T, eqb, eqb→eq, eqb-refl, T-not}
 use lib.IntN.{ℤ, negsuc}
@@ -17,7 +17,8 @@ use Rattle.calculus.specs.Chains.{varNode}
 use Rattle.calculus.specs.Classes.{label, sameClass}
 use Rattle.calculus.specs.Model.{modelValue}
 use Rattle.calculus.proofs.LinearForms.{eqℤ→, →eqℤ}
-use Rattle.leaf.specs.Values.{varFits, pairBy, pairFits, byValues, byEarlier}
+use Rattle.leaf.specs.Values.{varFits, pairBy, pairFits, byEarlier}
+use Rattle.leaf.proofs.Saturation.{byValues}
 
 equal-swap : (a b : ℤ) → T (eqℤ a b) → T (eqℤ b a)
 equal-swap a b t = →eqℤ (sym (eqℤ→ a b t))

@@ -24,7 +24,7 @@ use Rattle.calculus.specs.SaturationTest.{held, heldSome, byChildren, saturated
 use Rattle.calculus.proofs.LinearForms.{eqℤ→, →eqℤ, isZero→, →isZero}
 use Rattle.calculus.proofs.Relations.{nonneg→, →nonneg}
 use Rattle.calculus.proofs.Leaf.{above-in, number-in, difference-in, low-in, high-in}
-use Rattle.leaf.specs.Values.{textFits, literalFits, lValidFits, codeIn, codeBy, codeFits, varFits, pairBy, pairFits, byValues}
+use Rattle.leaf.specs.Values.{textFits, literalFits, lValidFits, codeIn, codeBy, codeFits, varFits, pairBy, pairFits}
 
 -- ---- tests of equal meaning
 
@@ -168,6 +168,10 @@ module _ (u : Question) (ls : List ℕ) (m : List ℤ) where
           )
 
 -- ---- the whole test
+
+-- the rules for a variable, itself and with every variable
+abbrev pub byValues : Question → List ℕ → List ℤ → ℕ → Bool
+byValues u ls m x = varFits u ls m x && allBelow (u .p) (pairFits u ls m x)
 
 swap : (a b c : Bool) → (a && b && c) ≡ (a && c && b)
 swap true true c = sym (and-true c)

@@ -21,7 +21,7 @@ pub record LiteralsAt (b places : List ℕ) (s : Progress) : Type 0 where
   pub placed : Placed b literalsFrom (s .literals) places
   pub enough : s .literals < length places
 
--- m has one for each column of a question that was read from the bytes b
+-- m has a number for each column of a question that was read from the bytes b, and its literals stand at their places
 pub record LeafReady (b places : List ℕ) (m : List ℤ) (s : Progress) : Type 0 where
   pub posed : Posed b s
   pub literals : LiteralsAt b places s

@@ -68,10 +68,6 @@ pairWith u ls m x z c y = pairBy (sameClass ls (varNode x) (varNode y)) z (model
 unfoldable pub pairFits : Question → List ℕ → List ℤ → ℕ → ℕ → Bool
 pairFits u ls m x y = pairWith u ls m x (modelValue u m len x) (modelValue u m code x) y
 
--- the rules for a variable, itself and with every variable
-abbrev pub byValues : Question → List ℕ → List ℤ → ℕ → Bool
-byValues u ls m x = varFits u ls m x && allBelow (u .p) (pairFits u ls m x)
-
--- with every variable before it: those behind it are tested with it in their turn
+-- the rules for a variable, itself and with every variable before it: those behind it are tested with it in their turn
 abbrev pub byEarlier : Question → List ℕ → List ℤ → ℕ → Bool
 byEarlier u ls m x = varFits u ls m x && allBelow x (pairFits u ls m x)

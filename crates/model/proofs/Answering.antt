@@ -16,7 +16,7 @@ use Rattle.model.specs.Settled.{values, Writable, Answers}
 
 module _ (b places : List ℕ) (s : Progress) (held : List ℤ) (w : Writable b places s held) where
   -- the model has a number for each column
-  pub columns-there : columnCount (numbered s) ≤ length held
+  columns-there : columnCount (numbered s) ≤ length held
   columns-there = omega (arith, length-take (columnCount (numbered s)) held, w .ready .columns)
 
   pub columns-long : length (values s held) ≡ columnCount (numbered s)

@@ -48,16 +48,13 @@ pub few-columns : (b : List ℕ) (s : Progress) → Posed b s → columnCount (n
 few-columns b s h = omega (arith, h .stands .few-strings, h .stands .few-integers)
 
 module _ (b places : List ℕ) (s : Progress) (h : Posed b s) (p : LiteralsAt b places s) where
-  few : columnCount (numbered s) ≤ columnLimit
-  few = few-columns b s h
-
   -- the numbers of the columns are there
   pub columns-ready : (held : List ℤ) → length held ≡ columnLimit → LeafReady b places (values s held) s
   columns-ready held all =
       record {
         posed = h;
         literals = p;
-        columns = omega (arith, few, length-take-le (columnCount (numbered s)) held (omega (arith, few, all)));
+        columns = omega (arith, few-columns b s h, length-take-le (columnCount (numbered s)) held (omega (arith, few-columns b s h, all)));
       }
 
   -- ---- the model's record, with its body at a position
@@ -71,10 +68,10 @@ module _ (b places : List ℕ) (s : Progress) (h : Posed b s) (p : LiteralsAt b 
     long = length-i32s b at (columnCount (numbered s))
 
     held-are : values s held ≡ m
-    held-are = columns-are s m held few long e
+    held-are = columns-are s m held (few-columns b s h) long e
 
     pub held-filled : Filled held s
-    held-filled = model-filled s m held few long e small
+    held-filled = model-filled s m held (few-columns b s h) long e small
 
     module _ (br : Branch) (size r : ℕ) (n : size ≡ 4 * columnCount (numbered s)) (c : ls ≡ labels br)
         (tested : r ≡ leafFault (asked b s) br (values s held)) where
@@ -91,7 +88,7 @@ module _ (b places : List ℕ) (s : Progress) (h : Posed b s) (p : LiteralsAt b 
         model = held-are;
         writable = record {
           ready = columns-ready held (held-filled .all);
-          small = columns-small s m held few long e small;
+          small = columns-small s m held (few-columns b s h) long e small;
           short-lengths = lengths-pass (asked b s) br (values s held) (sym tested ∙ z);
         };
       }

@@ -39,7 +39,7 @@ pub record Writable (b places : List ℕ) (s : Progress) (held : List ℤ) : Typ
   pub small : Within valueLimit (values s held)
   pub short-lengths : shortLengths (asked b s) (values s held) ≡ true
 
--- they are the leaf br with the model m, by the labels ls
+-- the numbers held are the model m, and ls the labels of the leaf br
 pub record Answers (b places : List ℕ) (s : Progress) (br : Branch) (m : List ℤ) (ls : List ℕ) (held : List ℤ) : Type 0 where
   pub classes : ls ≡ labels br
   pub model : values s held ≡ m

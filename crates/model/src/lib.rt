@@ -29,7 +29,7 @@ use strings::give_strings;
 // The table of strings: a row for each string variable that there may be.
 const TABLE_CHARACTERS: usize = LENGTH_LIMIT * VARIABLE_LIMIT;
 
-// "an i32 for each column", into zeros; those of the columns that there are not stay.
+// "an i32 for each column", filled into 48 zeros; behind the last column they stay.
 fn read_model(model: &mut [i64], ticket: &[u8], at: usize, columns: usize)
     requires { ⌜ (now model ≡ zeros columnLimit) × (columns ≤ columnLimit) × (at + 4 * columns ≤ length (now ticket)) ⌝ }
     ensures { λ _. ⌜ now (model .exit) ≡ i32s (now (ticket .entry)) at columns ++ zeros (columnLimit - columns) ⌝ }

@@ -329,7 +329,7 @@ pub fn fact_within(row: &[i64]) -> bool
     form_within(row)
 }
 
-// A row becomes another one, as long as the numbers behind its tag are within the limit. Are they all?
+// A row becomes another one, up to the first number behind its tag that passes the limit. Is there none?
 fn fill_within(out: &mut [i64], row: &[i64]) -> bool
     requires { ⌜ (length (now out) ≡ rowLength) × (length (now row) ≡ rowLength) ⌝ }
     ensures { λ r. ⌜ r ≡ allWithin numberLimit (drop 1 (now (row .entry))) ⌝ }

@@ -10,7 +10,7 @@ use mir.Facts.{toZ-ofZ}
 use Rattle.calculus.specs.Classes.{literalIn}
 use Rattle.classes.specs.Classes.{literalOf}
 use Rattle.format.specs.Fields.{u32s}
-use Rattle.leaf.proofs.Laws.{literal-known, literal-none, literal-some, literal-whole, placed-to}
+use Rattle.leaf.proofs.Laws.{literal-known, literal-none, literal-placed, literal-some}
 use Rattle.question.proofs.Posed.{literal-in}
 use Rattle.question.specs.Posed.{asked}
 use Rattle.leaf.specs.Values.{textFits}
@@ -40,10 +40,7 @@ enum-known-found c = search needs
 placed-text-requires : tie.Need-placed-text-requires
 placed-text-requires c κs =
     let s = c .before .before .before .before .before .before .before .before in
-    let l = c .before .found .given .0 .0 in
-    let known = literal-known (now (s .args .ticket)) (s .args .s) (now (s .args .labels)) (s .args .x) l (found-is c) in
-    let (placed, enough) = placed-to (s .pre .3) l known in
-    (literal-whole (now (s .args .ticket)) (s .args .s) (now (s .args .labels)) (s .args .x) l (found-is c) (s .pre .0), (placed, enough))
+    literal-placed (now (s .args .ticket)) (s .args .s) (now (s .args .labels)) (s .args .x) (c .before .found .given .0 .0) (found-is c) (s .pre .0) (s .pre .3)
 
 fits-text-requires : tie.Need-fits-text-requires
 fits-text-requires c κs = c .placed-text .ensures .0

@@ -9,9 +9,8 @@ use Rattle.lists.specs.Lists.{allBelow}
 use Rattle.calculus.specs.Classes.{conflict, labels}
 use Rattle.leaf.proofs.Pairs.{earlier-all}
 use Rattle.leaf.proofs.Laws.{conflict-is}
-use Rattle.leaf.proofs.Saturation.{saturated-is}
+use Rattle.leaf.proofs.Saturation.{byValues, saturated-is}
 use Rattle.question.specs.Posed.{asked}
-use Rattle.leaf.specs.Values.{byValues}
 use Rattle.rows.specs.Rows.{branchOf}
 use Rattle.leaf.proofs.saturated.Statement.{statement}
 use Rattle.leaf.proofs.saturated.Tie as tie

@@ -18,7 +18,7 @@ use Rattle.calculus.specs.Strings.{oneChar}
 use Rattle.classes.specs.Classes.{literalOf}
 use Rattle.format.proofs.Fields.{length-u32s}
 use Rattle.format.specs.Fields.{u32s}
-use Rattle.leaf.proofs.Laws.{literal-known, literal-whole, placed-to}
+use Rattle.leaf.proofs.Laws.{literal-known, literal-placed}
 use Rattle.question.proofs.Posed.{literal-in, literal-short}
 use Rattle.question.specs.Posed.{asked, numbered}
 use Rattle.strings.proofs.Table.{fixed-literal, fixed-other, sized-some}
@@ -79,10 +79,9 @@ enum-known-found c = search needs
 placed-text-requires : tie.Need-placed-text-requires
 placed-text-requires c κs =
     let s = c .before .before .before .before .before .before .before .before .before in
-    let l = c .before .found .given .0 .0 in (
-      literal-whole (now (s .args .ticket)) (s .args .s) (now (s .args .labels)) (s .args .x) l (found-is c) (s .pre .0 .0 .posed),
-      placed-to (s .pre .0 .0 .literals) l (within c),
-    )
+    let ready = s .pre .0 .0 in
+    literal-placed (now (s .args .ticket)) (s .args .s) (now (s .args .labels)) (s .args .x) (c .before .found .given .0 .0) (found-is c) (ready .posed)
+    (ready .literals)
 
 fill-text-requires : tie.Need-fill-text-requires
 fill-text-requires c κs =
