@@ -1,4 +1,5 @@
-/* A host program, in C and C++ alike: checks the ticket in a file and, when it brings strings, judges them by the same ticket's question. */
+/* A host program, in C and C++ alike: checks the ticket in a file and, when it brings strings, judges them by the same ticket's question. Given the file of an
+   answer too, it judges that answer by the ticket's question instead. */
 
 #include <inttypes.h>
 #include <stdio.h>
@@ -34,17 +35,35 @@ static size_t print_answer(const uint8_t *answer) {
     }
 }
 
-static void print_judgement(nuldwich_judgement judgement) {
+/* Prints the part that a judgement shows: whose it is, where it stands and its bytes in hexadecimal. Of the question an empty part is not worth a line. */
+static void print_shown(nuldwich_judgement judgement, const uint8_t *question, const uint8_t *answer) {
+    const uint8_t *shown = nuldwich_shown(judgement, question, answer);
+    int of_answer = judgement.shown == NULDWICH_SHOWN_ANSWER;
+    if (judgement.length == 0) {
+        if (of_answer)
+            printf("shown: the answer, which is empty\n");
+        return;
+    }
+    printf("shown: the %s, offset %" PRIu64 ", length %" PRIu64 ":", of_answer ? "answer" : "question", judgement.offset, judgement.length);
+    for (uint64_t at = 0; at < judgement.length; at++)
+        printf(" %02x", shown[at]);
+    printf("\n");
+}
+
+/* Judges an answer by a question and prints what is said and shown. */
+static void judge_and_print(const uint8_t *question, size_t question_len, const uint8_t *answer, size_t answer_len) {
+    nuldwich_judgement judgement = nuldwich_judge(question, question_len, answer, answer_len);
     if (judgement.number == NULDWICH_DONE)
         printf("judged: all constraints are met\n");
     else if (judgement.number == NULDWICH_UNMET)
         printf("judged: constraint %" PRIu64 " is not met\n", judgement.record);
     else
         print_refusal(judgement.number, judgement.record);
+    print_shown(judgement, question, answer);
 }
 
 /* Checks a ticket, prints the verdict and, for strings, what judging says of them. */
-static void check_and_judge(const uint8_t *ticket, size_t ticket_len) {
+static void check_and_print(const uint8_t *ticket, size_t ticket_len) {
     uint8_t answer[NULDWICH_ANSWER_BYTES];
     nuldwich_reply reply = nuldwich_check(ticket, ticket_len, answer, sizeof answer);
     if (reply.number != NULDWICH_DONE) {
@@ -54,32 +73,51 @@ static void check_and_judge(const uint8_t *ticket, size_t ticket_len) {
     } else {
         printf("accepted: there are strings\n");
         size_t answer_len = print_answer(answer);
-        print_judgement(nuldwich_judge(ticket, ticket_len, answer, answer_len));
+        judge_and_print(ticket, ticket_len, answer, answer_len);
     }
 }
 
-/* Reads a file into a buffer of exactly its size. Of a file that is too long for a ticket one byte too many is read, so that it is seen to be too long. */
-static uint8_t *read_ticket(const char *path, size_t *length) {
+static void fail(const char *path) {
+    perror(path);
+    exit(2);
+}
+
+/* Reads a whole file into a buffer of exactly its size, or of one byte where the file has none. */
+static uint8_t *read_file(const char *path, size_t *length) {
     FILE *file = fopen(path, "rb");
-    uint8_t *ticket = (uint8_t *)malloc(NULDWICH_TICKET_BYTES + 1);
-    if (file == NULL || ticket == NULL) {
-        perror(path);
-        exit(2);
-    }
-    *length = fread(ticket, 1, NULDWICH_TICKET_BYTES + 1, file);
+    if (file == NULL)
+        fail(path);
+    uint8_t *bytes = NULL;
+    size_t room = 0;
+    *length = 0;
+    do {
+        room = 2 * room + NULDWICH_TICKET_BYTES;
+        bytes = (uint8_t *)realloc(bytes, room);
+        if (bytes == NULL)
+            fail(path);
+        *length += fread(bytes + *length, 1, room - *length, file);
+    } while (*length == room);
+    if (ferror(file))
+        fail(path);
     fclose(file);
-    uint8_t *exact = (uint8_t *)realloc(ticket, *length > 0 ? *length : 1);
-    return exact != NULL ? exact : ticket;
+    uint8_t *exact = (uint8_t *)realloc(bytes, *length > 0 ? *length : 1);
+    return exact != NULL ? exact : bytes;
 }
 
 int main(int argc, char **argv) {
-    if (argc != 2) {
-        fprintf(stderr, "usage: %s TICKET\n", argv[0]);
+    if (argc != 2 && argc != 3) {
+        fprintf(stderr, "usage: %s TICKET [ANSWER]\n", argv[0]);
         return 2;
     }
-    size_t ticket_len;
-    uint8_t *ticket = read_ticket(argv[1], &ticket_len);
-    check_and_judge(ticket, ticket_len);
+    size_t ticket_len, answer_len;
+    uint8_t *ticket = read_file(argv[1], &ticket_len);
+    if (argc == 2) {
+        check_and_print(ticket, ticket_len);
+    } else {
+        uint8_t *answer = read_file(argv[2], &answer_len);
+        judge_and_print(ticket, ticket_len, answer, answer_len);
+        free(answer);
+    }
     free(ticket);
     return 0;
 }

@@ -18,8 +18,8 @@ extern "C" {
  *                          What was accepted stays accepted, with the same answer; what was refused may be accepted, or get another number
  * at a new major version   structs may get further fields behind those they have, and what is accepted may change
  */
-#define NULDWICH_VERSION 1000
-#define NULDWICH_VERSION_STRING "1.0"
+#define NULDWICH_VERSION 2000
+#define NULDWICH_VERSION_STRING "2.0"
 
 /* The least size of the answer buffer that check is lent, in bytes. It holds every answer. */
 #define NULDWICH_ANSWER_BYTES 4268
@@ -33,11 +33,15 @@ extern "C" {
 
 /* Numbers of a reply that are no refusals. */
 #define NULDWICH_DONE 0    /* check: the ticket is accepted; judge: all constraints are met */
-#define NULDWICH_UNMET 255 /* judge: the constraint named by record is not met */
+#define NULDWICH_UNMET 255 /* judge: record names the lowest-numbered constraint that is not met */
 
 /* Claims of an accepted ticket: the reply's record when check returns number 0. */
 #define NULDWICH_NO_SOLUTION 1 /* no strings and integers meet the constraints */
 #define NULDWICH_STRINGS 2     /* the answer stands in the answer buffer */
+
+/* Whose part judge shows. */
+#define NULDWICH_SHOWN_QUESTION 0
+#define NULDWICH_SHOWN_ANSWER 1
 
 /* Refusals: other numbers of a reply. nuldwich_refusal says what each means. */
 #define NULDWICH_REFUSED_BUFFER 1
@@ -97,13 +101,24 @@ typedef struct {
  * What judge returns.
  *
  * number 0           all constraints are met; record is 0
- * number 255         the constraint whose number is in record is not met, counted from 0
+ * number 255         not all constraints are met; record is the number of the lowest-numbered one that is not, counted from 0
  * number 2 to 7, 10  the question is refused; record is its first faulty record, and 0 for 2
  * number 15, 16      the answer is refused; record is its first faulty record, and 0 for 15
+ *
+ * The part shown is length bytes from offset on, of the question where shown is NULDWICH_SHOWN_QUESTION, of the answer where it is
+ * NULDWICH_SHOWN_ANSWER. nuldwich_shown gives the pointer to them.
+ *
+ * number 255         that constraint's whole record in the question, with its six leading bytes
+ * number 15          the whole answer: offset 0 and its length, also where that is 0
+ * number 16          the whole record of the answer that record names, with its six leading bytes
+ * any other          an empty part of the question: offset 0, length 0
  */
 typedef struct {
     uint64_t number;
     uint64_t record;
+    uint64_t shown;
+    uint64_t offset;
+    uint64_t length;
 } nuldwich_judgement;
 
 /*
@@ -139,6 +154,14 @@ static inline nuldwich_reply nuldwich_check(const uint8_t *ticket, size_t ticket
 
 static inline nuldwich_judgement nuldwich_judge(const uint8_t *question, size_t question_len, const uint8_t *answer, size_t answer_len) {
     return judge(question, question_len, answer, answer_len);
+}
+
+/*
+ * Where the part that a judgement shows begins: judgement.length bytes, none where that is 0. question and answer are the pointers that judge was lent, and the
+ * part is good for as long as their bytes are.
+ */
+static inline const uint8_t *nuldwich_shown(nuldwich_judgement judgement, const uint8_t *question, const uint8_t *answer) {
+    return (judgement.shown == NULDWICH_SHOWN_ANSWER ? answer : question) + (size_t)judgement.offset;
 }
 
 #ifdef __cplusplus

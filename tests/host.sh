@@ -1,6 +1,7 @@
 #!/usr/bin/env bash
-# Runs the host program of examples/host.c, whose path is the argument: on every example, against the words on file, and under valgrind on vectors whose
-# bytes are cut, damaged or too long, where a read outside the ticket is an error. The last line is 'N passed, M failed'.
+# Runs the host program of examples/host.c, whose path is the argument: on every example and some answers, against the words on file, and under valgrind on
+# vectors whose bytes are cut, damaged or too long or of which a part is shown, where a read outside ticket or answer is an error. The last line is
+# 'N passed, M failed'.
 set -u
 host=$(realpath "$1")
 cd "$(dirname "$0")/.."
@@ -14,18 +15,29 @@ count() {
     fi
 }
 
-# What the host says of every example.
+# Runs the host with its words, and looks after its memory.
+in_bounds() {
+    valgrind --quiet --error-exitcode=9 "$host" "$@" >/dev/null
+    count $?
+}
+
+# What the host says of every example and of answers.
 tests/host/words.sh "$host" | diff tests/host/expected.txt -
 count $?
 
-# Memory: on the vectors that are refused with 2 or 3, and on every fifteenth of those that are refused with 4 to 6 or bring strings.
+# Checking: on the vectors that are refused with 2 or 3, and on every fifteenth of those that are refused with 4 to 6 or bring strings.
 for ticket in $(find tests/vectors -name expected.tsv | sort | xargs awk -F '\t' '
     $1 !~ /\.ticket$/ { next }
     { path = FILENAME; sub(/expected\.tsv$/, $1, path) }
     $2 ~ /^refused [23] / { print path }
     $2 ~ /^refused [4-6] / || $2 ~ /^verdict strings/ { if (n++ % 15 == 0) print path }'); do
-    valgrind --quiet --error-exitcode=9 "$host" "$ticket" >/dev/null
-    count $?
+    in_bounds "$ticket"
+done
+
+# Judging: on every fourth of the vectors of which some bytes are shown.
+for name in $(find tests/vectors -path '*/judge/expected.tsv' | sort | xargs awk -F '\t' '
+    $3 != "" { path = FILENAME; sub(/expected\.tsv$/, $1, path); if (n++ % 4 == 0) print path }'); do
+    in_bounds "$name.question" "$name.answer"
 done
 
 echo "$passed passed, $failed failed"

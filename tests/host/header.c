@@ -1,5 +1,5 @@
-/* Holds what include/nuldwich.h says of the library against it: the version, the words for refusals, and the stack that a call uses on the tickets named as
-   arguments. The last line is 'N passed, M failed'. */
+/* Holds what include/nuldwich.h says of the library against it: the version, the words for refusals and, on the tickets named as arguments, what judge shows and
+   the stack that a call uses. The last line is 'N passed, M failed'. */
 
 #define _XOPEN_SOURCE 700
 
@@ -50,6 +50,28 @@ static void hold_words(void) {
     count(good, "a number has no words, or those of another");
 }
 
+static size_t u32_at(const uint8_t *bytes) {
+    return (size_t)bytes[0] | (size_t)bytes[1] << 8 | (size_t)bytes[2] << 16 | (size_t)bytes[3] << 24;
+}
+
+/* The length of a record, its six leading bytes included. */
+static size_t record_length(const uint8_t *record) { return 6 + u32_at(record); }
+
+/* Where the record starts that stands so many behind the one at start. */
+static size_t record_start(const uint8_t *bytes, size_t start, uint64_t behind) {
+    for (; behind > 0; behind--)
+        start += record_length(bytes + start);
+    return start;
+}
+
+/* Where the first constraint of the ticket starts: behind the head and the literals. */
+static size_t constraints_start(void) {
+    size_t start = 0;
+    while (ticket[start + 4] < 3)
+        start += record_length(ticket + start);
+    return start;
+}
+
 static void run_check(void) { reply = nuldwich_check(ticket, ticket_len, answer, sizeof answer); }
 
 static void run_judge(void) { nuldwich_judge(ticket, ticket_len, answer, answer_len); }
@@ -69,11 +91,13 @@ static size_t stack_used(void (*call)(void)) {
     return STACK_BYTES - untouched;
 }
 
-/* The length of the answer in the buffer: up to the end of its record of kind 8. */
+/* The length of the answer in the buffer, if check has put one there: up to the end of its record of kind 8. */
 static size_t answer_length(void) {
     size_t start = 0;
+    if (reply.number != NULDWICH_DONE || reply.record != NULDWICH_STRINGS)
+        return 0;
     while (answer[start + 4] != 8)
-        start += 6 + (size_t)answer[start] + ((size_t)answer[start + 1] << 8);
+        start += record_length(answer + start);
     return start + 6;
 }
 
@@ -87,13 +111,64 @@ static void read_ticket(const char *path) {
     fclose(file);
 }
 
+/* Whether a judgement shows one of the two lent slices from a place on, so many bytes, and the inline function finds them. */
+static int shows(nuldwich_judgement judgement, uint64_t side, size_t offset, size_t length) {
+    const uint8_t *lent = side == NULDWICH_SHOWN_ANSWER ? answer : ticket;
+    return judgement.shown == side && judgement.offset == offset && judgement.length == length &&
+           nuldwich_shown(judgement, ticket, answer) == lent + offset;
+}
+
+/* Whether a judgement shows what the header says of its number. */
+static int shows_as_said(nuldwich_judgement judgement) {
+    size_t start;
+    switch (judgement.number) {
+    case NULDWICH_UNMET:
+        start = record_start(ticket, constraints_start(), judgement.record);
+        return shows(judgement, NULDWICH_SHOWN_QUESTION, start, record_length(ticket + start));
+    case NULDWICH_REFUSED_ANSWER_FORM: return shows(judgement, NULDWICH_SHOWN_ANSWER, 0, answer_len);
+    case NULDWICH_REFUSED_ANSWER_RANGE:
+        start = record_start(answer, 0, judgement.record);
+        return shows(judgement, NULDWICH_SHOWN_ANSWER, start, record_length(answer + start));
+    default: return shows(judgement, NULDWICH_SHOWN_QUESTION, 0, 0);
+    }
+}
+
+/* Judges what is in the two buffers; met counts by the judgement's number. */
+static int judged_as_said(unsigned met[256]) {
+    nuldwich_judgement judgement = nuldwich_judge(ticket, ticket_len, answer, answer_len);
+    met[judgement.number & 255]++;
+    return shows_as_said(judgement);
+}
+
+/* On every ticket, with the answer that check gives or none, with one cut by a byte, and with each of its bytes changed. */
+static void hold_shown(char **paths) {
+    unsigned met[256] = {0};
+    int good = 1;
+    for (; *paths != NULL; paths++) {
+        read_ticket(*paths);
+        run_check();
+        size_t whole = answer_length();
+        for (answer_len = whole > 0 ? whole - 1 : 0; answer_len <= whole; answer_len++)
+            good &= judged_as_said(met);
+        answer_len = whole;
+        for (size_t at = 0; at < whole; at++) {
+            answer[at] ^= 1;
+            good &= judged_as_said(met);
+            answer[at] ^= 1;
+        }
+    }
+    count(good, "judge shows another part than is said");
+    int all = met[NULDWICH_DONE] && met[NULDWICH_UNMET] && met[NULDWICH_REFUSED_ANSWER_FORM] && met[NULDWICH_REFUSED_ANSWER_RANGE];
+    count(all && met[NULDWICH_REFUSED_CUT], "judge was not brought to every part that it may show");
+}
+
 /* Both operations stay within their stack on every ticket. */
 static void hold_stack(char **paths) {
     size_t check_most = 0, judge_most = 0;
     for (; *paths != NULL; paths++) {
         read_ticket(*paths);
         size_t check_used = stack_used(run_check);
-        answer_len = reply.number == NULDWICH_DONE && reply.record == NULDWICH_STRINGS ? answer_length() : 0;
+        answer_len = answer_length();
         size_t judge_used = stack_used(run_judge);
         check_most = check_used > check_most ? check_used : check_most;
         judge_most = judge_used > judge_most ? judge_used : judge_most;
@@ -107,6 +182,7 @@ int main(int argc, char **argv) {
     (void)argc;
     hold_version();
     hold_words();
+    hold_shown(argv + 1);
     hold_stack(argv + 1);
     printf("%u passed, %u failed\n", passed, failed);
     return failed != 0;

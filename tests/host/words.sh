@@ -1,9 +1,15 @@
 #!/usr/bin/env bash
-# What the host program named by the argument says of every example: expected.txt has it on file.
+# What the host program named by the argument says of every example, and of some answers on file: expected.txt has it on file.
 set -eu
 host=$(realpath "$1")
 cd "$(dirname "$0")/../../examples"
 find . -name '*.ticket' -printf '%P\n' | LC_ALL=C sort | while read -r ticket; do
     echo "${ticket%.ticket}:"
     "$host" "$ticket"
+done
+cd ../tests/vectors/L1/judge
+for name in all-met-shows-an-empty-part-of-the-question question-refusal-shows-nothing lowest-unmet-and-its-record unmet-arithmetic-behind-met-constraints \
+    15-shows-the-whole-answer 15-with-an-empty-answer 16-shows-the-answer-s-record 16-shows-the-integers-record; do
+    echo "$name:"
+    "$host" "$name.question" "$name.answer"
 done

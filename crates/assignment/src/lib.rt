@@ -10,7 +10,7 @@ ghost use Rattle.format.specs.Records.{next};
 ghost use Rattle.format.specs.Places.{textAt};
 ghost use Rattle.format.specs.Answer.{recordIs, stringForm, answerForm, outside};
 ghost use Rattle.records.specs.Placed.{Placed};
-ghost use Rattle.assignment.specs.Form.{outsideOf, columnsAt};
+ghost use Rattle.assignment.specs.Form.{placedIn, columnsAt};
 use encoding::KIND_END;
 use encoding::KIND_INTEGERS;
 use encoding::KIND_VALUE;
@@ -93,23 +93,23 @@ pub fn answer_formed(v: &[u8], p: usize, q: usize) -> bool
 
 // ---- its ranges
 
-// The answer's first record out of range, if there is one.
+// The answer's first record out of range, by its number and its position, if there is one.
 pub enum Outside {
-    Record(usize),
+    Record(usize, usize),
     Nowhere,
 }
 
 // "16 (the answer's first such record) when a character is not below n or an integer is outside ±100,000,000"
 pub fn first_outside(v: &[u8], n: usize, p: usize, q: usize) -> Outside
     requires { ⌜ answerForm (now v) p q 0 ≡ true ⌝ }
-    ensures { λ r. ⌜ outsideOf r ≡ outside (now (v .entry)) (blank n p q) p 0 0 ⌝ }
+    ensures { λ r. ⌜ r ≡ placedIn (now (v .entry)) (outside (now (v .entry)) (blank n p q) p 0 0) ⌝ }
 {
     let mut at = 0;
     let mut r = 0;
     while r < p {
         let size = u32_at(v, at);
         if !all_characters(v, n, at + RECORD_HEAD, size / 4) {
-            return Outside::Record(r);
+            return Outside::Record(r, at);
         }
         at = at + RECORD_HEAD + size;
         r += 1;
@@ -117,7 +117,7 @@ pub fn first_outside(v: &[u8], n: usize, p: usize, q: usize) -> Outside
     if integers_within(v, at + RECORD_HEAD, q) {
         Outside::Nowhere
     } else {
-        Outside::Record(p)
+        Outside::Record(p, at)
     }
 }
 

@@ -4,9 +4,10 @@ use native.Mathlib.Omega.{arith}
 use mathlib.Core.Path.{_≡_, refl, _∙_, ap, subst}
 use mathlib.Core.Bool.{Bool, true, false, _||_}
 use mathlib.Core.Option.{Option, none, some}
-use mathlib.Core.List.{List, [], _∷_, _++_}
+use mathlib.Core.List.{[], _∷_, _++_}
 use lib.ListN.{length, getElem?, take, drop, take-append-drop}
-use Rattle.lists.specs.Lists.{any}
+use Rattle.lists.specs.Lists.{All, any}
+use Rattle.lists.proofs.Lists.{all-at}
 use Rattle.lists.proofs.Options.{none-some, some-none, some-injective}
 use Rattle.calculus.specs.Facts.{Fact, Branch, lowestFact}
 use Rattle.calculus.specs.Rules.{found}
@@ -104,3 +105,35 @@ module _ (test : Fact → Bool) where
       go true o ih e = absurd (some-none e)
       go false none ih e = ap (turn false) (ih refl)
       go false (some j) ih e = absurd (some-none e)
+
+-- ---- the first fact without a property
+
+-- none, or one behind others that have it
+abbrev pub FirstWithout : (Fact → Type 0) → Branch → Option ℕ → Type 0
+FirstWithout P b none = All P b
+FirstWithout P b (some k) = (f : Fact) × (getElem? b k ≡ some f) × (P f → ⊥) × All P (take k b)
+
+module _ (P : Fact → Type 0) where
+  -- it is the lowest that passes a test for facts without the property
+  pub lowest-first : (test : Fact → Bool) → ((f : Fact) → test f ≡ true → P f → ⊥) → ((f : Fact) → test f ≡ false → P f)
+      → (b : Branch) → FirstWithout P b (lowestFact test b)
+  unfolding lowestFact
+  lowest-first test without has [] = tt
+  lowest-first test without has (f ∷ b) = go (test f) refl (lowestFact test b) (lowest-first test without has b)
+    where
+      go : (t : Bool) → test f ≡ t → (o : Option ℕ) → FirstWithout P b o → FirstWithout P (f ∷ b) (turn test t o)
+      go true e o h = (f, refl, without f e, tt)
+      go false e none h = (has f e, h)
+      go false e (some k) (g, at, no-g, before) = (g, at, no-g, (has f e, before))
+
+  -- there is one only
+  pub first-unique : (b : Branch) (o i : Option ℕ) → FirstWithout P b o → FirstWithout P b i → o ≡ i
+  first-unique b none none h g = refl
+  first-unique b none (some k) h (f, at, no-f, before) = absurd (no-f (all-at P b k h at))
+  first-unique b (some k) none (f, at, no-f, before) h = absurd (no-f (all-at P b k h at))
+  first-unique [] (some k) (some j) (f, at, no-f, before) h = absurd (none-some at)
+  first-unique (x ∷ b) (some zero) (some zero) h g = refl
+  first-unique (x ∷ b) (some zero) (some (suc j)) (f, at, no-f, before) (g, there, no-g, (p, ps)) = absurd (no-f (subst P (some-injective at) p))
+  first-unique (x ∷ b) (some (suc k)) (some zero) (f, at, no-f, (p, ps)) (g, there, no-g, before) = absurd (no-g (subst P (some-injective there) p))
+  first-unique (x ∷ b) (some (suc k)) (some (suc j)) (f, at, no-f, (p, ps)) (g, there, no-g, (q, qs)) =
+      let e = first-unique b (some k) (some j) (f, at, no-f, ps) (g, there, no-g, qs) in ap (λ i. some (suc i)) (some-injective e)

@@ -23,10 +23,10 @@ use Rattle.delimiters.specs.declared.Claim.{Claim}
 use Rattle.delimiters.specs.declared.Claim.the-variants.{NoSolution, Strings}
 use Rattle.delimiters.specs.Claims.{claimOf, openUnder}
 use Rattle.question.specs.declared.Progress.{Progress}
-use Rattle.question.specs.Progress.{progressOf}
+use Rattle.question.specs.Progress.{numbersOf, progressOf}
 use Rattle.question.specs.Standing.{StandsTo}
 use Rattle.question.specs.Posed.{Posed, asked}
-use Rattle.question.proofs.Standing.{question-stands, question-short, question-few}
+use Rattle.format.proofs.Standing.{question-stands, question-short, question-few}
 
 -- ---- the question
 
@@ -61,13 +61,13 @@ pub record Read (b : List ℕ) (s : Progress) (at r : ℕ) : Type 0 where
 
 pub read-question : (b : List ℕ) (s : Progress) (at r : ℕ) → question b ≡ format.Ended (progressOf b s) at r → Read b s at r
 read-question b s at r e =
-    let (stands, headed) = question-stands checkingManner b s at r e in
+    let (stands, headed) = question-stands checkingManner b (numbersOf s) at r e in
     let short = question-short checkingManner b (progressOf b s) at r e in
     record {
       stands = stands;
       headed = headed;
       short = short;
-      few-constraints = question-few checkingManner refl b s at r e;
+      few-constraints = question-few checkingManner refl b (numbersOf s) at r e;
       few = numbered (length b) b unread (progressOf b s) 0 0 at r (omega arith) (omega arith) (sym (read-begin test b short) ∙ e);
     }
 

@@ -3,6 +3,7 @@ use Rattle.format.specs.Demands.{Demands}
 use Rattle.format.proofs.NoSolution.{derivations-exact, no-solution-sound}
 use Rattle.format.proofs.Strings.{strings-hold, leaves-exact}
 use Rattle.format.proofs.Judged.{judging-is-theory}
+use Rattle.format.proofs.Shown.{record-concerned}
 use Rattle.format.proofs.ReadBack.{answers-judged}
 use Rattle.format.proofs.Proper.{no-solution-proper, strings-proper}
 
@@ -12,6 +13,7 @@ demands = record {
   th-2-asks = no-solution-proper;
   th-3 = judging-is-theory;
   th-3-all = answers-judged;
+  th-l1 = record-concerned;
   th-4 = no-solution-sound;
   th-5 = strings-hold;
   th-6 = leaves-exact;

@@ -1,27 +1,29 @@
--- TH-3: judging says all met exactly when the answer's values meet every constraint, and names only a constraint that they do not meet.
+-- TH-3: judging says all met exactly when the answer's values meet every constraint, and else names the first that they do not meet.
 use Prim.Native.Nat.{ℕ, zero, suc, _+_}
 use native.Mathlib.Omega.{arith}
 use mathlib.Core.Path.{_≡_, refl, sym, _∙_, ap, subst}
 use mathlib.Core.Bool.{Bool, true, false, not}
 use mathlib.Core.Option.{Option, none, some}
 use mathlib.Core.List.{List, [], _∷_}
-use lib.ListN.{getD, getElem?}
+use lib.ListN.{getD}
 use lib.Dec.{T-not, not-T, leb}
+use borrow.Author.Tests.{not-true, not-false}
 use Rattle.lists.proofs.Tests.{→true, true→}
 use Rattle.calculus.specs.Alphabet.{Over, allCharacters}
-use Rattle.calculus.specs.Facts.{Question, Fact, same, notSame, isLiteral, arithmetic, Branch, holds, literal}
+use Rattle.calculus.specs.Facts.{Question, Fact, same, notSame, isLiteral, arithmetic, holds, literal}
 use Rattle.calculus.specs.Strings.{eqString}
-use Rattle.calculus.specs.Meaning.{Assignment, str, value, For, Meets, Met}
+use Rattle.calculus.specs.Meaning.{Assignment, str, value, For, Meets}
 use Rattle.calculus.proofs.Words.{over→, eqString→, →eqString}
 use Rattle.calculus.proofs.Relations.{holds→, →holds}
-use Rattle.lists.proofs.Lists.{all-at, all-true→}
+use Rattle.calculus.proofs.Searches.{FirstWithout, lowest-first, first-unique}
 use Rattle.format.specs.Records.{next}
 use Rattle.format.specs.Question.{Reading, Stopped, Ended, question, questionIn, questionOf}
 use Rattle.format.specs.Places.{skip, textAt, texts}
 use Rattle.format.specs.Answer.{answerForm, assignmentOf, outside}
-use Rattle.format.specs.Judging.{Judging, Refused, Judged, judgeAnswer, judgeBehind, judging, meets, meetsAll, Judgement, Refusal, AllMet, Unmet, Says}
-use Rattle.format.specs.Demands.{TH-3}
-use Rattle.format.proofs.Faults.{not-both}
+use Rattle.format.specs.Judging.{Judging, Refused, Judged, judgeAnswer, judgeBehind, judging, meets}
+use Rattle.format.specs.Judging.{firstUnmet, saidOf, said}
+use Rattle.format.specs.Demands.{Iff, Judges, TH-3}
+use Rattle.format.proofs.Faults.{not-both, clash}
 use Rattle.format.proofs.Fields.{length-i32s}
 use Rattle.format.proofs.Asked.{headed-asked, question→form}
 use Rattle.format.proofs.Places.{length-texts}
@@ -40,9 +42,17 @@ meets→ u a (arithmetic r e) h = holds→ r (value a e) (true→ h)
 →meets u a (isLiteral x l) h = →true (eqString (str a x) (literal u l)) (→eqString h)
 →meets u a (arithmetic r e) h = →true (holds r (value a e)) (→holds r (value a e) h)
 
-meetsAll→ : (u : Question) (a : Assignment) (b : Branch) → meetsAll u a b ≡ true → Met u a b
-unfolding meetsAll
-meetsAll→ u a b e = all-true→ (meets u a) b (meets→ u a) e
+-- ---- the first constraint that is not met
+
+module _ (u : Question) (a : Assignment) where
+  pub first-unmet : FirstWithout (Meets u a) (u .constraints) (firstUnmet u a)
+  first-unmet = lowest-first (Meets u a) (λ f. not (meets u a f)) unmet→ met→ (u .constraints)
+    where
+      unmet→ : (f : Fact) → not (meets u a f) ≡ true → Meets u a f → ⊥
+      unmet→ f e m = not-both (meets u a f) (→meets u a f m) (not-true (meets u a f) e)
+
+      met→ : (f : Fact) → not (meets u a f) ≡ false → Meets u a f
+      met→ f e = meets→ u a f (not-false (meets u a f) e)
 
 -- ---- the answer's values are an assignment of the question
 
@@ -98,10 +108,9 @@ judged-taken b v u a e = behind (question b) refl e
 -- ---- the theorem
 
 pub judging-is-theory : TH-3
-judging-is-theory b v j s u a e =
+judging-is-theory b v u a e =
     let t = judged-taken b v u a e in
-    let says : Says (Judged u a) j = subst (λ g. Says g j) e s in
-    record {
+    subst (λ g. Judges b v (said g) u a) (sym e) (record {
       asked = t .asked-is;
       values = t .values-are;
       for-question = subst (For u) (sym (t .values-are)) (record {
@@ -109,23 +118,18 @@ judging-is-theory b v j s u a e =
         integers = length-i32s v (skip v (u .p) 0 + 6) (u .q);
         over = inside-over v u (u .p) 0 0 (t .all-inside);
       });
-      all-met = (all-met-said j says, said-all-met j says);
-      unmet = unmet-said j says;
-    }
+      all-met = exactly none;
+      unmet = λ k. exactly (some k);
+    })
   where
-    all-met-said : (j : Judgement) → Says (Judged u a) j → j ≡ AllMet → Met u a (u .constraints)
-    all-met-said (Refusal c r) s p = absurd s
-    all-met-said AllMet s p = meetsAll→ u a (u .constraints) s
-    all-met-said (Unmet k) s p = absurd (let z : _≡_ {A = ℕ} 0 1 = cc in omega arith)
+    said-one : (o i : Option ℕ) → saidOf o ≡ saidOf i → o ≡ i
+    said-one none none e = refl
+    said-one none (some k) e = clash cc
+    said-one (some k) none e = clash cc
+    said-one (some k) (some j) e = let z : k ≡ j = cc in ap some z
 
-    said-all-met : (j : Judgement) → Says (Judged u a) j → Met u a (u .constraints) → j ≡ AllMet
-    said-all-met (Refusal c r) s m = absurd s
-    said-all-met AllMet s m = refl
-    said-all-met (Unmet k) s m = absurd (not-both (meets u a (s .0)) (→meets u a (s .0) (all-at (Meets u a) (u .constraints) k m (s .1))) (s .2))
-
-    unmet-said : (j : Judgement) → Says (Judged u a) j → (k : ℕ) → j ≡ Unmet k → (f : Fact) × (getElem? (u .constraints) k ≡ some f) × (Meets u a f → ⊥)
-    unmet-said (Refusal c r) s k p = absurd s
-    unmet-said AllMet s k p = absurd (let z : _≡_ {A = ℕ} 0 1 = cc in omega arith)
-    unmet-said (Unmet i) s k p =
-        let z : i ≡ k = cc in
-        (s .0, subst (λ n. getElem? (u .constraints) n ≡ some (s .0)) z (s .1), λ m. not-both (meets u a (s .0)) (→meets u a (s .0) m) (s .2))
+    exactly : (o : Option ℕ) → Iff (saidOf (firstUnmet u a) ≡ saidOf o) (FirstWithout (Meets u a) (u .constraints) o)
+    exactly o = (
+      (λ e. subst (FirstWithout (Meets u a) (u .constraints)) (said-one (firstUnmet u a) o e) (first-unmet u a)),
+      (λ h. ap saidOf (first-unique (Meets u a) (u .constraints) (firstUnmet u a) o (first-unmet u a) h)),
+    )

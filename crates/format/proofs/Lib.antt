@@ -6,6 +6,8 @@ pub mod Turns
 pub mod StepTurns
 pub mod Entries
 pub mod Asked
+pub mod Standing
+pub mod Answers
 pub mod Decoded
 pub mod Behind
 pub mod Claimed
@@ -17,6 +19,8 @@ pub mod Leaves
 pub mod Strings
 pub mod Proper
 pub mod Judged
+pub mod Refusals
+pub mod Shown
 pub mod Demands
 pub mod Buffers
 pub mod RecordFaults

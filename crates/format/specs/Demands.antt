@@ -1,12 +1,12 @@
--- The demands as statements about bytes. TH-1, `Checked`, is what checking promises of its result and the lent buffers; TH-2 to TH-6 are theorems
--- about the definitions, for every byte list.
-use Prim.Native.Nat.{ℕ, _<_, _≤_}
+-- The demands as statements about bytes. TH-1, `Checked`, is what checking promises of its result and the lent buffers; TH-2 to TH-6 and those of the
+-- change requests (02), TH-L1 and on, are theorems about the definitions, for every byte list.
+use Prim.Native.Nat.{ℕ, _+_, _<_, _≤_}
 use mathlib.Core.Path.{_≡_}
 use mathlib.Core.Bool.{true, cond}
 use mathlib.Core.Logic.{_≢_}
 use mathlib.Core.Option.{some}
 use mathlib.Core.List.{List, [], _++_}
-use lib.ListN.{length, drop, replicate, getElem?}
+use lib.ListN.{length, take, drop, replicate, getElem?}
 use lib.Dec.{eqb}
 use lib.IntN.{ℤ, pos}
 use Rattle.lists.specs.Lists.{All}
@@ -17,10 +17,13 @@ use Rattle.calculus.specs.Derivations.{Closes, WithinLimits, Path, PathWithinLi
 use Rattle.calculus.specs.Saturation.{AcceptedLeaf}
 use Rattle.calculus.specs.Meaning.{Assignment, str, For, Meets, Met}
 use Rattle.format.specs.Question.{judgedQuestion, questionIn, questionOf}
+use Rattle.format.specs.Records.{next, records}
+use Rattle.format.specs.Places.{constraintAt}
 use Rattle.format.specs.Answer.{encode, assignmentOf}
 use Rattle.format.specs.Checking.{Outcome, Refused, NoSolution, Strings, largeEnough, verdict}
 use Rattle.format.specs.ProperForm.{ProperNo, ProperStrings, steps, stepsWithChild}
-use Rattle.format.specs.Judging.{Judged, judging, Judgement, AllMet, Unmet, Says}
+use Rattle.format.specs.Judging.{Judging, Judged, judging, Judgement, Refusal, AllMet, Unmet, said}
+use Rattle.format.specs.Judging.{Side, ofQuestion, ofAnswer, Shown, nothingShown, answerShown, shownBy, partWithin}
 
 abbrev pub Iff : Type 0 → Type 0 → Type 0
 Iff A B = (A → B) × (B → A)
@@ -60,21 +63,46 @@ TH-2-asks = (work answer : ℕ) (t : List ℕ) → verdict work answer t ≡ NoS
 
 -- ---- TH-3, demand 2: judging says what the theory says
 
--- the values judged are an assignment of the question; all met is said exactly when it meets every constraint; one named is not met
+-- the values judged are an assignment of the question; all met is said exactly when it meets every constraint, and a constraint is named exactly when it is
+-- the first that it does not meet
 pub record Judges (b v : List ℕ) (j : Judgement) (u : Question) (a : Assignment) : Type 0 where
   pub asked : questionOf b ≡ some u
   pub values : a ≡ assignmentOf v u
   pub for-question : For u a
   pub all-met : Iff (j ≡ AllMet) (Met u a (u .constraints))
-  pub unmet : (k : ℕ) → j ≡ Unmet k → (f : Fact) × (getElem? (u .constraints) k ≡ some f) × (Meets u a f → ⊥)
+  pub unmet : (k : ℕ) → Iff (j ≡ Unmet k)
+      ((f : Fact) × (getElem? (u .constraints) k ≡ some f) × (Meets u a f → ⊥) × Met u a (take k (u .constraints)))
 
 abbrev pub TH-3 : Type 0
-TH-3 = (b v : List ℕ) (j : Judgement) → Says (judging b v) j → (u : Question) (a : Assignment) → judging b v ≡ Judged u a → Judges b v j u a
+TH-3 = (b v : List ℕ) (u : Question) (a : Assignment) → judging b v ≡ Judged u a → Judges b v (said (judging b v)) u a
 
 -- and it judges every assignment that an answer can hold: no 15 or 16 for the bytes of one with strings of at most 64 characters and integers in range
 abbrev pub TH-3-all : Type 0
 TH-3-all = (b : List ℕ) (u : Question) (a : Assignment) → questionIn (judgedQuestion b) ≡ some u → For u a → All (λ s. length s ≤ lengthLimit) (a .strs)
     → All (Small valueLimit) (a .ints) → judging b (encode a) ≡ Judged u a
+
+-- ---- TH-L1: judging shows the record concerned
+
+-- a record of a side's bytes, by its number in reading
+pub record ShowsRecord (side : Side) (bytes : List ℕ) (r : ℕ) (s : Shown) : Type 0 where
+  pub side-is : s .side ≡ side
+  pub from-is : getElem? (records bytes 0) r ≡ some (s .from)
+  pub to-is : s .to ≡ next bytes (s .from)
+
+-- what is shown of the question b and the answer v lies within them, so a record shown is whole. For an unmet constraint it is the record behind the head,
+-- the literals and the constraints before it, which is read as that constraint; for 16 it is the answer's record of that number; for 15 the whole answer; for
+-- every other outcome nothing
+pub record Shows (b v : List ℕ) (g : Judging) (s : Shown) : Type 0 where
+  pub lies-within : partWithin (length b) (length v) s ≡ true
+  pub unmet : (u : Question) (a : Assignment) (k : ℕ) → g ≡ Judged u a → said g ≡ Unmet k
+      → ShowsRecord ofQuestion b (1 + length (u .literals) + k) s × (getElem? (u .constraints) k ≡ some (constraintAt b (s .from)))
+  pub out-of-range : (r : ℕ) → said g ≡ Refusal 16 r → ShowsRecord ofAnswer v r s
+  pub unformed : (r : ℕ) → said g ≡ Refusal 15 r → s ≡ answerShown v
+  pub refused : (c r : ℕ) → said g ≡ Refusal c r → c ≢ 15 → c ≢ 16 → s ≡ nothingShown
+  pub all-met : said g ≡ AllMet → s ≡ nothingShown
+
+abbrev pub TH-L1 : Type 0
+TH-L1 = (b v : List ℕ) → Shows b v (judging b v) (shownBy b v (judging b v))
 
 -- ---- TH-4, demand 3: whatever the bytes, where checking says "no solution", no assignment meets all constraints
 
@@ -128,6 +156,7 @@ pub record Demands : Type 0 where
   pub th-2-asks : TH-2-asks
   pub th-3 : TH-3
   pub th-3-all : TH-3-all
+  pub th-l1 : TH-L1
   pub th-4 : TH-4
   pub th-5 : TH-5
   pub th-6 : TH-6

@@ -1,16 +1,17 @@
--- Judging: "takes a question .. and an answer: 2 to 7 and 10 for the question, then 15 .., 16 ... Otherwise it says all met, or the number of a constraint that
--- is not met".
+-- Judging: "takes a question .. and an answer: 2 to 7 and 10 for the question, then 15 .., 16 ..."; else it says "all met", or names "the lowest-numbered
+-- constraint that is not met. It also shows the very bytes of the record concerned" (02, L1).
 use Prim.Native.Nat.{ℕ}
-use mathlib.Core.Path.{_≡_}
-use mathlib.Core.Bool.{Bool, true, false, not}
-use mathlib.Core.Option.{none, some}
+use mathlib.Core.Bool.{Bool, true, false, not, cond, _&&_}
+use mathlib.Core.Option.{Option, none, some}
 use mathlib.Core.List.{List}
-use Rattle.lists.specs.Lists.{all}
-use lib.ListN.{getElem?}
-use Rattle.calculus.specs.Facts.{Question, Fact, same, notSame, isLiteral, arithmetic, Branch, holds, literal}
+use lib.ListN.{length}
+use lib.Dec.{leb, eqb}
+use Rattle.calculus.specs.Facts.{Question, Fact, same, notSame, isLiteral, arithmetic, holds, literal, lowestFact}
 use Rattle.calculus.specs.Meaning.{Assignment, str, value}
 use Rattle.calculus.specs.Strings.{eqString}
+use Rattle.format.specs.Records.{next}
 use Rattle.format.specs.Question.{Reading, Stopped, Ended, judgedQuestion, headRead}
+use Rattle.format.specs.Places.{skip, constraintsFrom}
 use Rattle.format.specs.Answer.{answerForm, outside, assignmentOf}
 
 -- Refused: the number and the record. Judged: the question, and the strings and integers of the answer.
@@ -42,23 +43,69 @@ meets u a (notSame x y) = not (eqString (str a x) (str a y))
 meets u a (isLiteral x l) = eqString (str a x) (literal u l)
 meets u a (arithmetic r e) = holds r (value a e)
 
-unfoldable pub meetsAll : Question → Assignment → Branch → Bool
-meetsAll u a b = all (meets u a) b
-
 -- ---- what judging says
 
 pub data Judgement : Type 0 where
   Refusal : ℕ → ℕ → Judgement
   AllMet : Judgement
+  -- by its number
   Unmet : ℕ → Judgement
 
--- the constraint of number k stands there and is not met
-abbrev pub NotMet : Question → Assignment → ℕ → Type 0
-NotMet u a k = (f : Fact) × (getElem? (u .constraints) k ≡ some f) × (meets u a f ≡ false)
+-- "the lowest-numbered constraint that is not met", if there is one
+abbrev pub firstUnmet : Question → Assignment → Option ℕ
+firstUnmet u a = lowestFact (λ f. not (meets u a f)) (u .constraints)
 
--- "Judging's unmet constraint is free for now: it is the number of some constraint that the answer does not meet"
-abbrev pub Says : Judging → Judgement → Type 0
-Says (Refused c r) j = j ≡ Refusal c r
-Says (Judged u a) (Refusal c r) = ⊥
-Says (Judged u a) AllMet = meetsAll u a (u .constraints) ≡ true
-Says (Judged u a) (Unmet k) = NotMet u a k
+abbrev pub saidOf : Option ℕ → Judgement
+saidOf none = AllMet
+saidOf (some k) = Unmet k
+
+abbrev pub said : Judging → Judgement
+said (Refused c r) = Refusal c r
+said (Judged u a) = saidOf (firstUnmet u a)
+
+-- ---- what judging shows
+
+pub data Side : Type 0 where
+  ofQuestion : Side
+  ofAnswer : Side
+
+-- the part of the question or of the answer from a position up to another
+pub record Shown : Type 0 where
+  pub side : Side
+  pub from : ℕ
+  pub to : ℕ
+
+-- the whole record at a position, its six leading bytes included
+abbrev pub recordShown : Side → List ℕ → ℕ → Shown
+recordShown side b at = record { side = side; from = at; to = next b at }
+
+-- "an empty part of the question": the one at its first byte
+abbrev pub nothingShown : Shown
+nothingShown = record { side = ofQuestion; from = 0; to = 0 }
+
+-- "For 15 that part is the whole answer"
+abbrev pub answerShown : List ℕ → Shown
+answerShown v = record { side = ofAnswer; from = 0; to = length v }
+
+-- "from the answer for 15 and 16 .., and for every other outcome an empty part of the question"
+abbrev pub refusalShown : List ℕ → ℕ → ℕ → Shown
+refusalShown v c r = cond (eqb c 15) (answerShown v) (cond (eqb c 16) (recordShown ofAnswer v (skip v r 0)) nothingShown)
+
+-- "from the question for an unmet constraint": the record of that constraint stands behind the literals and the constraints before it
+abbrev pub unmetShown : List ℕ → Question → Option ℕ → Shown
+unmetShown b u none = nothingShown
+unmetShown b u (some k) = recordShown ofQuestion b (skip b k (constraintsFrom b (length (u .literals))))
+
+-- what is shown of the question b and the answer v
+abbrev pub shownBy : List ℕ → List ℕ → Judging → Shown
+shownBy b v (Refused c r) = refusalShown v c r
+shownBy b v (Judged u a) = unmetShown b u (firstUnmet u a)
+
+-- by a part's side: what holds for the question, and for the answer
+abbrev pub bySide : {A : Type 0} → Side → A → A → A
+bySide ofQuestion question answer = question
+bySide ofAnswer question answer = answer
+
+-- whether a part lies within a question and an answer of these lengths
+abbrev pub partWithin : ℕ → ℕ → Shown → Bool
+partWithin question-length answer-length s = leb (s .from) (s .to) && leb (s .to) (bySide (s .side) question-length answer-length)

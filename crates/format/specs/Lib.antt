@@ -2,6 +2,7 @@ pub mod Fields
 pub mod Records
 pub mod Question
 pub mod Places
+pub mod Standing
 pub mod StepForms
 pub mod Answer
 pub mod Reading

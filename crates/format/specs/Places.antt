@@ -24,20 +24,31 @@ texts b k at = valuesAlong (next b) (textAt b) at k
 unfoldable pub constraintsAt : List ℕ → ℕ → ℕ → List Fact
 constraintsAt b k at = valuesAlong (next b) (constraintAt b) at k
 
--- the first literal stands behind the head, at position 14
+-- the first literal stands behind the head, at position 14, and the first constraint behind the literals
 abbrev pub literalsFrom : ℕ
 literalsFrom = 14
 
--- what was read, from numbers alone: the last rank, n, p and q, and how many literals and, behind them, constraints stand in the bytes.
--- A loop that keeps these numbers keeps the question.
-abbrev pub readTo : List ℕ → ℕ → ℕ → ℕ → ℕ → ℕ → ℕ → Progress
-readTo b last n p q literals constraints = record {
-  last = last;
+abbrev pub constraintsFrom : List ℕ → ℕ → ℕ
+constraintsFrom b literals = skip b literals literalsFrom
+
+-- what was read, in numbers: the last rank, n, p and q, and how many literals and, behind them, constraints stand in the bytes
+pub record Numbers : Type 0 where
+  pub last : ℕ
+  pub n : ℕ
+  pub p : ℕ
+  pub q : ℕ
+  pub literals : ℕ
+  pub constraints : ℕ
+
+-- what was read, from the bytes and these numbers alone. A loop that keeps the numbers keeps the question.
+abbrev pub readTo : List ℕ → Numbers → Progress
+readTo b s = record {
+  last = s .last;
   question = record {
-    n = n;
-    p = p;
-    q = q;
-    literals = texts b literals literalsFrom;
-    constraints = constraintsAt b constraints (skip b literals literalsFrom);
+    n = s .n;
+    p = s .p;
+    q = s .q;
+    literals = texts b (s .literals) literalsFrom;
+    constraints = constraintsAt b (s .constraints) (constraintsFrom b (s .literals));
   };
 }

@@ -14,7 +14,7 @@ use Rattle.format.specs.Judging.{meets}
 use Rattle.format.specs.Places.{textAt}
 use Rattle.question.specs.declared.Progress.{Progress}
 use Rattle.question.specs.Posed.{asked}
-use Rattle.assignment.proofs.Read.{text-there}
+use Rattle.format.proofs.Answers.{text-there}
 use Rattle.format.proofs.Places.{text-at}
 use Rattle.judging.specs.Ready.{valuesOf, Texts}
 

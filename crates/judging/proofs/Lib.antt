@@ -3,4 +3,5 @@ pub mod Tested
 pub mod Unmet
 pub mod Summing
 pub mod Outcomes
+pub mod Parts
 pub mod Theory

@@ -1,72 +1,100 @@
--- What judging says, outcome by outcome.
+-- What judging finds, outcome by outcome.
 use Prim.Native.Nat.{ℕ, _≤_}
-use mathlib.Core.Path.{_≡_, refl, sym, ap₂, subst}
+use mathlib.Core.Path.{_≡_, refl, sym, ap, ap₂, subst}
 use mathlib.Core.Bool.{Bool, true, false}
 use mathlib.Core.Option.{Option, none, some}
 use mathlib.Core.List.{List}
+use lib.ListN.{length}
 use lib.Dec.{leb}
 use borrow.Author.Tests.{le-leb, lt-leb}
 use native.Mathlib.Omega.{arith}
 use Rattle.calculus.specs.Facts.{Question}
-use Rattle.format.specs.Question.{Progress, Reading, Stopped, Ended, judgedQuestion}
+use Rattle.format.specs.Records.{next}
+use Rattle.format.specs.Question.{Progress, Reading, Stopped, Ended, judgingManner, judgedQuestion}
+use Rattle.format.specs.Places.{skip}
 use Rattle.format.specs.Answer.{answerForm, assignmentOf, outside}
-use Rattle.format.specs.Judging.{Judging, Refused, Judged, judgeAnswer, judgeBehind, judging, Judgement, Refusal, Says}
-use Rattle.question.specs.declared.Progress as code
-use Rattle.judging.specs.Judgements.{firstUnmet}
-use Rattle.judging.proofs.Unmet.{first-says}
+use Rattle.format.specs.Judging as format
+use Rattle.format.specs.Judging.{Judging, Judged, judgeAnswer, judgeBehind, judging, ofAnswer, recordShown}
+use Rattle.format.proofs.Refusals.{refusal-up-to}
+use Rattle.format.proofs.Shown.{nothing-up-to}
+use Rattle.judging.specs.declared.Judgement.the-variants.{Refused}
+use Rattle.judging.specs.declared.Side.the-variants as side
+use Rattle.judging.specs.declared.Finding.{Finding}
+use Rattle.judging.specs.Judgements.{Finds}
 
--- ---- behind the question
+-- ---- the answer
 
-module _ (u : Question) (v : List ℕ) where
+module _ (b v : List ℕ) (u : Question) where
   abbrev byForm : Bool → Option ℕ → Judging
   byForm t o =
-      elim t as (λ _. Judging) [ false ↦ Refused 15 0 | true ↦ elim o as (λ _. Judging) [ some r ↦ Refused 16 r | none ↦ Judged u (assignmentOf v u) ] ]
+      elim t as (λ _. Judging) [
+        | false ↦ format.Refused 15 0
+        | true ↦ elim o as (λ _. Judging) [ some r ↦ format.Refused 16 r | none ↦ Judged u (assignmentOf v u) ]
+      ]
 
-  by : {t : Bool} {o : Option ℕ} (j : Judgement)
+  by : {t : Bool} {o : Option ℕ} {r : Finding}
       → answerForm v (u .p) (u .q) 0 ≡ t
       → outside v u (u .p) 0 0 ≡ o
-      → Says (byForm t o) j
-      → Says (judgeAnswer u v) j
-  by j e f h = subst (λ (g : Judging). Says g j) (sym (ap₂ byForm e f)) h
+      → Finds b v (byForm t o) r
+      → Finds b v (judgeAnswer u v) r
+  by {r = r} e f h = subst (λ (g : Judging). Finds b v g r) (sym (ap₂ byForm e f)) h
 
-  pub unformed : answerForm v (u .p) (u .q) 0 ≡ false → Says (judgeAnswer u v) (Refusal 15 0)
-  unformed e = by (Refusal 15 0) e refl refl
+  pub unformed : answerForm v (u .p) (u .q) 0 ≡ false
+      → Finds b v (judgeAnswer u v) (record { said = Refused 15 0; shown = record { side = side.Answer; from = 0; to = length v } })
+  unformed e = by e refl (record { says = refl; shows = refl })
 
-  pub out-of-range : {r : ℕ} → answerForm v (u .p) (u .q) 0 ≡ true → outside v u (u .p) 0 0 ≡ some r → Says (judgeAnswer u v) (Refusal 16 r)
-  out-of-range {r} e f = by (Refusal 16 r) e f refl
+  pub out-of-range : {r at to : ℕ}
+      → answerForm v (u .p) (u .q) 0 ≡ true
+      → outside v u (u .p) 0 0 ≡ some r
+      → at ≡ skip v r 0
+      → to ≡ next v at
+      → Finds b v (judgeAnswer u v) (record { said = Refused 16 r; shown = record { side = side.Answer; from = at; to = to } })
+  out-of-range e f here end = by e f (record { says = refl; shows = rw end (ap (recordShown ofAnswer v) here) })
 
-  pub judged : {j : Judgement}
+  pub judged : {r : Finding}
       → answerForm v (u .p) (u .q) 0 ≡ true
       → outside v u (u .p) 0 0 ≡ none
-      → j ≡ firstUnmet u (assignmentOf v u) (u .constraints) 0
-      → Says (judgeAnswer u v) j
-  judged {j} e f h = by j e f (subst (Says (Judged u (assignmentOf v u))) (sym h) (first-says u (assignmentOf v u)))
+      → Finds b v (Judged u (assignmentOf v u)) r
+      → Finds b v (judgeAnswer u v) r
+  judged e f h = by e f h
 
 -- ---- the question
 
 module _ (b v : List ℕ) where
-  pub stopped : {c r : ℕ} → judgedQuestion b ≡ Stopped c r → Says (judging b v) (Refusal c r)
+  -- its refusals show nothing
+  refused : (c r : ℕ) → c ≤ 10 → Finds b v (format.Refused c r) (record { said = Refused c r; shown = record { side = side.Question; from = 0; to = 0 } })
+  refused c r h = record { says = refl; shows = sym (nothing-up-to v c r h) }
+
+  pub stopped : {c r : ℕ}
+      → judgedQuestion b ≡ Stopped c r
+      → Finds b v (judging b v) (record { said = Refused c r; shown = record { side = side.Question; from = 0; to = 0 } })
   unfolding judging
-  stopped {c} {r} e = subst (λ (g : Reading). Says (judgeBehind g v) (Refusal c r)) (sym e) refl
+  stopped {c} {r} e =
+      subst (λ (g : Reading). Finds b v (judgeBehind g v) (record { said = Refused c r; shown = record { side = side.Question; from = 0; to = 0 } })) (sym e)
+      (refused c r (refusal-up-to judgingManner b e))
 
   abbrev byHead : Progress → ℕ → Bool → Judging
-  byHead s r t = elim t as (λ _. Judging) [ false ↦ Refused 4 r | true ↦ judgeAnswer (s .question) v ]
+  byHead s r t = elim t as (λ _. Judging) [ false ↦ format.Refused 4 r | true ↦ judgeAnswer (s .question) v ]
 
-  ended : {s : Progress} {at r : ℕ} {t : Bool} (j : Judgement)
+  ended : {s : Progress} {at r : ℕ} {t : Bool} {o : Finding}
       → judgedQuestion b ≡ Ended s at r
       → leb 1 (s .last) ≡ t
-      → Says (byHead s r t) j
-      → Says (judging b v) j
+      → Finds b v (byHead s r t) o
+      → Finds b v (judging b v) o
   unfolding judging
-  ended {s} {at} {r} j e f h = subst (λ (g : Reading). Says (judgeBehind g v) j) (sym e) (subst (λ (x : Bool). Says (byHead s r x) j) (sym f) h)
+  ended {s} {at} {r} {o = o} e f h =
+      subst (λ (g : Reading). Finds b v (judgeBehind g v) o) (sym e) (subst (λ (x : Bool). Finds b v (byHead s r x) o) (sym f) h)
 
   -- "one with no head before it gives 4"
-  pub headless : {s : Progress} {at r : ℕ} → judgedQuestion b ≡ Ended s at r → s .last ≡ 0 → Says (judging b v) (Refusal 4 r)
-  headless {s} {at} {r} e f = ended (Refusal 4 r) e (lt-leb 1 (s .last) (omega arith)) refl
+  pub headless : {s : Progress} {at r : ℕ}
+      → judgedQuestion b ≡ Ended s at r
+      → s .last ≡ 0
+      → Finds b v (judging b v) (record { said = Refused 4 r; shown = record { side = side.Question; from = 0; to = 0 } })
+  headless {s} {at} {r} e f = ended e (lt-leb 1 (s .last) (omega arith)) (refused 4 r (omega arith))
 
-  pub headed : {s : Progress} {at r : ℕ} (j : Judgement)
+  pub headed : {s : Progress} {at r : ℕ} {o : Finding}
       → judgedQuestion b ≡ Ended s at r
       → 1 ≤ s .last
-      → Says (judgeAnswer (s .question) v) j
-      → Says (judging b v) j
-  headed {s} {at} {r} j e f h = ended j e (le-leb 1 (s .last) f) h
+      → Finds b v (judgeAnswer (s .question) v) o
+      → Finds b v (judging b v) o
+  headed {s} e f h = ended e (le-leb 1 (s .last) f) h

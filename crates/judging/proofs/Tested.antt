@@ -16,7 +16,7 @@ use Rattle.format.specs.Question.{formOf, relationOf, constraintFault, constrai
 use Rattle.format.specs.Judging.{meets}
 use Rattle.format.proofs.RecordFaults.{StringConstraint, ArithmeticConstraint}
 use Rattle.question.specs.declared.Progress.{Progress}
-use Rattle.question.specs.Standing.{ConstraintAt}
+use Rattle.format.specs.Standing.{ConstraintAt}
 use Rattle.question.specs.Posed.{asked}
 use Rattle.question.proofs.Constraints.{of-strings, of-columns}
 use Rattle.assignment.specs.Form.{columnsAt}

@@ -1,16 +1,36 @@
--- Demand 2 of the code: what judge_answer says is what the theory says (TH-3).
-use mathlib.Core.Path.{_≡_}
+-- Demand 2 of the code: what judge_answer says is what the theory says (TH-3), and what show gives of it is the record concerned (TH-L1).
+use mathlib.Core.Path.{_≡_, sym, subst}
 use mathlib.Core.List.{List}
 use Prim.Native.Nat.{ℕ}
+use denote.Ref.{RefT}
 use Rattle.calculus.specs.Facts.{Question}
 use Rattle.calculus.specs.Meaning.{Assignment}
-use Rattle.format.specs.Judging.{Judged, judging, Says}
-use Rattle.format.specs.Demands.{Judges}
+use Rattle.format.specs.Judging.{Judged, judging, shownBy, Shown, bySide}
+use Rattle.format.specs.Demands.{Judges, Shows}
 use Rattle.format.proofs.Demands.{demands}
-use Rattle.judging.specs.declared.Judgement.{Judgement}
-use Rattle.judging.specs.Judgements.{judgementOf}
+use Rattle.judging.specs.declared.Finding.{Finding}
+use Rattle.judging.specs.Judgements.{judgementOf, shownOf, Finds}
+use Rattle.judging.specs.Parts.{Part, PartShown}
+use Rattle.judging.proofs.Parts.{shown-part}
 
--- from the promise of judge_answer as it stands
-pub judges : (question answer : List ℕ) (r : Judgement) → Says (judging question answer) (judgementOf r)
-    → (u : Question) (a : Assignment) → judging question answer ≡ Judged u a → Judges question answer (judgementOf r) u a
-judges question answer r s u a e = demands .th-3 question answer (judgementOf r) s u a e
+-- from the promises as they stand
+module _ (question answer : RefT (List ℕ)) (r : Finding) (h : Finds (question .now) (answer .now) (judging (question .now) (answer .now)) r) where
+  abbrev b : List ℕ
+  b = question .now
+
+  abbrev v : List ℕ
+  v = answer .now
+
+  pub judges : (u : Question) (a : Assignment) → judging b v ≡ Judged u a → Judges b v (judgementOf (r .said)) u a
+  judges u a e = subst (λ j. Judges b v j u a) (sym (h .says)) (demands .th-3 b v u a e)
+
+  pub shows : Shows b v (judging b v) (shownOf (r .shown))
+  shows = subst (Shows b v (judging b v)) (sym (h .shows)) (demands .th-l1 b v)
+
+  -- the slice that is returned is a part of the question or of the answer, from and to where the definition says
+  pub part-of : {part : RefT (List ℕ)} → PartShown question answer (shownOf (r .shown)) part →
+      let s : Shown = shownBy b v (judging b v) in
+      Part (bySide (s .side) question answer) part (s .from) (s .to)
+  part-of {part} p =
+      subst (λ (s : Shown). Part (bySide (s .side) question answer) part (s .from) (s .to)) (h .shows)
+      (shown-part question answer (shownOf (r .shown)) part (shows .lies-within) p)

@@ -1,76 +1,77 @@
--- The first constraint that is not met: one constraint more, and that judging says right by it.
-use Prim.Native.Nat.{ℕ, zero, suc, _+_, _-_, _<_}
+-- The first constraint that is not met: one constraint more, and what is found by it.
+use Prim.Native.Nat.{ℕ, suc, _+_, _<_}
 use native.Mathlib.Omega.{arith}
-use mathlib.Core.Path.{_≡_, refl, _∙_, ap, subst}
-use mathlib.Core.Bool.{Bool, true, false}
-use mathlib.Core.Option.{some}
-use mathlib.Core.List.{List, [], _∷_}
-use lib.ListN.{getElem?}
-use Rattle.calculus.specs.Facts.{Question, Fact, Branch}
+use native.Mathlib.Numerals.{add-one}
+use mathlib.Core.Path.{_≡_, refl, sym, _∙_, ap}
+use mathlib.Core.Bool.{Bool, true, false, not}
+use mathlib.Core.Option.{none, some}
+use mathlib.Core.List.{List, [], _∷_, _++_}
+use lib.ListN.{length}
+use Rattle.calculus.specs.Facts.{Question, Fact, lowestFact}
 use Rattle.calculus.specs.Meaning.{Assignment}
-use Rattle.format.specs.Records.{size, kind, next}
-use Rattle.format.specs.Question.{constraintOf}
-use Rattle.format.specs.Places.{constraintsAt}
-use Rattle.format.specs.Judging.{meets, meetsAll, Judged, Judgement, Refusal, AllMet, Unmet, Says}
-use Rattle.judging.specs.Judgements.{firstUnmet}
+use Rattle.calculus.proofs.Searches.{lowest-behind, lowest-next, lowest-taken}
+use Rattle.format.specs.Records.{next}
+use Rattle.format.specs.Places.{skip, constraintsFrom, constraintAt, constraintsAt}
+use Rattle.format.specs.Judging.{meets, Judged, firstUnmet, saidOf, ofQuestion, recordShown, unmetShown}
+use Rattle.format.proofs.Places.{length-constraints, constraints-snoc, take-constraints}
+use Rattle.question.specs.declared.Progress.{Progress}
+use Rattle.question.specs.Posed.{asked}
+use Rattle.question.proofs.Posed.{literal-count}
+use Rattle.judging.specs.declared.Judgement.the-variants.{AllMet, Unmet}
+use Rattle.judging.specs.declared.Side.the-variants as side
+use Rattle.judging.specs.Judgements.{Finds}
 
-module _ (u : Question) (a : Assignment) where
-  abbrev by : Branch → ℕ → Bool → Judgement
-  by fs k t = elim t as (λ _. Judgement) [ true ↦ firstUnmet u a fs (suc k) | false ↦ Unmet k ]
+module _ (b v : List ℕ) (s : Progress) (a : Assignment) where
+  abbrev u : Question
+  u = asked b s
 
-  -- ---- one constraint more, by position
+  abbrev test : Fact → Bool
+  test f = not (meets u a f)
 
-  module _ (b : List ℕ) (at k : ℕ) where
-    abbrev here : Fact
-    here = constraintOf b (kind b at) (at + 6) (size b at)
+  abbrev from : ℕ
+  from = constraintsFrom b (s .literals)
 
-    pub first-done : (left : ℕ) → left ≡ 0 → firstUnmet u a (constraintsAt b left at) k ≡ AllMet
-    unfolding firstUnmet constraintsAt
-    first-done zero h = refl
-    first-done (suc left) h = absurd (omega arith)
+  -- ---- one constraint more
 
-    pub first-no : (left : ℕ) → 0 < left → meets u a here ≡ false → firstUnmet u a (constraintsAt b left at) k ≡ Unmet k
-    unfolding firstUnmet constraintsAt
-    first-no zero h e = absurd (omega arith)
-    first-no (suc left) h e = ap (by (constraintsAt b left (next b at)) k) e
+  -- the first k constraints are met
+  abbrev pub MetTo : ℕ → Type 0
+  MetTo k = lowestFact test (constraintsAt b k from) ≡ none
 
-    pub first-yes : (left : ℕ)
-        → 0 < left
-        → meets u a here ≡ true
-        → firstUnmet u a (constraintsAt b left at) k ≡ firstUnmet u a (constraintsAt b (left - 1) (next b at)) (suc k)
-    unfolding firstUnmet constraintsAt
-    first-yes zero h e = absurd (omega arith)
-    first-yes (suc left) h e =
-        let d : left ≡ suc left - 1 = omega arith in
-        ap (by (constraintsAt b left (next b at)) k) e ∙ ap (λ (m : ℕ). firstUnmet u a (constraintsAt b m (next b at)) (suc k)) d
+  pub met-none : MetTo 0
+  unfolding lowestFact constraintsAt
+  met-none = refl
 
-  -- ---- judging says right
+  module _ (k at : ℕ) (before : MetTo k) (here : at ≡ skip b k from) where
+    one-more : constraintsAt b (suc k) from ≡ constraintsAt b k from ++ (constraintAt b at ∷ [])
+    one-more = constraints-snoc b k from ∙ ap (λ (z : ℕ). constraintsAt b k from ++ (constraintAt b z ∷ [])) (sym here)
 
-  -- said of the constraints left, the first of which has number k
-  abbrev Right : Branch → ℕ → Judgement → Type 0
-  Right fs k (Refusal c r) = ⊥
-  Right fs k AllMet = meetsAll u a fs ≡ true
-  Right fs k (Unmet i) = (d : ℕ) × (i ≡ k + d) × (f : Fact) × (getElem? fs d ≡ some f) × (meets u a f ≡ false)
+    pub met-more : meets u a (constraintAt b at) ≡ true → MetTo (k + 1)
+    met-more e =
+        ap (λ (m : ℕ). lowestFact test (constraintsAt b m from)) (add-one k)
+        ∙ ap (lowestFact test) one-more
+        ∙ lowest-behind test (constraintsAt b k from) (constraintAt b at) before (ap not e)
 
-  further : (f : Fact) (fs : Branch) (k : ℕ) → meets u a f ≡ true → (j : Judgement) → Right fs (suc k) j → Right (f ∷ fs) k j
-  unfolding meetsAll
-  further f fs k e (Refusal c r) h = h
-  further f fs k e AllMet h = rw e h
-  further f fs k e (Unmet i) (d, n, g, at, m) = (suc d, omega arith, g, at, m)
+    first-here : meets u a (constraintAt b at) ≡ false → k < s .constraints → firstUnmet u a ≡ some k
+    unfolding asked
+    first-here e h =
+        lowest-taken test (u .constraints) (suc k) k
+        (ap (lowestFact test) (take-constraints b (suc k) (s .constraints) from (omega arith) ∙ one-more)
+        ∙ lowest-next test (constraintsAt b k from) (constraintAt b at) before (ap not e)
+        ∙ ap some (length-constraints b k from))
 
-  right : (fs : Branch) (k : ℕ) → Right fs k (firstUnmet u a fs k)
-  unfolding firstUnmet meetsAll
-  right [] k = refl
-  right (f ∷ fs) k = go (meets u a f) refl (right fs (suc k))
-    where
-      go : (t : Bool) → meets u a f ≡ t → Right fs (suc k) (firstUnmet u a fs (suc k)) → Right (f ∷ fs) k (by fs k t)
-      go true e h = further f fs k e (firstUnmet u a fs (suc k)) h
-      go false e h = (0, omega arith, f, refl, e)
+    -- ---- what is found
 
-  pub first-says : Says (Judged u a) (firstUnmet u a (u .constraints) 0)
-  first-says = go (firstUnmet u a (u .constraints) 0) (right (u .constraints) 0)
-    where
-      go : (j : Judgement) → Right (u .constraints) 0 j → Says (Judged u a) j
-      go (Refusal c r) h = h
-      go AllMet h = h
-      go (Unmet i) (d, n, f, e, m) = let z : d ≡ i = omega arith in (f, subst (λ (x : ℕ). getElem? (u .constraints) x ≡ some f) z e, m)
+    pub finds-unmet : {to : ℕ} → meets u a (constraintAt b at) ≡ false → k < s .constraints → to ≡ next b at
+        → Finds b v (Judged u a) (record { said = Unmet k; shown = record { side = side.Question; from = at; to = to } })
+    finds-unmet {to} e h end =
+        let first : some k ≡ firstUnmet u a = sym (first-here e h) in
+        let place : at ≡ skip b k (constraintsFrom b (length (u .literals))) =
+        here ∙ ap (λ l. skip b k (constraintsFrom b l)) (sym (literal-count b s)) in
+        record { says = ap saidOf first; shows = rw end (ap (recordShown ofQuestion b) place) ∙ ap (unmetShown b u) first }
+
+  pub finds-all-met : (k : ℕ) → MetTo k → k ≡ s .constraints
+      → Finds b v (Judged u a) (record { said = AllMet; shown = record { side = side.Question; from = 0; to = 0 } })
+  unfolding asked
+  finds-all-met k before e =
+      let first : none ≡ firstUnmet u a = sym before ∙ ap (λ (m : ℕ). lowestFact test (constraintsAt b m from)) e in
+      record { says = ap saidOf first; shows = ap (unmetShown b u) first }

@@ -1,20 +1,29 @@
--- What judging says, and the constraint that it names: the first that is not met.
-use Prim.Native.Nat.{ℕ, suc}
-use mathlib.Core.Bool.{true, false}
-use mathlib.Core.List.{[], _∷_}
-use Rattle.calculus.specs.Facts.{Question, Branch}
-use Rattle.calculus.specs.Meaning.{Assignment}
+-- What judging says and shows, as the code has it.
+use mathlib.Core.Path.{_≡_}
+use mathlib.Core.List.{List}
+use Prim.Native.Nat.{ℕ}
 use Rattle.format.specs.Judging as format
-use Rattle.format.specs.Judging.{meets}
+use Rattle.format.specs.Judging.{ofQuestion, ofAnswer, said, shownBy}
 use Rattle.judging.specs.declared.Judgement.{Judgement}
 use Rattle.judging.specs.declared.Judgement.the-variants.{Refused, AllMet, Unmet}
+use Rattle.judging.specs.declared.Side.{Side}
+use Rattle.judging.specs.declared.Side.the-variants.{Question, Answer}
+use Rattle.judging.specs.declared.Shown.{Shown}
+use Rattle.judging.specs.declared.Finding.{Finding}
 
 abbrev pub judgementOf : Judgement → format.Judgement
 judgementOf (Refused c r) = format.Refusal c r
 judgementOf AllMet = format.AllMet
 judgementOf (Unmet k) = format.Unmet k
 
--- over the constraints left, the first of which has number k
-unfoldable pub firstUnmet : Question → Assignment → Branch → ℕ → format.Judgement
-firstUnmet u a [] k = format.AllMet
-firstUnmet u a (f ∷ fs) k = elim (meets u a f) [ true ↦ firstUnmet u a fs (suc k) | false ↦ format.Unmet k ]
+abbrev pub sideOf : Side → format.Side
+sideOf Question = ofQuestion
+sideOf Answer = ofAnswer
+
+abbrev pub shownOf : Shown → format.Shown
+shownOf s = record { side = sideOf (s .side); from = s .from; to = s .to }
+
+-- it is what judging g says and shows of the question b and the answer v
+pub record Finds (b v : List ℕ) (g : format.Judging) (r : Finding) : Type 0 where
+  pub says : judgementOf (r .said) ≡ said g
+  pub shows : shownOf (r .shown) ≡ shownBy b v g

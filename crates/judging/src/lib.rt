@@ -1,24 +1,26 @@
-// Judging: it "takes a question .. and an answer .. Otherwise it says all met, or the number of a constraint that is not met. It writes nothing".
+// Judging: it "takes a question .. and an answer", says "all met", or names "the lowest-numbered constraint that is not met. It also shows the very bytes of the
+// record concerned" (02, L1), and "It writes nothing".
 ghost use mathlib.Core.Path.{_≡_};
 ghost use mathlib.Core.Bool.{true};
 ghost use mathlib.Core.Option.{none};
 ghost use mathlib.Core.List.{[], _∷_};
 ghost use Prim.Native.Nat.{ℕ, _+_, _-_, _/_, _≤_};
 ghost use lib.ListN.{length, getD};
-ghost use lib.IntN.{pos};
+ghost use lib.IntN.{pos, natAbs};
 ghost use Rattle.calculus.specs.LinearForms.{dot};
 ghost use Rattle.calculus.specs.Facts.{holds};
 ghost use Rattle.calculus.specs.Strings.{eqString};
-ghost use Rattle.format.specs.Fields.{u16};
+ghost use Rattle.format.specs.Fields.{u16, i32};
 ghost use Rattle.format.specs.Records.{size as sizeAt, kind as kindAt, next};
 ghost use Rattle.format.specs.Question.{judgingManner, stringFault, stringFact, formOf, relationOf, constraintOf};
 ghost use Rattle.format.specs.Places.{skip, texts, literalsFrom, textAt};
 ghost use Rattle.format.specs.Answer.{answerForm, outside};
-ghost use Rattle.format.specs.Judging.{meets, judgeAnswer, judging, Says};
-ghost use Rattle.question.specs.Standing.{ConstraintAt};
+ghost use Rattle.format.specs.Judging.{meets, Judged, judgeAnswer, judging, partWithin};
+ghost use Rattle.format.specs.Standing.{ConstraintAt};
 ghost use Rattle.question.specs.Posed.{asked, PosedToJudge};
 ghost use Rattle.judging.specs.Ready.{valuesOf, FormIn, Texts, Judgeable};
-ghost use Rattle.judging.specs.Judgements.{judgementOf, firstUnmet};
+ghost use Rattle.judging.specs.Judgements.{shownOf, Finds};
+ghost use Rattle.judging.specs.Parts.{Part, PartShown};
 use assignment::Outside;
 use assignment::answer_formed;
 use assignment::column_values;
@@ -36,7 +38,6 @@ use question::behind_literals;
 use question::literal_text;
 use question::read_question;
 use question::same_text;
-use records::i32_at;
 use records::record_places;
 use records::u16_at;
 use records::u32_at;
@@ -83,17 +84,25 @@ fn string_met(b: &[u8], v: &[u8], s: Progress, places: &[usize], at: usize) -> b
 
 // ---- arithmetic constraints
 
+// A number of a form, as `records::i32_at` reads it. Without a test the sign is one instruction, and registers are short in the loop below.
+fn number_at(b: &[u8], at: usize) -> i64
+    requires { ⌜ at + 4 ≤ length (now b) ⌝ }
+    ensures { λ r. ⌜ (r ≡ i32 (now (b .entry)) at) × (natAbs r ≤ 2147483648) ⌝ }
+{
+    ((u32_at(b, at) + 2147483648) % 4294967296) as i64 - 2147483648
+}
+
 // The value of the form at a position: its constant, and each coefficient times the value of its column.
 fn form_value(b: &[u8], at: usize, count: usize, values: &[i64]) -> i64
     requires { ⌜ FormIn (now b) at count (now values) ⌝ }
     ensures { λ r. ⌜ r ≡ dot (formOf (now (b .entry)) at count) (pos 1 ∷ now (values .entry)) ⌝ }
 {
-    let mut sum = i32_at(b, at);
+    let mut sum = number_at(b, at);
     let mut i = at + 4;
     let mut left = count;
     while 0 < left {
         let column = u16_at(b, i);
-        let coefficient = i32_at(b, i + 2);
+        let coefficient = number_at(b, i + 2);
         sum += coefficient * values[column];
         i += 6;
         left -= 1;
@@ -135,38 +144,115 @@ fn constraint_met(
     }
 }
 
+// ---- what is said and shown
+
 pub enum Judgement {
     // The number of a refusal and its record.
     Refused(usize, usize),
     AllMet,
-    // The number of a constraint that is not met.
+    // The number of the first constraint that is not met.
     Unmet(usize),
 }
 
-// The first constraint that the answer does not meet, by its number.
-fn first_unmet(b: &[u8], v: &[u8], s: Progress, places: &[usize], values: &[i64]) -> Judgement
+pub enum Side {
+    Question,
+    Answer,
+}
+
+// The part of the question or of the answer from a position up to another.
+pub struct Shown {
+    pub side: Side,
+    pub from: usize,
+    pub to: usize,
+}
+
+pub struct Finding {
+    pub said: Judgement,
+    pub shown: Shown,
+}
+
+fn found(said: Judgement, side: Side, from: usize, to: usize) -> Finding
+    ensures { λ r. ⌜ r ≡ record { said = said; shown = record { side = side; from = from; to = to } } ⌝ }
+{
+    let shown = Shown {
+        side: side,
+        from: from,
+        to: to,
+    };
+    Finding {
+        said: said,
+        shown: shown,
+    }
+}
+
+// The part of a slice from a position up to another.
+fn between(s: &[u8], from: usize, to: usize) -> &[u8]
+    requires { ⌜ (from ≤ to) × (to ≤ length (now s)) ⌝ }
+    ensures { λ r. ⌜ Part (s .entry) r from to ⌝ }
+{
+    &s[from..to]
+}
+
+// Whether a part lies within a question and an answer of these lengths.
+fn part_within(question: usize, answer: usize, s: Shown) -> bool
+    ensures { λ r. ⌜ r ≡ partWithin question answer (shownOf s) ⌝ }
+{
+    if s.to < s.from {
+        return false;
+    }
+    let side = s.side;
+    match side {
+        Side::Question => s.to <= question,
+        Side::Answer => s.to <= answer,
+    }
+}
+
+// "the very bytes of the record concerned". What does not lie within the question or the answer is shown as "an empty part of the question".
+pub fn show<'a>(question: &'a [u8], answer: &'a [u8], s: Shown) -> &'a [u8]
+    ensures { λ r. ⌜ PartShown (question .entry) (answer .entry) (shownOf s) r ⌝ }
+{
+    if !part_within(question.len(), answer.len(), s) {
+        return between(question, 0, 0);
+    }
+    let side = s.side;
+    match side {
+        Side::Question => between(question, s.from, s.to),
+        Side::Answer => between(answer, s.from, s.to),
+    }
+}
+
+// ---- the operation
+
+// Where the whole record at a position ends.
+fn record_end(b: &[u8], at: usize) -> usize
+    requires { ⌜ next (now b) at ≤ length (now b) ⌝ }
+    ensures { λ r. ⌜ r ≡ next (now (b .entry)) at ⌝ }
+{
+    at + RECORD_HEAD + u32_at(b, at)
+}
+
+// The first constraint that the answer does not meet, by its number and with its record.
+fn first_unmet(b: &[u8], v: &[u8], s: Progress, places: &[usize], values: &[i64]) -> Finding
     requires { ⌜ Judgeable (now b) (now v) s (now places) (now values) ⌝ }
-    ensures { λ r. ⌜ judgementOf r ≡ firstUnmet (asked (now (b .entry)) s) (valuesOf (now (b .entry)) (now (v .entry)) s) (asked (now (b .entry)) s .constraints) 0 ⌝ }
+    ensures { λ r. ⌜ Finds (now (b .entry)) (now (v .entry)) (Judged (asked (now (b .entry)) s) (valuesOf (now (b .entry)) (now (v .entry)) s)) r ⌝ }
 {
     let count = s.constraints;
     let mut at = behind_literals(b, s.literals);
     let mut k = 0;
     while k < count {
         if !constraint_met(b, v, s, places, values, at) {
-            return Judgement::Unmet(k);
+            return found(Judgement::Unmet(k), Side::Question, at, record_end(b, at));
         }
-        at = at + RECORD_HEAD + u32_at(b, at);
+        at = record_end(b, at);
         k += 1;
     }
-    Judgement::AllMet
+    found(Judgement::AllMet, Side::Question, 0, 0)
 }
 
-// ---- the operation
-
 // An answer of its form and in its ranges: its strings' places and its columns' values are found once.
-fn judge_values(b: &[u8], v: &[u8], s: Progress) -> Judgement
+fn judge_values(b: &[u8], v: &[u8], s: Progress) -> Finding
     requires { ⌜ PosedToJudge (now b) s × (answerForm (now v) (s .p) (s .q) 0 ≡ true) × (outside (now v) (asked (now b) s) (s .p) 0 0 ≡ none) ⌝ }
-    ensures { λ r. ⌜ judgementOf r ≡ firstUnmet (asked (now (b .entry)) s) (valuesOf (now (b .entry)) (now (v .entry)) s) (asked (now (b .entry)) s .constraints) 0 ⌝ }
+    ensures { λ r. ⌜ Finds (now (b .entry)) (now (v .entry)) (Judged (asked (now (b .entry)) s) (valuesOf (now (b .entry)) (now (v .entry)) s)) r ⌝ }
 {
     let p = s.p;
     let q = s.q;
@@ -177,29 +263,34 @@ fn judge_values(b: &[u8], v: &[u8], s: Progress) -> Judgement
 }
 
 // "then 15 (record 0) when the answer is not exactly of its form, 16 (the answer's first such record) .."
-fn judge_behind(b: &[u8], v: &[u8], s: Progress) -> Judgement
+fn judge_behind(b: &[u8], v: &[u8], s: Progress) -> Finding
     requires { ⌜ PosedToJudge (now b) s ⌝ }
-    ensures { λ r. ⌜ Says (judgeAnswer (asked (now (b .entry)) s) (now (v .entry))) (judgementOf r) ⌝ }
+    ensures { λ r. ⌜ Finds (now (b .entry)) (now (v .entry)) (judgeAnswer (asked (now (b .entry)) s) (now (v .entry))) r ⌝ }
 {
     if !answer_formed(v, s.p, s.q) {
-        return Judgement::Refused(15, 0);
+        return found(Judgement::Refused(15, 0), Side::Answer, 0, v.len());
     }
     match first_outside(v, s.n, s.p, s.q) {
-        Outside::Record(r) => Judgement::Refused(16, r),
+        Outside::Record(r, at) => found(
+            Judgement::Refused(16, r),
+            Side::Answer,
+            at,
+            record_end(v, at),
+        ),
         Outside::Nowhere => judge_values(b, v, s),
     }
 }
 
-// Says of an answer to a question: all met, the number of a constraint that is not met, or the refusal of the question or the answer.
-pub fn judge_answer(question: &[u8], answer: &[u8]) -> Judgement
-    ensures { λ r. ⌜ Says (judging (now (question .entry)) (now (answer .entry))) (judgementOf r) ⌝ }
+// Judges an answer by a question: all met, the first constraint that is not met, or the refusal of the question or the answer; and which part is to be shown.
+pub fn judge_answer(question: &[u8], answer: &[u8]) -> Finding
+    ensures { λ r. ⌜ Finds (now (question .entry)) (now (answer .entry)) (judging (now (question .entry)) (now (answer .entry))) r ⌝ }
 {
     match read_question(JUDGING, question) {
-        Reading::Stopped(c, r) => Judgement::Refused(c, r),
+        Reading::Stopped(c, r) => found(Judgement::Refused(c, r), Side::Question, 0, 0),
         Reading::Ended(s, _, r) => {
             let last = s.last;
             if last < HEAD_RANK {
-                Judgement::Refused(4, r)
+                found(Judgement::Refused(4, r), Side::Question, 0, 0)
             } else {
                 judge_behind(question, answer, s)
             }

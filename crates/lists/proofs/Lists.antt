@@ -8,7 +8,7 @@ use mathlib.Core.Logic.{_≢_, _⊎_, inl, inr}
 use mathlib.Core.Bool.{Bool, true, false, _&&_, and-false}
 use mathlib.Core.Option.{none, some}
 use mathlib.Core.List.{List, [], _∷_, _++_, map, flatMap, append-nil, append-assoc}
-use lib.ListN.{length, getD, drop, getElem?, replicate, length-append, drop-of-length-le}
+use lib.ListN.{length, getD, take, drop, getElem?, replicate, length-append, drop-of-length-le}
 use lib.Seq.{drop-cons}
 use lib.Dec.{T}
 use native.Mathlib.Decide.{decLt}
@@ -267,6 +267,16 @@ module _ {A B : Type 0} (go : A → A) (f : A → B) where
   getD-valuesAlong a zero j d h = absurd (omega arith)
   getD-valuesAlong a (suc k) zero d h = refl
   getD-valuesAlong a (suc k) (suc j) d h = getD-valuesAlong (go a) k j d (omega arith)
+
+  pub element-valuesAlong : (a : A) (k j : ℕ) {x : B} → getElem? (valuesAlong go f a k) j ≡ some x → (j < k) × (f (placeAfter go a j) ≡ x)
+  element-valuesAlong a zero j e = absurd (none-some e)
+  element-valuesAlong a (suc k) zero e = (omega arith, some-injective e)
+  element-valuesAlong a (suc k) (suc j) e = let (h, g) = element-valuesAlong (go a) k j e in (omega arith, g)
+
+  pub take-valuesAlong : (a : A) (j k : ℕ) → j ≤ k → take j (valuesAlong go f a k) ≡ valuesAlong go f a j
+  take-valuesAlong a zero k h = refl
+  take-valuesAlong a (suc j) zero h = absurd (omega arith)
+  take-valuesAlong a (suc j) (suc k) h = ap (λ xs. f a ∷ xs) (take-valuesAlong (go a) j k (omega arith))
 
   pub valuesAlong-snoc : (a : A) (k : ℕ) → valuesAlong go f a (suc k) ≡ valuesAlong go f a k ++ (f (placeAfter go a k) ∷ [])
   valuesAlong-snoc a zero = refl

@@ -1,6 +1,6 @@
--- The reply to an outcome of checking.
-use Prim.Native.Nat.{ℕ}
-use mathlib.Core.Path.{_≡_, refl, sym, _∙_, ap, subst}
+-- The reply to a finding of judging, and to an outcome of checking.
+use Prim.Native.Nat.{ℕ, _-_}
+use mathlib.Core.Path.{_≡_, refl, sym, _∙_, ap, ap₂, subst}
 use mathlib.Core.List.{List, _++_}
 use lib.ListN.{length, drop}
 use lib.IntN.{ℤ}
@@ -12,22 +12,38 @@ use Rattle.deciding.specs.declared.Outcome.{Outcome}
 use Rattle.deciding.specs.declared.Outcome.the-variants.{Refused, NoSolution, Strings}
 use Rattle.deciding.specs.Outcomes.{told}
 use Rattle.checking.specs.Outcomes.{Promised}
+use Rattle.format.specs.Judging.{Judging, said, shownBy, bySide}
+use Rattle.judging.specs.declared.Finding.{Finding}
+use Rattle.judging.specs.Judgements.{judgementOf, sideOf, Finds}
+use Rattle.nuldwich.specs.declared.JudgementNumbers.{JudgementNumbers}
 use Rattle.nuldwich.specs.declared.Reply.{Reply}
-use Rattle.nuldwich.specs.Replies.{checkReply, CheckReplies, LentReplies}
+use Rattle.nuldwich.specs.Replies.{numbered, judgeReply, checkReply, CheckReplies, LentReplies}
+
+-- ---- judging
+
+pub judge-reply : {b v : List ℕ} {g : Judging} {f : Finding} {n : JudgementNumbers} {side size : ℕ}
+    → Finds b v g f
+    → n ≡ numbered (judgementOf (f .said))
+    → side ≡ bySide (sideOf (f .shown .side)) 0 1
+    → size ≡ f .shown .to - f .shown .from
+    → record { number = n .number; «record» = n .«record»; shown = side; offset = f .shown .from; length = size } ≡ judgeReply (said g) (shownBy b v g)
+judge-reply h en es el = rw (en, es, el) (ap₂ judgeReply (h .says) (h .shows))
+
+-- ---- checking
 
 abbrev pub replyTo : Outcome → Reply
 replyTo (Refused c r) = record { number = c; «record» = r }
 replyTo NoSolution = record { number = 0; «record» = 1 }
 replyTo Strings = record { number = 0; «record» = 2 }
 
-numbered : (x : format.Outcome) → replyTo (told x) ≡ checkReply x
+outcome-numbered : (x : format.Outcome) → replyTo (told x) ≡ checkReply x
 unfolding told checkReply
-numbered (format.Refused c r) = refl
-numbered format.NoSolution = refl
-numbered (format.Strings s) = refl
+outcome-numbered (format.Refused c r) = refl
+outcome-numbered format.NoSolution = refl
+outcome-numbered (format.Strings s) = refl
 
 pub replied : {o p : Outcome} → o ≡ p → (x : format.Outcome) → o ≡ told x → replyTo p ≡ checkReply x
-replied e x f = ap replyTo (sym e ∙ f) ∙ numbered x
+replied e x f = ap replyTo (sym e ∙ f) ∙ outcome-numbered x
 
 -- a reply that numbers the outcome that was promised
 module _ {ticket : List ℕ} {work work' : List ℤ} {answer answer' : List ℕ} {o : Outcome} {reply : Reply}

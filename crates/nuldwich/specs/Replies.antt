@@ -1,5 +1,5 @@
 -- The numbers that the host gets.
-use Prim.Native.Nat.{ℕ}
+use Prim.Native.Nat.{ℕ, _-_}
 use mathlib.Core.Path.{_≡_}
 use mathlib.Core.List.{List}
 use lib.ListN.{length}
@@ -7,21 +7,30 @@ use lib.IntN.{ℤ}
 use Rattle.calculus.specs.Limits.{workNumbers}
 use Rattle.format.specs.Checking.{Outcome, Refused, NoSolution, Strings, verdict}
 use Rattle.format.specs.Demands.{Checked, answerAfter}
-use Rattle.format.specs.Judging.{Judgement, Refusal, AllMet, Unmet, judging, Says}
+use Rattle.format.specs.Judging.{Judgement, Refusal, AllMet, Unmet, judging, said, Shown, shownBy, bySide}
+use Rattle.nuldwich.specs.declared.JudgementNumbers.{JudgementNumbers}
 use Rattle.nuldwich.specs.declared.JudgeReply.{JudgeReply}
 use Rattle.nuldwich.specs.declared.Reply.{Reply}
 
 -- judging: number 0 and record 0 where all constraints are met; number 255 where the constraint named by record is not met; else a refusal
-abbrev pub judgeReply : Judgement → JudgeReply
-judgeReply (Refusal c r) = record { number = c; «record» = r }
-judgeReply AllMet = record { number = 0; «record» = 0 }
-judgeReply (Unmet k) = record { number = 255; «record» = k }
+abbrev pub numbered : Judgement → JudgementNumbers
+numbered (Refusal c r) = record { number = c; «record» = r }
+numbered AllMet = record { number = 0; «record» = 0 }
+numbered (Unmet k) = record { number = 255; «record» = k }
 
--- what judge promises of its reply: it numbers something that judging may say
-pub record JudgeReplies (question answer : List ℕ) (reply : JudgeReply) : Type 0 where
-  pub judgement : Judgement
-  pub said : Says (judging question answer) judgement
-  pub numbered : reply ≡ judgeReply judgement
+-- the part shown: its side, 0 for the question and 1 for the answer, where it begins there, and its length
+abbrev pub judgeReply : Judgement → Shown → JudgeReply
+judgeReply j s = record {
+  number = numbered j .number;
+  «record» = numbered j .«record»;
+  shown = bySide (s .side) 0 1;
+  offset = s .from;
+  length = s .to - s .from;
+}
+
+-- what judge promises of its reply
+abbrev pub JudgeReplies : List ℕ → List ℕ → JudgeReply → Type 0
+JudgeReplies question answer reply = reply ≡ judgeReply (said (judging question answer)) (shownBy question answer (judging question answer))
 
 -- checking: number 0 where the ticket is accepted, with the claim as record, 1 for no solution and 2 for strings; else a refusal
 unfoldable pub checkReply : Outcome → Reply

@@ -2,47 +2,83 @@
 ghost use mathlib.Core.Path.{_≡_};
 ghost use Rattle.format.specs.Checking as format;
 ghost use Rattle.deciding.specs.Outcomes.{told};
-ghost use Rattle.judging.specs.Judgements.{judgementOf};
-ghost use Rattle.nuldwich.specs.Replies.{judgeReply, JudgeReplies, checkReply, CheckReplies, LentReplies};
+ghost use Rattle.format.specs.Judging.{bySide};
+ghost use Rattle.judging.specs.Judgements.{judgementOf, sideOf};
+ghost use Rattle.nuldwich.specs.Replies.{numbered, JudgeReplies, checkReply, CheckReplies, LentReplies};
 use checking::check_ticket;
 use deciding::Outcome;
 use judging::Judgement;
+use judging::Side;
 use judging::judge_answer;
+use judging::show;
 use limits::WORK_NUMBERS;
 
-// What judge returns: a number and a record.
+// ---- judging
+
+// What judge returns: a number and a record, and the part shown by its side, 0 for the question and 1 for the answer, where it begins there and its length.
 #[repr(C)]
 pub struct JudgeReply {
     pub number: u64,
     pub record: u64,
+    pub shown: u64,
+    pub offset: u64,
+    pub length: u64,
 }
 
-fn reply_judgement(j: Judgement) -> JudgeReply
-    ensures { λ r. ⌜ r ≡ judgeReply (judgementOf j) ⌝ }
+struct JudgementNumbers {
+    number: u64,
+    record: u64,
+}
+
+fn number_judgement(j: Judgement) -> JudgementNumbers
+    ensures { λ r. ⌜ r ≡ numbered (judgementOf j) ⌝ }
 {
     match j {
-        Judgement::Refused(c, r) => JudgeReply {
+        Judgement::Refused(c, r) => JudgementNumbers {
             number: c as u64,
             record: r as u64,
         },
-        Judgement::AllMet => JudgeReply {
+        Judgement::AllMet => JudgementNumbers {
             number: 0,
             record: 0,
         },
-        Judgement::Unmet(k) => JudgeReply {
+        Judgement::Unmet(k) => JudgementNumbers {
             number: 255,
             record: k as u64,
         },
     }
 }
 
-// Judges an answer by a question; nothing is written.
+fn number_side(side: Side) -> u64
+    ensures { λ r. ⌜ r ≡ bySide (sideOf side) 0 1 ⌝ }
+{
+    match side {
+        Side::Question => 0,
+        Side::Answer => 1,
+    }
+}
+
+// Judges an answer by a question; nothing is written. Both have one lifetime, since the part shown may be of either.
 #[no_mangle]
-pub extern "C" fn judge(question: &[u8], answer: &[u8]) -> JudgeReply
+pub extern "C" fn judge<'a>(question: &'a [u8], answer: &'a [u8]) -> JudgeReply
     ensures { λ r. ⌜ JudgeReplies (now (question .entry)) (now (answer .entry)) r ⌝ }
 {
-    reply_judgement(judge_answer(question, answer))
+    let finding = judge_answer(question, answer);
+    let said = finding.said;
+    let shown = finding.shown;
+    let side = shown.side;
+    let part = show(question, answer, shown);
+    let numbers = number_judgement(said);
+    JudgeReply {
+        number: numbers.number,
+        record: numbers.record,
+        shown: number_side(side),
+        offset: shown.from as u64,
+        length: part.len() as u64,
+    }
 }
+
+// ---- checking
 
 // What check returns: a number and a record.
 #[repr(C)]

@@ -1,22 +1,40 @@
--- What a question that may be worked on gives besides what its standing says.
+-- A question that was read behind its head may be worked on, and what it gives besides what its standing says.
 use Prim.Native.Nat.{ℕ, zero, suc, _+_, _/_, _≤_}
 use native.Mathlib.Nat.{div-le-of-le-mul}
 use native.Mathlib.Numerals.{add-one}
 use native.Mathlib.Omega.{arith}
 use mathlib.Core.Path.{_≡_, sym, _∙_, ap, subst}
+use mathlib.Core.Bool.{true}
 use mathlib.Core.List.{List, []}
 use lib.ListN.{length, getD}
 use Rattle.calculus.specs.Limits.{alphabetLimit, lengthLimit, Small}
 use Rattle.calculus.specs.Facts.{literal, codeOf}
 use Rattle.calculus.specs.Classes.{lowestLiteral, literalIn}
 use Rattle.format.specs.Records.{size}
+use Rattle.format.specs.Question as format
+use Rattle.format.specs.Question.{headRank, readIn}
 use Rattle.format.specs.Places.{skip, texts, literalsFrom}
 use Rattle.format.proofs.Fields.{length-u32s}
 use Rattle.format.proofs.Places.{text-at, length-texts}
+use Rattle.format.proofs.Standing.{literals-within, question-stands, question-short, question-few}
 use Rattle.question.specs.declared.Progress.{Progress}
+use Rattle.question.specs.Progress.{numbersOf, progressOf}
 use Rattle.question.specs.Posed.{asked, PosedTo}
-use Rattle.question.proofs.Standing.{literals-within}
 use Rattle.question.proofs.Texts.{code-small}
+
+pub question-posed : (m : format.Manner)
+    → m .limited ≡ true
+    → (b : List ℕ) (t : Progress) (to q : ℕ)
+    → readIn m b ≡ format.Ended (progressOf b t) to q
+    → headRank ≤ t .last
+    → PosedTo (m .greatest) b t
+question-posed m l b t to q e h = record {
+  to = to;
+  stands = question-stands m b (numbersOf t) to q e .0;
+  head = h;
+  short = question-short m b (progressOf b t) to q e;
+  few-constraints = question-few m l b (numbersOf t) to q e;
+}
 
 -- how many literals there are besides the empty one
 pub literal-count : (b : List ℕ) (s : Progress) → length (asked b s .literals) ≡ s .literals
@@ -33,7 +51,7 @@ module _ {greatest : ℕ} {b : List ℕ} {s : Progress} (h : PosedTo greatest b 
 
   -- the first l literals are within the bytes, and so are all
   pub literals-to : (l : ℕ) → l ≤ s .literals → skip b l literalsFrom ≤ length b
-  literals-to l few = literals-within b s (h .to) l (h .stands) (h .head) few
+  literals-to l few = literals-within b (numbersOf s) (h .to) l (h .stands) (h .head) few
 
   pub literals-whole : skip b (s .literals) literalsFrom ≤ length b
   literals-whole = literals-to (s .literals) (omega arith)

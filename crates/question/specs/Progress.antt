@@ -2,7 +2,7 @@
 use Prim.Native.Nat.{ℕ}
 use mathlib.Core.List.{List}
 use Rattle.format.specs.Question as format
-use Rattle.format.specs.Places.{readTo}
+use Rattle.format.specs.Places.{Numbers, readTo}
 use Rattle.question.specs.declared.Manner.{Manner}
 use Rattle.question.specs.declared.Progress.{Progress}
 use Rattle.question.specs.declared.Reading.{Reading}
@@ -11,8 +11,11 @@ use Rattle.question.specs.declared.Reading.the-variants.{Stopped, Ended}
 abbrev pub mannerOf : Manner → format.Manner
 mannerOf m = record { limited = m .limited; greatest = m .greatest }
 
+abbrev pub numbersOf : Progress → Numbers
+numbersOf s = record { last = s .last; n = s .n; p = s .p; q = s .q; literals = s .literals; constraints = s .constraints }
+
 abbrev pub progressOf : List ℕ → Progress → format.Progress
-progressOf b s = readTo b (s .last) (s .n) (s .p) (s .q) (s .literals) (s .constraints)
+progressOf b s = readTo b (numbersOf s)
 
 unfoldable pub readingOf : List ℕ → Reading → format.Reading
 readingOf b (Stopped c r) = format.Stopped c r

@@ -9,7 +9,7 @@ use compare::library;
 use compare::operation::{operation, Buffers, Call, Entry, Operation, Reply, Sizes};
 use compare::random::Random;
 use inputs::{Kind, TO_CHECK, TO_JUDGE};
-use nuldwich_reference::records::record_at;
+use nuldwich_reference::records::whole_records;
 use std::hint::black_box;
 use std::time::{Duration, Instant};
 
@@ -86,12 +86,7 @@ fn call(subject: Call, sizes: &Sizes, parts: &[Vec<u8>]) -> (Reply, Vec<u8>) {
 
 /// How many records have one of these kinds.
 fn count(bytes: &[u8], kinds: &[u16]) -> usize {
-    let (mut start, mut counted) = (0, 0);
-    while let Some(record) = record_at(bytes, start) {
-        start = record.end;
-        counted += usize::from(kinds.contains(&record.kind));
-    }
-    counted
+    whole_records(bytes).iter().filter(|record| kinds.contains(&record.kind)).count()
 }
 
 /// The least time of a call of each, in microseconds. Their rounds take turns, so that all meet the same state of the machine.

@@ -68,7 +68,7 @@ impl Operation for Check {
         vec![lines(&outcome).trim_end().replace('\n', "|"), answer]
     }
 
-    fn label(&self, due: &Reply) -> String {
+    fn label(&self, _: &[Vec<u8>], due: &Reply) -> String {
         match due {
             [0, 1, ..] => "accepted none".to_string(),
             [0, ..] => "accepted strings".to_string(),

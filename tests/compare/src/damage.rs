@@ -1,7 +1,7 @@
 //! Damages the bytes of a ticket, a question or an answer.
 
 use crate::random::Random;
-use nuldwich_reference::records::{record, record_at};
+use nuldwich_reference::records::{record, whole_records};
 
 /// Numbers at and around the ends of ranges.
 const EDGES: [i64; 28] = [
@@ -68,13 +68,8 @@ fn random_part(random: &mut Random, parts: &[Part]) -> usize {
 
 /// The whole records at the front of the bytes.
 fn split(bytes: &[u8]) -> Vec<Part> {
-    let mut parts = Vec::new();
-    let mut start = 0;
-    while let Some(whole) = record_at(bytes, start) {
-        parts.push(Part { kind: whole.kind, body: whole.body.to_vec() });
-        start = whole.end;
-    }
-    parts
+    let whole = whole_records(bytes).into_iter();
+    whole.map(|record| Part { kind: record.kind, body: record.body.to_vec() }).collect()
 }
 
 /// Moves a field of two or four bytes by a little, or sets it to a small number or to an edge.

@@ -4,13 +4,17 @@ use crate::assignments::{grow, small_or_edge, Grown, Wish};
 use crate::damage::damage;
 use crate::operation::{Buffers, Entry, Input, Operation, Reply, Sizes};
 use crate::random::Random;
-use crate::report::{refused, Report};
+use crate::report::{hex, refused, Report};
 use crate::writer;
+use nuldwich_reference::judging::unmet;
 use nuldwich_reference::records::record;
-use nuldwich_reference::{judge as reference, Judgement};
+use nuldwich_reference::{judge as reference, Judgement, Side};
 
 /// How many questions with answers are grown.
 const GROWN: u64 = 60_000;
+
+/// How many of a hundred inputs have several unmet constraints at the least; there the lowest one is not the only choice.
+const LEAST_SEVERAL: usize = 20;
 
 /// The number of a reply for a constraint that is not met.
 const UNMET: u64 = 255;
@@ -38,28 +42,37 @@ impl Operation for Judge {
         Sizes::default()
     }
 
+    /// The outcome, the bytes shown in hexadecimal, and the outcome with every unmet constraint in the lowest one's place.
     fn columns(&self, input: &Input) -> Vec<String> {
-        vec![match reference(&input.parts[0], &input.parts[1]) {
+        let (question, answer) = (&input.parts[0], &input.parts[1]);
+        let (judgement, part) = reference(question, answer);
+        let outcome = match judgement {
             Judgement::AllMet => "all met".to_string(),
-            Judgement::Unmet(numbers) => {
-                numbers.iter().fold("unmet".to_string(), |text, number| format!("{text} {number}"))
-            }
+            Judgement::Unmet(lowest) => format!("unmet {lowest}"),
             Judgement::Refused { number, record } => format!("refused {number} at {record}"),
-        }]
+        };
+        let every = match unmet(question, answer).as_deref() {
+            Ok([]) | Err(_) => outcome.clone(),
+            Ok(numbers) => numbers.iter().fold("unmet".to_string(), |text, number| format!("{text} {number}")),
+        };
+        vec![outcome, hex(part.bytes(question, answer)), every]
     }
 
-    /// Any unmet constraint may be named.
-    fn allows(&self, parts: &[Vec<u8>], due: &Reply, reply: &Reply) -> bool {
-        match (reply, reference(&parts[0], &parts[1])) {
-            ([UNMET, number, 0, 0, 0], Judgement::Unmet(numbers)) => numbers.contains(&(*number as usize)),
-            _ => due == reply,
+    /// A vector of the first level has one column, with every unmet constraint.
+    fn fits(&self, expected: &[String], columns: &[String]) -> bool {
+        match expected {
+            [every] => *every == columns[2],
+            _ => *expected == columns[..2],
         }
     }
 
-    fn label(&self, due: &Reply) -> String {
+    fn label(&self, parts: &[Vec<u8>], due: &Reply) -> String {
         match due {
             [0, ..] => "all met".to_string(),
-            [UNMET, ..] => "unmet".to_string(),
+            [UNMET, ..] => match unmet(&parts[0], &parts[1]).as_deref() {
+                Ok([_]) => "unmet one".to_string(),
+                _ => "unmet several".to_string(),
+            },
             [number, ..] => refused(*number),
         }
     }
@@ -74,18 +87,27 @@ impl Operation for Judge {
     }
 
     fn demand_coverage(&self, report: &mut Report) {
-        report.demand_met(&["all met".to_string(), "unmet".to_string()]);
+        if 100 * report.counted("unmet several") < LEAST_SEVERAL * report.total() {
+            report.fail("too few inputs with several unmet constraints");
+        }
+        report.demand_met(&["all met", "unmet one", "unmet several"].map(str::to_string));
         report.demand_met(&[2, 3, 4, 5, 6, 7, 10, 15, 16].map(refused));
     }
 }
 
 /// The reference in the place of `judge`.
 fn judge(parts: &[Vec<u8>], _: &mut Buffers) -> Reply {
-    match reference(&parts[0], &parts[1]) {
-        Judgement::AllMet => [0; 5],
-        Judgement::Unmet(numbers) => [UNMET, numbers[0] as u64, 0, 0, 0],
-        Judgement::Refused { number, record } => [number, record as u64, 0, 0, 0],
-    }
+    let (judgement, part) = reference(&parts[0], &parts[1]);
+    let (number, record) = match judgement {
+        Judgement::AllMet => (0, 0),
+        Judgement::Unmet(number) => (UNMET, number),
+        Judgement::Refused { number, record } => (number, record),
+    };
+    let side = match part.side {
+        Side::Question => 0,
+        Side::Answer => 1,
+    };
+    [number, record as u64, side, part.offset as u64, part.length as u64]
 }
 
 /// A question and an answer, right or wrong in one of many ways.
@@ -93,10 +115,10 @@ fn grow_case(random: &mut Random) -> (Vec<u8>, Vec<u8>) {
     let constraints = match random.below(40) {
         0 => 126 + random.below(5),
         1..=3 => random.below(100),
-        4..=12 => 8 + random.below(16),
+        4..=19 => 8 + random.below(16),
         _ => random.below(8),
     };
-    let true_percent = random.pick(&[100, 100, 100, 90, 50]);
+    let true_percent = random.pick(&[100, 100, 95, 80, 50]);
     let mut grown = grow(random, &Wish { constraints, true_percent, longest: 64 });
     let mut question = writer::question(&grown.question);
     end_question(random, &mut question);
@@ -104,7 +126,8 @@ fn grow_case(random: &mut Random) -> (Vec<u8>, Vec<u8>) {
     match random.below(100) {
         0..=34 => {}
         35..=54 => answer = other_values(random, &mut grown),
-        55..=66 => answer = damage(random, &answer),
+        55..=65 => answer = damage(random, &answer),
+        66 => answer = other_length(random, answer),
         67..=69 => answer = long_string(random, &mut grown),
         70..=79 => answer = out_of_range(random, &mut grown),
         _ => question = damage(random, &question),
@@ -152,6 +175,13 @@ fn other_values(random: &mut Random, grown: &mut Grown) -> Vec<u8> {
         grown.integers[i] = (grown.integers[i] + step).clamp(-100_000_000, 100_000_000);
     }
     grown.answer()
+}
+
+/// No answer at all, or one with many bytes behind it.
+fn other_length(random: &mut Random, mut answer: Vec<u8>) -> Vec<u8> {
+    let length = random.pick(&[0, 0, 4_269, 32_769, 65_536, 70_000]);
+    answer.resize(length, 0);
+    answer
 }
 
 /// An answer with a string around the greatest length.

@@ -30,6 +30,22 @@ mod linked {
         }
     }
 
+    /// `nuldwich_judgement`.
+    #[repr(C)]
+    struct Judged {
+        number: u64,
+        record: u64,
+        shown: u64,
+        offset: u64,
+        length: u64,
+    }
+
+    impl From<Judged> for Reply {
+        fn from(judged: Judged) -> Reply {
+            [judged.number, judged.record, judged.shown, judged.offset, judged.length]
+        }
+    }
+
     extern "C" {
         #[link_name = "check"]
         fn c_check(ticket: *const u8, ticket_len: usize, answer: *mut u8, answer_len: usize) -> Replied;
@@ -43,7 +59,7 @@ mod linked {
             answer_len: usize,
         ) -> Replied;
         #[link_name = "judge"]
-        fn c_judge(question: *const u8, question_len: usize, answer: *const u8, answer_len: usize) -> Replied;
+        fn c_judge(question: *const u8, question_len: usize, answer: *const u8, answer_len: usize) -> Judged;
     }
 
     /// The entry of a name.

@@ -94,13 +94,8 @@ pub trait Operation {
         columns.starts_with(expected)
     }
 
-    /// Whether a reply is allowed where the reference gives `due`.
-    fn allows(&self, _parts: &[Vec<u8>], due: &Reply, reply: &Reply) -> bool {
-        due == reply
-    }
-
-    /// The outcome to count by.
-    fn label(&self, due: &Reply) -> String;
+    /// The outcome to count by, where the reference gives `due`.
+    fn label(&self, parts: &[Vec<u8>], due: &Reply) -> String;
 
     /// How many seeds inputs are grown from.
     fn seeds(&self) -> u64;

@@ -73,30 +73,31 @@ impl Run<'_> {
             let buffers = Buffers::dirty(random, &Sizes { work, ..input.sizes });
             let mut due_buffers = buffers.clone();
             let due = (entry.reference)(&input.parts, &mut due_buffers);
-            differences.extend(self.difference(entry.name, *call, input, buffers, (&due, &due_buffers)));
-            label = self.operation.label(&due);
+            differences.extend(difference(entry.name, *call, input, buffers, (&due, &due_buffers)));
+            label = self.operation.label(&input.parts, &due);
         }
         let difference = (!differences.is_empty()).then(|| format!("{}\n{}", shown(input), differences.join("\n")));
         self.report.count(label, difference);
     }
+}
 
-    /// How what an entry returns and leaves differs from what is due, in words.
-    fn difference(
-        &self,
-        name: &str,
-        call: Call,
-        input: &Input,
-        mut buffers: Buffers,
-        (due, due_buffers): (&Reply, &Buffers),
-    ) -> Option<String> {
-        let lent = input.parts.clone();
-        let reply = call(&lent, &mut buffers);
-        let (answer, work) = (buffers.answer == due_buffers.answer, buffers.work == due_buffers.work);
-        let same = self.operation.allows(&input.parts, due, &reply) && answer && work && lent == input.parts;
-        (!same).then(|| {
-            format!("{name}: reference {due:?}, library {reply:?}, answer buffer as due: {answer}, work area as due: {work}")
-        })
-    }
+/// How what an entry returns and leaves differs from what is due, in words.
+fn difference(
+    name: &str,
+    call: Call,
+    input: &Input,
+    mut buffers: Buffers,
+    (due, due_buffers): (&Reply, &Buffers),
+) -> Option<String> {
+    let lent = input.parts.clone();
+    let reply = call(&lent, &mut buffers);
+    let (answer, work) = (buffers.answer == due_buffers.answer, buffers.work == due_buffers.work);
+    let same = *due == reply && answer && work && lent == input.parts;
+    (!same).then(|| {
+        format!(
+            "{name}: reference {due:?}, library {reply:?}, answer buffer as due: {answer}, work area as due: {work}"
+        )
+    })
 }
 
 /// An input in words.

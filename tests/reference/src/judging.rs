@@ -1,30 +1,86 @@
-//! Judging: whether an answer meets the constraints of a question.
+//! Judging: whether an answer meets the constraints of a question, and what is shown of the two.
 
 use crate::answer::{read_answer, Answer};
 use crate::checking::LONGEST_TICKET;
 use crate::facts::Fact;
 use crate::question::Question;
-use crate::records::{kind_at, record_at};
+use crate::records::{kind_at, record_at, whole_records, Record};
 use crate::rules::code_of;
 use crate::{demand, Refusal};
 
-/// What judging answers; `Unmet` has every constraint that is not met, any of which may be named.
-#[derive(Clone, Debug, PartialEq)]
+/// What judging answers; `Unmet` has the number of "the lowest-numbered constraint that is not met".
+#[derive(Clone, Copy, Debug, PartialEq)]
 pub enum Judgement {
     AllMet,
-    Unmet(Vec<usize>),
+    Unmet(usize),
     Refused { number: Refusal, record: usize },
 }
 
-/// "2 to 7 and 10 for the question, then 15 .., 16 .. Otherwise it says all met, or the number of a constraint that is not met."
-pub fn judge(question: &[u8], answer: &[u8]) -> Judgement {
-    let read = read_question(question);
-    let judged = read.and_then(|question| Ok(unmet(&question, &read_answer(&question, answer)?)));
-    match judged {
-        Err((number, record)) => Judgement::Refused { number, record },
-        Ok(numbers) if numbers.is_empty() => Judgement::AllMet,
-        Ok(numbers) => Judgement::Unmet(numbers),
+/// Which of the two a part is "taken from".
+#[derive(Clone, Copy, Debug, PartialEq)]
+pub enum Side {
+    Question,
+    Answer,
+}
+
+/// A part of the question's or the answer's bytes.
+#[derive(Clone, Copy, Debug, PartialEq)]
+pub struct Part {
+    pub side: Side,
+    pub offset: usize,
+    pub length: usize,
+}
+
+impl Part {
+    /// A whole record, "a u32 body length, a u16 kind, a body".
+    fn of(side: Side, record: &Record) -> Part {
+        let length = 6 + record.body.len();
+        Part { side, offset: record.end - length, length }
     }
+
+    /// "the very bytes"
+    pub fn bytes<'a>(&self, question: &'a [u8], answer: &'a [u8]) -> &'a [u8] {
+        let whole = match self.side {
+            Side::Question => question,
+            Side::Answer => answer,
+        };
+        &whole[self.offset..self.offset + self.length]
+    }
+}
+
+/// "2 to 7 and 10 for the question, then 15 .., 16 .. Otherwise it says all met", or names "the lowest-numbered constraint
+/// that is not met. It also shows the very bytes of the record concerned".
+pub fn judge(question: &[u8], answer: &[u8]) -> (Judgement, Part) {
+    let judgement = match unmet(question, answer) {
+        Err((number, record)) => Judgement::Refused { number, record },
+        Ok(numbers) => numbers.first().map_or(Judgement::AllMet, |lowest| Judgement::Unmet(*lowest)),
+    };
+    (judgement, shown(question, answer, judgement))
+}
+
+/// The numbers of all constraints that the answer does not meet, the lowest first; else the refusal and its record.
+pub fn unmet(question: &[u8], answer: &[u8]) -> Result<Vec<usize>, (Refusal, usize)> {
+    let question = read_question(question)?;
+    let answer = read_answer(&question, answer)?;
+    let values = column_values(&answer);
+    let constraints = question.constraints.iter().enumerate();
+    Ok(constraints.filter(|(_, fact)| !meets(&question, &answer, &values, fact)).map(|(number, _)| number).collect())
+}
+
+/// "the record concerned, taken from the question for an unmet constraint or from the answer for 15 and 16. For 15 that part
+/// is the whole answer, and for every other outcome an empty part of the question."
+fn shown(question: &[u8], answer: &[u8], judgement: Judgement) -> Part {
+    match judgement {
+        Judgement::Unmet(number) => Part::of(Side::Question, &constraint_records(question)[number]),
+        Judgement::Refused { number: 15, .. } => Part { side: Side::Answer, offset: 0, length: answer.len() },
+        Judgement::Refused { number: 16, record } => Part::of(Side::Answer, &whole_records(answer)[record]),
+        _ => Part { side: Side::Question, offset: 0, length: 0 },
+    }
+}
+
+/// "3 string constraint", "4 arithmetic constraint": their records in order; any behind the question's end come last.
+fn constraint_records(question: &[u8]) -> Vec<Record<'_>> {
+    whole_records(question).into_iter().filter(|record| [3, 4].contains(&record.kind)).collect()
 }
 
 /// "reading ends at the six leading bytes of the first claim or end record; one with no head before it gives 4"
@@ -47,13 +103,6 @@ pub fn read_question(bytes: &[u8]) -> Result<Question, (Refusal, usize)> {
     }
 }
 
-/// The numbers of all constraints that the answer does not meet.
-fn unmet(question: &Question, answer: &Answer) -> Vec<usize> {
-    let values = column_values(answer);
-    let constraints = question.constraints.iter().enumerate();
-    constraints.filter(|(_, fact)| !meets(question, answer, &values, fact)).map(|(number, _)| number).collect()
-}
-
 /// "Columns: the q integer variables, then len of each string variable, then code of each", by the answer.
 fn column_values(answer: &Answer) -> Vec<i128> {
     let mut values = answer.integers.clone();
@@ -69,5 +118,63 @@ fn meets(question: &Question, answer: &Answer, values: &[i128], fact: &Fact) -> 
         Fact::Differ(a, b) => answer.strings[*a] != answer.strings[*b],
         Fact::IsLiteral(a, literal) => answer.strings[*a] == question.literals[*literal],
         Fact::Arithmetic(relation, row) => relation.holds(row.value(values)),
+    }
+}
+
+#[cfg(test)]
+mod tests {
+    use super::*;
+    use crate::records::record;
+
+    /// n = 128, two string variables, one integer variable, a literal of one character.
+    fn front() -> Vec<u8> {
+        [record(1, &[128, 0, 0, 0, 2, 0, 1, 0]), record(2, &[97, 0, 0, 0])].concat()
+    }
+
+    /// x0 ≉ x1, x0 ≈ literal 1, i0 − 5 ≥ 0, 0 = 0, behind a front of 24 bytes; and another constraint behind the end.
+    fn question() -> Vec<u8> {
+        let differ = record(3, &[1, 0, 0, 0, 1, 0]);
+        let literal = record(3, &[2, 0, 0, 0, 1, 0]);
+        let at_least = record(4, &[0, 0, 251, 255, 255, 255, 0, 0, 1, 0, 0, 0]);
+        let equal = record(4, &[1, 0, 0, 0, 0, 0]);
+        [front(), differ.clone(), literal, at_least, equal, record(8, &[]), differ].concat()
+    }
+
+    /// x0 of one character, x1 of two, of which the second is given, and i0.
+    fn answer(x0: u8, x1: u8, i0: i32) -> Vec<u8> {
+        let strings = [record(9, &[x0, 0, 0, 0]), record(9, &[0, 0, 0, 0, x1, 0, 0, 0])];
+        [strings.concat(), record(10, &i0.to_le_bytes()), record(8, &[])].concat()
+    }
+
+    /// What is judged and shown of an answer to the question.
+    fn judged(answer: &[u8]) -> (Judgement, Side, usize, usize) {
+        let (judgement, part) = judge(&question(), answer);
+        (judgement, part.side, part.offset, part.length)
+    }
+
+    #[test]
+    fn the_lowest_unmet_constraint_is_named_and_its_record_shown() {
+        assert_eq!(judged(&answer(97, 0, 5)), (Judgement::AllMet, Side::Question, 0, 0));
+        assert_eq!(judged(&answer(98, 0, 5)), (Judgement::Unmet(1), Side::Question, 36, 12));
+        assert_eq!(judged(&answer(98, 0, 4)), (Judgement::Unmet(1), Side::Question, 36, 12));
+        assert_eq!(judged(&answer(97, 0, 4)), (Judgement::Unmet(2), Side::Question, 48, 18));
+        assert_eq!(unmet(&question(), &answer(98, 0, 4)), Ok(vec![1, 2]));
+    }
+
+    #[test]
+    fn a_refused_answer_is_shown_whole_or_by_the_record_named() {
+        let refused = |number, record| Judgement::Refused { number, record };
+        assert_eq!(judged(&[]), (refused(15, 0), Side::Answer, 0, 0));
+        assert_eq!(judged(&answer(97, 0, 5)[..39]), (refused(15, 0), Side::Answer, 0, 39));
+        assert_eq!(judged(&answer(128, 128, 5)), (refused(16, 0), Side::Answer, 0, 10));
+        assert_eq!(judged(&answer(97, 128, -100_000_001)), (refused(16, 1), Side::Answer, 10, 14));
+        assert_eq!(judged(&answer(97, 0, 100_000_001)), (refused(16, 2), Side::Answer, 24, 10));
+    }
+
+    #[test]
+    fn of_a_refused_question_nothing_is_shown() {
+        let cut = question()[..70].to_vec();
+        let nothing = Part { side: Side::Question, offset: 0, length: 0 };
+        assert_eq!(judge(&cut, &[]), (Judgement::Refused { number: 3, record: 5 }, nothing));
     }
 }

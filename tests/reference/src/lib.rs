@@ -1,6 +1,6 @@
-//! A simple reference checker and judge of solver tickets, written from document 01 and from nothing else.
+//! A simple reference checker and judge of solver tickets, written from documents 01 and 02 and from nothing else.
 //!
-//! It is meant to be read beside document 01: lists, `i128` and no cleverness. Quoted words are those of document 01.
+//! It is meant to be read beside these: lists, `i128` and no cleverness. Quoted words are theirs.
 
 pub mod answer;
 pub mod checking;
@@ -16,7 +16,7 @@ pub mod rules;
 pub mod steps;
 
 pub use checking::{check, Outcome};
-pub use judging::{judge, Judgement};
+pub use judging::{judge, Judgement, Part, Side};
 pub use program::program;
 
 /// The number of a refusal, 1 to 16.

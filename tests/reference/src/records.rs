@@ -41,6 +41,17 @@ pub fn record_at(bytes: &[u8], start: usize) -> Option<Record<'_>> {
     Some(Record { kind, body: &rest[..length], end: start + 6 + length })
 }
 
+/// "Records are read one after another from the lent bytes": the whole ones at their front.
+pub fn whole_records(bytes: &[u8]) -> Vec<Record<'_>> {
+    let mut records = Vec::new();
+    let mut start = 0;
+    while let Some(record) = record_at(bytes, start) {
+        start = record.end;
+        records.push(record);
+    }
+    records
+}
+
 /// "A record is a u32 body length, a u16 kind, a body": the bytes of one.
 pub fn record(kind: u16, body: &[u8]) -> Vec<u8> {
     let mut bytes = (body.len() as u32).to_le_bytes().to_vec();

@@ -5,7 +5,8 @@ use borrow.Author.Tests.{not-false, not-true}
 use denote.Ref.{now}
 use mathlib.Core.Path.{_∙_, _≡_, ap, sym}
 use native.Mathlib.Omega.{arith}
-use Rattle.assignment.proofs.Read.{form-no, form-yes, string-there}
+use Rattle.format.proofs.Answers.{string-there}
+use Rattle.assignment.proofs.Read.{form-no, form-yes}
 use Rattle.format.specs.Answer.{answerForm}
 use Rattle.assignment.proofs.answer_formed.Statement.{statement}
 use Rattle.assignment.proofs.answer_formed.Tie as tie

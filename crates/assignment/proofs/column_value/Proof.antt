@@ -10,7 +10,7 @@ use mir.Syntax.{w64}
 use mir.ValLaws.{toZ-pos}
 use native.Mathlib.Omega.{arith}
 use Rattle.assignment.proofs.Columns.{code-column, integer-column, len-column}
-use Rattle.assignment.proofs.Read.{integers-there, text-there}
+use Rattle.format.proofs.Answers.{integers-there, text-there}
 use Rattle.assignment.specs.Form.{columnsAt}
 use Rattle.calculus.specs.Facts.{codeOf}
 use Rattle.format.specs.Fields.{i32}

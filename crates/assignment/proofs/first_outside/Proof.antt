@@ -5,11 +5,13 @@ use borrow.Author.Tests.{not-false, not-true}
 use denote.Ref.{now}
 use lib.ListN.{length}
 use mathlib.Core.Bool.{false, true}
-use mathlib.Core.Option.{some}
-use mathlib.Core.Path.{_∙_, _≡_, ap, refl, sym}
+use mathlib.Core.Path.{_∙_, _≡_, ap, ap₂, refl, sym}
 use native.Mathlib.Numerals.{add-one}
 use native.Mathlib.Omega.{arith}
-use Rattle.assignment.proofs.Read.{integers-there, outside-last, outside-no, outside-none, outside-yes, text-there}
+use Rattle.assignment.proofs.Read.{outside-last, outside-no, outside-none, outside-yes}
+use Rattle.assignment.specs.Form.{placedIn}
+use Rattle.assignment.specs.declared.Outside.the-variants.{Record}
+use Rattle.format.proofs.Answers.{integers-there, text-there}
 use Rattle.calculus.specs.Alphabet.{allCharacters}
 use Rattle.calculus.specs.Facts.{blank}
 use Rattle.format.proofs.Places.{skip-snoc}
@@ -59,7 +61,8 @@ returns c =
     ap (λ (m : ℕ). allCharacters (s .n) (u32s (now (s .v)) (l .at + 6) (m / 4))) (sym (c .before .before .u32-at .ensures .0))
     ∙ sym (c .before .all-characters .ensures)
     ∙ not-true _ (c .if1 .taken) in
-    sym (outside-no (now (s .v)) (blank (s .n) (s .p) (s .q)) (l .r) (l .at) (s .p - l .r) (omega arith) t) ∙ l .inv .2
+    ap (Record (l .r)) (l .inv .1)
+    ∙ ap (placedIn (now (s .v))) (sym (outside-no (now (s .v)) (blank (s .n) (s .p) (s .q)) (l .r) (l .at) (s .p - l .r) (omega arith) t) ∙ l .inv .2)
 
 add-at : tie.Need-add-at Inv-loop μ-loop
 add-at c =
@@ -117,19 +120,19 @@ returns-2 : tie.Need-returns-2 Inv-loop μ-loop
 returns-2 c =
     let l = c .before .before .before .loop in
     let s = c .before .before .before .before .before .args in
-    sym (outside-none (now (s .v)) (blank (s .n) (s .p) (s .q)) (l .r) (l .at) (s .p - l .r) (omega arith)
+    ap (placedIn (now (s .v))) (sym (outside-none (now (s .v)) (blank (s .n) (s .p) (s .q)) (l .r) (l .at) (s .p - l .r) (omega arith)
     (sym (c .before .integers-within .ensures) ∙ c .if2 .taken))
-    ∙ l .inv .2
+    ∙ l .inv .2)
 
 returns-3 : tie.Need-returns-3 Inv-loop μ-loop
 returns-3 c =
     let l = c .before .before .before .loop in
     let s = c .before .before .before .before .before .args in
     let e : s .p ≡ l .r = omega arith in
-    ap some e
-    ∙ sym (outside-last (now (s .v)) (blank (s .n) (s .p) (s .q)) (l .r) (l .at) (s .p - l .r) (omega arith)
+    ap₂ Record e (l .inv .1)
+    ∙ ap (placedIn (now (s .v))) (sym (outside-last (now (s .v)) (blank (s .n) (s .p) (s .q)) (l .r) (l .at) (s .p - l .r) (omega arith)
     (sym (c .before .integers-within .ensures) ∙ c .if2 .left))
-    ∙ l .inv .2
+    ∙ l .inv .2)
 
 pub first-outside-spec : {M : Type 1} → statement M
 first-outside-spec =

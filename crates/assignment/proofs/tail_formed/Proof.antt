@@ -7,7 +7,7 @@ use mathlib.Core.Path.{_∙_, sym}
 use native.Mathlib.Nat.{add-zero}
 use native.Mathlib.Omega.{arith}
 use Rattle.format.specs.Answer.{answerForm}
-use Rattle.assignment.proofs.Read.{record-there}
+use Rattle.format.proofs.Answers.{record-there}
 use Rattle.assignment.proofs.tail_formed.Statement.{statement}
 use Rattle.assignment.proofs.tail_formed.Tie as tie
 

@@ -16,7 +16,7 @@ use Rattle.format.specs.Question.{checkingManner, constraintFault, constraintOf
 use Rattle.format.specs.Records.{kind, next, size}
 use Rattle.question.proofs.Posed.{literals-whole}
 use Rattle.question.specs.Posed.{asked}
-use Rattle.question.specs.Standing.{ConstraintAt}
+use Rattle.format.specs.Standing.{ConstraintAt}
 use Rattle.rows.proofs.Small.{fine-put, fine-start}
 use Rattle.rows.specs.Rows.{branchOf}
 use Rattle.rows.specs.Work.{Fine}

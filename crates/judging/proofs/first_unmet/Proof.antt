@@ -4,24 +4,21 @@ use borrow.Author.Needs.{needs}
 use borrow.Author.Tests.{not-false, not-true}
 use denote.Ref.{now}
 use lib.ListN.{length}
-use mathlib.Core.Path.{_∙_, _≡_, ap, ap₂, sym}
+use mathlib.Core.Path.{_∙_, _≡_, ap, sym}
 use native.Mathlib.Numerals.{add-one}
 use native.Mathlib.Omega.{arith}
 use Rattle.format.proofs.Places.{skip-snoc}
-use Rattle.format.specs.Places.{constraintsAt, literalsFrom, skip}
+use Rattle.format.specs.Places.{constraintsFrom, skip}
 use Rattle.format.specs.Records.{next}
-use Rattle.question.specs.Posed.{asked}
 use Rattle.question.proofs.Posed.{literals-whole}
-use Rattle.judging.proofs.Unmet.{first-done, first-no, first-yes}
-use Rattle.judging.specs.Judgements.{firstUnmet}
+use Rattle.judging.proofs.Unmet.{MetTo, finds-all-met, finds-unmet, met-more, met-none}
 use Rattle.judging.specs.Ready.{valuesOf}
 use Rattle.judging.proofs.first_unmet.Statement.{statement}
 use Rattle.judging.proofs.first_unmet.Tie as tie
 
 abbrev Inv-loop : tie.InvT-loop
 Inv-loop b v s places values count at₀ k₀ at k =
-    (k ≤ s .constraints) × (at ≡ skip b k (skip b (s .literals) literalsFrom))
-    × (firstUnmet (asked b s) (valuesOf b v s) (constraintsAt b (s .constraints - k) at) k ≡ firstUnmet (asked b s) (valuesOf b v s) (asked b s .constraints) 0)
+    (k ≤ s .constraints) × (at ≡ skip b k (constraintsFrom b (s .literals))) × MetTo b v s (valuesOf b v s) k
 
 abbrev μ-loop : tie.MeasureT-loop
 μ-loop b v s places values count at₀ k₀ at k = s .constraints - k
@@ -30,28 +27,15 @@ behind-literals-requires : tie.Need-behind-literals-requires Inv-loop μ-loop
 behind-literals-requires c κs = literals-whole (c .before .before .before .pre .texts .posed)
 
 loop-holds : tie.Need-loop-holds Inv-loop μ-loop
-unfolding skip asked
+unfolding skip
 loop-holds c =
     let s = c .before .before .before .before .args in
-    let e : s .s .constraints - 0 ≡ s .s .constraints = omega arith in (
-      omega arith,
-      c .behind-literals .ensures,
-      ap₂ (λ (m at : ℕ). firstUnmet (asked (now (s .b)) (s .s)) (valuesOf (now (s .b)) (now (s .v)) (s .s)) (constraintsAt (now (s .b)) m at) 0) e
-          (c .behind-literals .ensures),
-    )
+    (omega arith, c .behind-literals .ensures, met-none (now (s .b)) (now (s .v)) (s .s) (valuesOf (now (s .b)) (now (s .v)) (s .s)))
 
 constraint-met-requires : tie.Need-constraint-met-requires Inv-loop μ-loop
 constraint-met-requires c κs =
     let s = c .before .before .before .before .before .before in
     (s .pre, rw (c .before .loop .inv .1) (s .pre .texts .posed .stands .constraints-stand (c .before .loop .k) (omega arith)))
-
-returns : tie.Need-returns Inv-loop μ-loop
-returns c =
-    let l = c .before .before .before .loop in
-    let s = c .before .before .before .before .before .before .before .before .args in
-    sym (first-no (asked (now (s .b)) (s .s)) (valuesOf (now (s .b)) (now (s .v)) (s .s)) (now (s .b)) (l .at) (l .k) (s .s .constraints - l .k)
-    (omega arith) (sym (c .before .constraint-met .ensures) ∙ not-true _ (c .if1 .taken)))
-    ∙ l .inv .2
 
 -- the record in turn is all there
 record-there : (c : tie.In-loop Inv-loop μ-loop) →
@@ -61,14 +45,21 @@ record-there c =
     let s = c .before .before .before .before .before .before in
     rw (c .before .loop .inv .1) (s .pre .texts .posed .stands .constraints-stand (c .before .loop .k) (omega arith) .whole)
 
-add-at : tie.Need-add-at Inv-loop μ-loop
-add-at c = omega (arith, record-there (c .before .before))
+record-end-requires : tie.Need-record-end-requires Inv-loop μ-loop
+record-end-requires c κs = record-there (c .before .before)
 
-u32-at-requires : tie.Need-u32-at-requires Inv-loop μ-loop
-u32-at-requires c κs = omega (arith, record-there (c .before .before))
+found-requires : tie.Need-found-requires Inv-loop μ-loop
+found-requires c κs = search needs
 
-add-at-2 : tie.Need-add-at-2 Inv-loop μ-loop
-add-at-2 c = omega (arith, record-there (c .before .before .before), c .u32-at .ensures .0)
+returns : tie.Need-returns Inv-loop μ-loop
+returns c =
+    let l = c .before .before .before .before .before .loop in
+    let s = c .before .before .before .before .before .before .before .before .before .before .args in
+    rw (c .found .ensures) (finds-unmet (now (s .b)) (now (s .v)) (s .s) (valuesOf (now (s .b)) (now (s .v)) (s .s)) (l .k) (l .at) (l .inv .2) (l .inv .1)
+    (sym (c .before .before .before .constraint-met .ensures) ∙ not-true _ (c .before .before .if1 .taken)) (omega arith) (c .before .record-end .ensures))
+
+record-end-requires-2 : tie.Need-record-end-requires-2 Inv-loop μ-loop
+record-end-requires-2 c κs = record-there (c .before .before)
 
 add-k : tie.Need-add-k Inv-loop μ-loop
 add-k c = search needs
@@ -81,26 +72,22 @@ loop-again c =
     let l = c .before .before .before .before .loop in
     let s = c .before .before .before .before .before .before .before .before .before .args in
     let b = now (s .b) in
-    let e : s .s .constraints - l .k - 1 ≡ s .s .constraints - (l .k + 1) = omega arith in
-    let here : next b (l .at) ≡ skip b (suc (l .k)) (skip b (s .s .literals) literalsFrom) =
-    ap (next b) (l .inv .1) ∙ sym (skip-snoc b (l .k) (skip b (s .s .literals) literalsFrom)) in
-    rw (c .u32-at .ensures .0) (
+    let here : next b (l .at) ≡ skip b (suc (l .k)) (constraintsFrom b (s .s .literals)) =
+    ap (next b) (l .inv .1) ∙ sym (skip-snoc b (l .k) (constraintsFrom b (s .s .literals))) in (
       omega arith,
-      rw (add-one (l .k)) here,
-      rw (← e, add-one (l .k)) (
-          sym (first-yes (asked b (s .s)) (valuesOf b (now (s .v)) (s .s)) b (l .at) (l .k) (s .s .constraints - l .k) (omega arith)
-          (sym (c .before .before .constraint-met .ensures) ∙ not-false _ (c .before .if1 .left)))
-          ∙ l .inv .2
-          ),
+      c .record-end2 .ensures ∙ rw (add-one (l .k)) here,
+      met-more b (now (s .v)) (s .s) (valuesOf b (now (s .v)) (s .s)) (l .k) (l .at) (l .inv .2) (l .inv .1)
+          (sym (c .before .before .constraint-met .ensures) ∙ not-false _ (c .before .if1 .left)),
     )
+
+found-requires-2 : tie.Need-found-requires-2 Inv-loop μ-loop
+found-requires-2 c κs = search needs
 
 returns-2 : tie.Need-returns-2 Inv-loop μ-loop
 returns-2 c =
-    let l = c .before .loop in
-    let s = c .before .before .before .before .before .before .args in
-    sym (first-done (asked (now (s .b)) (s .s)) (valuesOf (now (s .b)) (now (s .v)) (s .s)) (now (s .b)) (l .at) (l .k) (s .s .constraints - l .k)
-    (omega arith))
-    ∙ l .inv .2
+    let l = c .before .before .loop in
+    let s = c .before .before .before .before .before .before .before .args in
+    rw (c .found2 .ensures) (finds-all-met (now (s .b)) (now (s .v)) (s .s) (valuesOf (now (s .b)) (now (s .v)) (s .s)) (l .k) (l .inv .2) (omega arith))
 
 pub first-unmet-spec : {M : Type 1} → statement M
 first-unmet-spec =
@@ -111,11 +98,12 @@ first-unmet-spec =
     behind-literals-requires
     loop-holds
     constraint-met-requires
+    record-end-requires
+    found-requires
     returns
-    add-at
-    u32-at-requires
-    add-at-2
+    record-end-requires-2
     add-k
     loop-less
     loop-again
+    found-requires-2
     returns-2)

@@ -19,8 +19,8 @@ Inv-loop b at count values sum₀ i₀ left₀ sum i left = Summing b at count v
 abbrev μ-loop : tie.MeasureT-loop
 μ-loop b at count values sum₀ i₀ left₀ sum i left = left
 
-i32-at-requires : tie.Need-i32-at-requires Inv-loop μ-loop
-i32-at-requires c κs = omega (arith, c .before .pre .there)
+number-at-requires : tie.Need-number-at-requires Inv-loop μ-loop
+number-at-requires c κs = omega (arith, c .before .pre .there)
 
 add-i : tie.Need-add-i Inv-loop μ-loop
 add-i c = omega (arith, c .before .before .pre .there)
@@ -29,17 +29,17 @@ loop-holds : tie.Need-loop-holds Inv-loop μ-loop
 loop-holds c =
     let s = c .before .before in
     subst (λ (z : ℤ). Summing (now (s .args .b)) (s .args .at) (s .args .count) (now (s .args .values)) z (s .args .at + 4) (s .args .count))
-    (sym (toZ-ofZ (record { sfits = c .i32-at .ok }) ∙ c .i32-at .ensures .0))
+    (sym (toZ-ofZ (record { sfits = c .number-at .ok }) ∙ c .number-at .ensures .0))
     (begin (now (s .args .b)) (s .args .at) (s .args .count) (now (s .args .values)) (s .pre))
 
 u16-at-requires : tie.Need-u16-at-requires Inv-loop μ-loop
 u16-at-requires c κs = omega (arith, c .before .loop .inv .there)
 
-add-i32-at : tie.Need-add-i32-at Inv-loop μ-loop
-add-i32-at c = omega (arith, c .before .before .loop .inv .there)
+add-number-at : tie.Need-add-number-at Inv-loop μ-loop
+add-number-at c = omega (arith, c .before .before .loop .inv .there)
 
-i32-at-requires-2 : tie.Need-i32-at-requires-2 Inv-loop μ-loop
-i32-at-requires-2 c κs = omega (arith, c .before .before .loop .inv .there)
+number-at-requires-2 : tie.Need-number-at-requires-2 Inv-loop μ-loop
+number-at-requires-2 c κs = omega (arith, c .before .before .loop .inv .there)
 
 mul-sum : tie.Need-mul-sum Inv-loop μ-loop
 mul-sum c = omega arith
@@ -55,14 +55,14 @@ shared-slice-copy-out-sum c =
 term : (c : tie.After-sum Inv-loop μ-loop)
     →
     let args = c .before .before .before .before .before .before .before .args in
-    toZ w64 (ofZ w64 (c .before .i32-at2 .result)) *ℤ toZ w64 (ofZ w64 (getD (now (args .values)) (c .before .before .u16-at .result) (pos 0)))
+    toZ w64 (ofZ w64 (c .before .number-at2 .result)) *ℤ toZ w64 (ofZ w64 (getD (now (args .values)) (c .before .before .u16-at .result) (pos 0)))
     ≡ i32 (now (args .b)) (c .before .before .before .before .loop .i + 2)
     *ℤ getD (now (args .values)) (u16 (now (args .b)) (c .before .before .before .before .loop .i)) (pos 0)
 term c =
     let args = c .before .before .before .before .before .before .before .args in
-    product-is (c .before .i32-at2 .result) (getD (now (args .values)) (c .before .before .u16-at .result) (pos 0))
-    (record { sfits = c .before .i32-at2 .ok }) (record { sfits = c .sum .given })
-    (c .before .i32-at2 .ensures .0) (ap (λ (j : ℕ). getD (now (args .values)) j (pos 0)) (c .before .before .u16-at .ensures .0))
+    product-is (c .before .number-at2 .result) (getD (now (args .values)) (c .before .before .u16-at .result) (pos 0))
+    (record { sfits = c .before .number-at2 .ok }) (record { sfits = c .sum .given })
+    (c .before .number-at2 .ensures .0) (ap (λ (j : ℕ). getD (now (args .values)) j (pos 0)) (c .before .before .u16-at .ensures .0))
 
 mul-sum-2 : tie.Need-mul-sum-2 Inv-loop μ-loop
 mul-sum-2 c =
@@ -76,7 +76,7 @@ total : (c : tie.After-sum Inv-loop μ-loop)
     →
     let args = c .before .before .before .before .before .before .before .args in
     toZ w64 (c .before .before .before .before .loop .sum) +ℤ toZ w64 (ofZ w64
-    (toZ w64 (ofZ w64 (c .before .i32-at2 .result)) *ℤ toZ w64 (ofZ w64 (getD (now (args .values)) (c .before .before .u16-at .result) (pos 0)))))
+    (toZ w64 (ofZ w64 (c .before .number-at2 .result)) *ℤ toZ w64 (ofZ w64 (getD (now (args .values)) (c .before .before .u16-at .result) (pos 0)))))
     ≡ toZ w64 (c .before .before .before .before .loop .sum) +ℤ i32 (now (args .b)) (c .before .before .before .before .loop .i + 2)
     *ℤ getD (now (args .values)) (u16 (now (args .b)) (c .before .before .before .before .loop .i)) (pos 0)
 total c = ap (λ (z : ℤ). toZ w64 (c .before .before .before .before .loop .sum) +ℤ z) (toZ-ofZ (mul-sum-2 c) ∙ term c)
@@ -118,12 +118,12 @@ form-value-spec =
     (tie.spec
     Inv-loop
     μ-loop
-    i32-at-requires
+    number-at-requires
     add-i
     loop-holds
     u16-at-requires
-    add-i32-at
-    i32-at-requires-2
+    add-number-at
+    number-at-requires-2
     mul-sum
     shared-slice-copy-out-sum
     mul-sum-2

@@ -4,9 +4,8 @@ use denote.Ref.{now}
 use mathlib.Core.Path.{_∙_, ap, refl, sym}
 use native.Mathlib.Omega.{arith}
 use Rattle.format.specs.Question.{judgingManner}
-use Rattle.question.proofs.Standing.{question-posed}
+use Rattle.question.proofs.Posed.{question-posed}
 use Rattle.judging.proofs.Outcomes.{headed, headless, stopped}
-use Rattle.judging.specs.Judgements.{judgementOf}
 use Rattle.question.specs.Progress.{readingOf}
 use Rattle.question.specs.Posed.{asked}
 use Rattle.judging.proofs.judge_answer.Statement.{statement}
@@ -28,26 +27,34 @@ judge-behind-requires c κs =
     question-posed judgingManner refl (now (s .question)) (c .before .before .s .given .0 .0) _ _
     (sym (c .before .before .before .before .read-question .ensures) ∙ ap (readingOf (now (s .question))) (c .before .before .s .given .1)) (omega arith)
 
+found-requires : tie.Need-found-requires
+found-requires c κs = search needs
+
+found-requires-2 : tie.Need-found-requires-2
+found-requires-2 c κs = search needs
+
 returns : tie.Need-returns
 unfolding readingOf
 returns c =
-    let s = c .before .before .before .before .before .before .args in
-    stopped (now (s .question)) (now (s .answer))
-    (sym (c .before .before .before .read-question .ensures) ∙ ap (readingOf (now (s .question))) (c .before .c .given .1))
+    let s = c .before .before .before .before .before .before .before .args in
+    rw (c .found .ensures) (stopped (now (s .question)) (now (s .answer))
+    (sym (c .before .before .before .before .read-question .ensures) ∙ ap (readingOf (now (s .question))) (c .before .before .c .given .1)))
 
 returns-2 : tie.Need-returns-2
 unfolding readingOf
 returns-2 c =
-    let s = c .before .before .before .before .before .before .before .args in
-    headless (now (s .question)) (now (s .answer))
-    (sym (c .before .before .before .before .read-question .ensures) ∙ ap (readingOf (now (s .question))) (c .before .before .s .given .1)) (omega arith)
+    let read-question = c .before .before .before .before .before .read-question in
+    let s = c .before .before .before .before .before .before .before .before .args in
+    rw (c .found2 .ensures) (headless (now (s .question)) (now (s .answer))
+    (sym (read-question .ensures) ∙ ap (readingOf (now (s .question))) (c .before .before .before .s .given .1))
+    (omega arith))
 
 returns-3 : tie.Need-returns-3
 unfolding readingOf asked
 returns-3 c =
     let read-question = c .before .before .before .before .before .read-question in
     let s = c .before .before .before .before .before .before .before .before .args in
-    headed (now (s .question)) (now (s .answer)) (judgementOf (c .judge-behind .result))
+    headed (now (s .question)) (now (s .answer))
     (sym (read-question .ensures) ∙ ap (readingOf (now (s .question))) (c .before .before .before .s .given .1)) (omega arith) (c .judge-behind .ensures)
 
 pub judge-answer-spec : {M : Type 1} → statement M
@@ -56,7 +63,9 @@ judge-answer-spec =
     (tie.spec
     read-question-requires
     enum-known-c
+    found-requires
     enum-known-s
+    found-requires-2
     judge-behind-requires
     returns
     returns-2

@@ -6,7 +6,7 @@ use mathlib.Core.Path.{_∙_, ap, sym}
 use native.Mathlib.Omega.{arith}
 use Rattle.assignment.proofs.Bounds.{small-columns}
 use Rattle.assignment.proofs.Columns.{length-columns}
-use Rattle.assignment.proofs.Read.{integers-there}
+use Rattle.format.proofs.Answers.{integers-there}
 use Rattle.calculus.proofs.Saturation.{enough}
 use Rattle.calculus.specs.Meaning.{columns}
 use Rattle.format.specs.Places.{texts}

@@ -8,8 +8,9 @@ use lib.ListN.{length}
 use borrow.Author.Tests.{eq-eqb, ne-eqb}
 use Rattle.format.specs.Records.{kind}
 use Rattle.format.specs.Question.{rankOf}
-use Rattle.question.specs.Progress.{progressOf}
-use Rattle.question.proofs.Standing.{head-size, after-advanced}
+use Rattle.format.specs.Places.{readTo}
+use Rattle.format.proofs.Standing.{head-size, after-advanced}
+use Rattle.question.specs.Progress.{numbersOf}
 use Rattle.question.proofs.advance.Statement.{statement}
 use Rattle.question.proofs.advance.Tie as tie
 
@@ -27,7 +28,7 @@ add-body c = search needs
 eight : (c : tie.Then1) → c .before .before .before .args .at + 6 + 8 ≤ length (now (c .before .before .before .args .b))
 eight c =
     let s = c .before .before .before in
-    head-size (now (s .args .b)) (s .args .s) (s .args .at) (s .pre .0) (sym (ranked (c .before)) ∙ c .if1 .taken)
+    head-size (now (s .args .b)) (numbersOf (s .args .s)) (s .args .at) (s .pre .0) (sym (ranked (c .before)) ∙ c .if1 .taken)
 
 u32-at-requires : tie.Need-u32-at-requires
 u32-at-requires c κs = omega (arith, eight c)
@@ -48,7 +49,7 @@ returns : tie.Need-returns
 returns c =
     let start = c .before .before .before .before .before .before in
     let rank = c .before .before .before .before in
-    ap (progressOf (now (start .args .b))) (simp (
+    ap (readTo (now (start .args .b))) (simp (
       eq-eqb _ _ (sym (ranked rank) ∙ c .before .before .before .if1 .taken),
       c .before .before .u32-at .ensures .0,
       c .before .u16-at .ensures .0,
@@ -63,7 +64,7 @@ returns-2 : tie.Need-returns-2
 returns-2 c =
     let start = c .before .before .before .before .before in
     let rank = c .before .before .before in
-    ap (progressOf (now (start .args .b))) (sym (rw (sym (ranked rank)) (rw (ne-eqb _ _ (c .before .before .if1 .left), eq-eqb _ _ (c .before .if2 .taken)))))
+    ap (readTo (now (start .args .b))) (sym (rw (sym (ranked rank)) (rw (ne-eqb _ _ (c .before .before .if1 .left), eq-eqb _ _ (c .before .if2 .taken)))))
     ∙ after-advanced _ _ _ (start .pre .0)
 
 add-t13 : tie.Need-add-t13
@@ -73,7 +74,7 @@ returns-3 : tie.Need-returns-3
 returns-3 c =
     let start = c .before .before .before .before .before in
     let rank = c .before .before .before in
-    ap (progressOf (now (start .args .b))) (sym (rw (sym (ranked rank)) (rw (ne-eqb _ _ (c .before .before .if1 .left), ne-eqb _ _ (c .before .if2 .left)))))
+    ap (readTo (now (start .args .b))) (sym (rw (sym (ranked rank)) (rw (ne-eqb _ _ (c .before .before .if1 .left), ne-eqb _ _ (c .before .if2 .left)))))
     ∙ after-advanced _ _ _ (start .pre .0)
 
 pub advance-spec : {M : Type 1} → statement M

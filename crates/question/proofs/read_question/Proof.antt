@@ -19,10 +19,10 @@ use Rattle.records.proofs.Finding.{found-nothing, found-cut, found-whole}
 use Rattle.question.specs.declared.Manner.{Manner}
 use Rattle.question.specs.declared.Progress.{Progress}
 use Rattle.question.specs.declared.Reading.the-variants.{Stopped, Ended}
-use Rattle.question.specs.Progress.{mannerOf, progressOf, readingOf}
+use Rattle.question.specs.Progress.{mannerOf, numbersOf, progressOf, readingOf}
 use Rattle.question.specs.Standing.{StandsTo}
 use Rattle.format.proofs.RecordFaults.{cut-short}
-use Rattle.question.proofs.Standing.{begun-fresh, begun-stands, next-at, advanced-stands}
+use Rattle.format.proofs.Standing.{begun-fresh, begun-stands, next-at, advanced-stands}
 use Rattle.question.proofs.read_question.Statement.{statement}
 use Rattle.question.proofs.read_question.Tie as tie
 
@@ -63,7 +63,7 @@ module _ (m : Manner) (b : List ℕ) (s : Progress) (r at : ℕ) (short : length
       → StandsTo (m .greatest) b t (at + 6 + n) × Left m b t (r + 1) (at + 6 + n)
   goes-on k n t w g ef e h =
       rw (w .1) (
-        advanced-stands b s at (next-at (mannerOf m) h ef) t e,
+        advanced-stands b (numbersOf s) at (next-at (mannerOf m) h ef) (numbersOf t) e,
         rw (add-one r, e) (sym (read-more test b (progressOf b s) r at (omega (arith, w .2)) (rw (w .0) at g) ef) ∙ left),
       )
 

@@ -14,10 +14,10 @@ use Rattle.format.specs.Places.{skip, literalsFrom}
 use Rattle.format.proofs.Places.{length-texts, length-constraints}
 use Rattle.question.specs.declared.Manner.{Manner}
 use Rattle.question.specs.declared.Progress.{Progress}
-use Rattle.question.specs.Progress.{mannerOf, progressOf}
+use Rattle.question.specs.Progress.{mannerOf, numbersOf, progressOf}
 use Rattle.question.specs.Standing.{StandsTo}
 use Rattle.format.proofs.RecordFaults.{behind-head, out-of-place, ill-formed, by-room}
-use Rattle.question.proofs.Standing.{literals-within}
+use Rattle.format.proofs.Standing.{literals-within}
 use Rattle.question.proofs.record_fault.Statement.{statement}
 use Rattle.question.proofs.record_fault.Tie as tie
 
@@ -36,7 +36,7 @@ module _ (m : Manner) (b : List ℕ) (s : Progress) (at k n : ℕ) (w : (k ≡ k
   literals-there : StandsTo (m .greatest) b s at → t ≡ true → rankOf k ≡ literalRank → skip b (s .literals) literalsFrom ≤ length b
   literals-there h e z =
       let rank : r ≡ literalRank = er ∙ z in
-      literals-within b s at (s .literals) h (behind-head (m .greatest) (s .last) (s .literals) r (sym et ∙ e) (λ y. absurd (omega arith)) .head-read)
+      literals-within b (numbersOf s) at (s .literals) h (behind-head (m .greatest) (s .last) (s .literals) r (sym et ∙ e) (λ y. absurd (omega arith)) .head-read)
       (omega arith)
 
   module _ (e : t ≡ true) (f : ℕ) (ef : f ≡ questionBodyFault b (progressOf b s .question) k (at + 6) n) where

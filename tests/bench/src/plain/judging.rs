@@ -10,11 +10,19 @@ use compare::operation::Reply;
 /// The number of a reply for a constraint that is not met.
 const UNMET: u64 = 255;
 
-/// A refusal and the record that it names.
-type Refused = (u64, u64);
+/// Whose part a reply shows.
+const QUESTION: u64 = 0;
+const ANSWER: u64 = 1;
 
-/// A constraint's kind and body.
-type Constraint<'a> = (u16, &'a [u8]);
+/// The bytes of a record before its body.
+const LEADING: usize = 6;
+
+/// A constraint: its record's kind and body, and where the record starts in the question.
+struct Constraint<'a> {
+    kind: u16,
+    body: &'a [u8],
+    start: usize,
+}
 
 /// The bytes of an answer's strings and its value in every column.
 struct Answer<'a> {
@@ -29,47 +37,64 @@ pub fn judge(question: &[u8], answer: &[u8]) -> Reply {
         Ok(constraints.iter().position(|constraint| !meets(&question, &answer, constraint)))
     });
     match judged {
-        Err((number, record)) => reply(number, record),
+        Err(refused) => refused,
         Ok(None) => reply(0, 0),
-        Ok(Some(number)) => reply(UNMET, number as u64),
+        Ok(Some(number)) => {
+            let Constraint { body, start, .. } = constraints[number];
+            showing(reply(UNMET, number as u64), QUESTION, start, LEADING + body.len())
+        }
     }
 }
 
+/// A reply with the part that it shows; without it that is the empty part of the question.
+fn showing([number, record, ..]: Reply, side: u64, offset: usize, length: usize) -> Reply {
+    [number, record, side, offset as u64, length as u64]
+}
+
 /// Reads a question and keeps its constraints; it ends at the six leading bytes of the first claim or end record.
-fn read_question<'a>(bytes: &'a [u8], constraints: &mut Vec<Constraint<'a>>) -> Result<Question<'a>, Refused> {
-    demand(bytes.len() <= LONGEST_TICKET, 2).map_err(|refusal| (refusal, 0))?;
+fn read_question<'a>(bytes: &'a [u8], constraints: &mut Vec<Constraint<'a>>) -> Result<Question<'a>, Reply> {
+    demand(bytes.len() <= LONGEST_TICKET, 2).map_err(|refusal| reply(refusal, 0))?;
     let mut question = Question::default();
     let mut records = Records::new(bytes);
     let mut number = 0;
     loop {
-        let refused = |refusal| (refusal, number);
+        let refused = |refusal| reply(refusal, number);
         if matches!(records.kind(), Some(5 | 8)) {
             demand(question.has_head(), 4).map_err(refused)?;
             return Ok(question);
         }
+        let start = bytes.len() - records.left();
         let (kind, body) = records.next().ok_or(refused(3))?;
         question.take(kind, body).map_err(refused)?;
         if kind > 2 {
-            constraints.push((kind, body));
+            constraints.push(Constraint { kind, body, start });
         }
         number += 1;
     }
 }
 
 /// The answer's form, 15, then its ranges, 16.
-fn read_answer<'a>(question: &Question, bytes: &'a [u8]) -> Result<Answer<'a>, Refused> {
-    let (strings, integers) = read_form(question, bytes).ok_or((15u64, 0u64))?;
+fn read_answer<'a>(question: &Question, bytes: &'a [u8]) -> Result<Answer<'a>, Reply> {
+    let wrong_form = || showing(reply(15, 0), ANSWER, 0, bytes.len());
+    let (strings, integers) = read_form(question, bytes).ok_or_else(wrong_form)?;
     let strings_used = &strings[..question.p];
-    for (number, text) in strings_used.iter().enumerate() {
-        demand(all_below(question.n, text), 16).map_err(|refusal| (refusal, number as u64))?;
+    if let Some(number) = strings_used.iter().position(|text| !all_below(question.n, text)) {
+        return Err(out_of_range(&strings[..number], strings[number]));
     }
     let mut values = Vec::with_capacity(question.columns());
     values.extend(words(integers).map(|word| word as i32));
-    let within = values.iter().all(|value| (-VALUE_LIMIT..=VALUE_LIMIT).contains(value));
-    demand(within, 16).map_err(|refusal| (refusal, question.p as u64))?;
+    if !values.iter().all(|value| (-VALUE_LIMIT..=VALUE_LIMIT).contains(value)) {
+        return Err(out_of_range(strings_used, integers));
+    }
     values.extend(strings_used.iter().map(|text| text.len() as i32 / 4));
     values.extend(strings_used.iter().map(|text| code_of(text)));
     Ok(Answer { strings, values })
+}
+
+/// The reply for the answer's record with this body, behind those with the bodies before.
+fn out_of_range(before: &[&[u8]], body: &[u8]) -> Reply {
+    let start = before.iter().map(|text| LEADING + text.len()).sum();
+    showing(reply(16, before.len() as u64), ANSWER, start, LEADING + body.len())
 }
 
 /// The strings and the integers of an answer that is exactly of its form.
@@ -85,9 +110,9 @@ fn read_form<'a>(question: &Question, bytes: &'a [u8]) -> Option<([&'a [u8]; 16]
     records.is_empty().then_some((strings, integers))
 }
 
-fn meets(question: &Question, answer: &Answer, (kind, body): &Constraint) -> bool {
+fn meets(question: &Question, answer: &Answer, &Constraint { kind, body, .. }: &Constraint) -> bool {
     let relation = index_at(body, 0);
-    if *kind == 4 {
+    if kind == 4 {
         let pairs = body[6..].as_chunks().0.iter().map(pair);
         let products = pairs.map(|(column, coefficient)| i64::from(coefficient) * i64::from(answer.values[column]));
         return Relation::of(relation).holds(i64::from(i32_at(body, 2)) + products.sum::<i64>());

@@ -1,4 +1,4 @@
-//! A plain implementation, as a good engineer writes it from document 01 without a proof. It keeps what the input needs and no more: rows as wide as
+//! A plain implementation, as a good engineer writes it from documents 01 and 02 without a proof. It keeps what the input needs and no more: rows as wide as
 //! the question's columns, of 32-bit numbers whose sums have 64 bits, and the classes of the branch, changed as ≈ facts come and saved by each
 //! pending split.
 

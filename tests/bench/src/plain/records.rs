@@ -26,6 +26,11 @@ impl<'a> Records<'a> {
         Some((u16_at(head, 4), body))
     }
 
+    /// How many bytes are left.
+    pub fn left(&self) -> usize {
+        self.rest.len()
+    }
+
     /// Whether no byte is left.
     pub fn is_empty(&self) -> bool {
         self.rest.is_empty()

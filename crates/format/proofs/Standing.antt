@@ -11,42 +11,39 @@ use lib.Dec.{leb}
 use borrow.Author.Count.{below-more}
 use borrow.Author.Tests.{leb-true, leb-false, eq-eqb, ne-eqb}
 use Rattle.calculus.specs.Limits.{ticketBytes, factLimit}
-use Rattle.format.specs.Fields.{u16, u32}
 use Rattle.format.specs.Records.{size, kind, next}
-use Rattle.format.specs.Question as format
-use Rattle.format.specs.Question.{headRank, literalRank, rankOf, byRank, questionFault, questionAdvanced, unread, ending, readOn, readIn}
-use Rattle.format.specs.Places.{skip, texts, constraintsAt, literalsFrom}
-use Rattle.format.proofs.Places.{skip-far, skip-snoc, skip-up, length-texts, length-constraints, read-head, read-literal, read-constraint}
+use Rattle.format.specs.Question.{headRank, literalRank, rankOf, byRank, Progress, Manner, questionFault, questionAdvanced, unread}
+use Rattle.format.specs.Question.{Ended, ending, readOn, readIn}
+use Rattle.format.specs.Places.{skip, texts, constraintsAt, literalsFrom, Numbers, readTo}
+use Rattle.format.specs.Standing.{LiteralAt, ConstraintAt, StandsTo, NextAt}
+use Rattle.format.proofs.Faults.{clash}
 use Rattle.format.proofs.Turns.{read-none, read-ended, read-stopped, read-more, read-long, read-begin}
-use Rattle.question.specs.declared.Progress.{Progress}
-use Rattle.question.specs.Progress.{progressOf}
-use Rattle.question.specs.Standing.{LiteralAt, ConstraintAt, StandsTo, NextAt}
-use Rattle.question.specs.Posed.{PosedTo}
+use Rattle.format.proofs.Places.{skip-far, skip-snoc, skip-up, length-texts, length-constraints}
+use Rattle.format.proofs.Places.{headed, andLiteral, andConstraint, read-head, read-literal, read-constraint}
 use Rattle.format.proofs.RecordFaults.{uncrowded, Passed, passed, head-first, Behind, behind-head, Head, head-formed, literal-formed}
-use Rattle.format.proofs.Faults.{clash}
 use Rattle.format.proofs.Asked.{read-few}
 
 -- ---- the numbers are all that is kept
 
-pub same-numbers : (b : List ℕ) (s t : Progress) → progressOf b s ≡ progressOf b t → s ≡ t
+pub same-numbers : (b : List ℕ) (s t : Numbers) → readTo b s ≡ readTo b t → s ≡ t
 same-numbers b s t e =
     let literals : s .literals ≡ t .literals =
     sym (length-texts b (s .literals) literalsFrom)
-    ∙ ap (λ (u : format.Progress). length (u .question .literals)) e
+    ∙ ap (λ (u : Progress). length (u .question .literals)) e
     ∙ length-texts b (t .literals) literalsFrom in
     let constraints : s .constraints ≡ t .constraints =
     sym (length-constraints b (s .constraints) (skip b (s .literals) literalsFrom))
-    ∙ ap (λ (u : format.Progress). length (u .question .constraints)) e
+    ∙ ap (λ (u : Progress). length (u .question .constraints)) e
     ∙ length-constraints b (t .constraints) (skip b (t .literals) literalsFrom) in
-    let last : s .last ≡ t .last = ap (λ (u : format.Progress). u .last) e in
-    let n : s .n ≡ t .n = ap (λ (u : format.Progress). u .question .n) e in
-    let p : s .p ≡ t .p = ap (λ (u : format.Progress). u .question .p) e in
-    let q : s .q ≡ t .q = ap (λ (u : format.Progress). u .question .q) e in
+    let last : s .last ≡ t .last = ap (λ (u : Progress). u .last) e in
+    let n : s .n ≡ t .n = ap (λ (u : Progress). u .question .n) e in
+    let p : s .p ≡ t .p = ap (λ (u : Progress). u .question .p) e in
+    let q : s .q ≡ t .q = ap (λ (u : Progress). u .question .q) e in
     rw (last, n, p, q, literals, constraints)
 
 -- ---- positions
 
-pub literals-within : {greatest : ℕ} (b : List ℕ) (s : Progress) (at l : ℕ)
+pub literals-within : {greatest : ℕ} (b : List ℕ) (s : Numbers) (at l : ℕ)
     → StandsTo greatest b s at
     → headRank ≤ s .last
     → l ≤ s .literals
@@ -56,25 +53,15 @@ literals-within b s at l h g few =
 
 -- ---- one record more
 
--- the numbers after the record at a position: a head, a literal, a constraint
-abbrev pub headed : List ℕ → ℕ → Progress
-headed b at = record { last = headRank; n = u32 b (at + 6); p = u16 b (at + 6 + 4); q = u16 b (at + 6 + 6); literals = 0; constraints = 0 }
+abbrev pub after : List ℕ → Numbers → ℕ → Numbers
+after b s at = byRank (rankOf (kind b at)) (headed b at) (andLiteral s) (andConstraint s (rankOf (kind b at)))
 
-abbrev pub withLiteral : Progress → Progress
-withLiteral s = record { last = literalRank; n = s .n; p = s .p; q = s .q; literals = s .literals + 1; constraints = s .constraints }
-
-abbrev pub withConstraint : Progress → ℕ → Progress
-withConstraint s r = record { last = r; n = s .n; p = s .p; q = s .q; literals = s .literals; constraints = s .constraints + 1 }
-
-abbrev pub after : List ℕ → Progress → ℕ → Progress
-after b s at = byRank (rankOf (kind b at)) (headed b at) (withLiteral s) (withConstraint s (rankOf (kind b at)))
-
-module _ (b : List ℕ) (s : Progress) (at : ℕ) (w : NextAt b s at) where
+module _ (b : List ℕ) (s : Numbers) (at : ℕ) (w : NextAt b s at) where
   abbrev rank : ℕ
   rank = rankOf (kind b at)
 
-  no-fault : Passed (w .greatest) b (progressOf b s) at
-  no-fault = passed (w .greatest) b (progressOf b s) at (w .formed)
+  no-fault : Passed (w .greatest) b (readTo b s) at
+  no-fault = passed (w .greatest) b (readTo b s) at (w .formed)
 
   behind : (rank ≡ headRank → ⊥) → Behind (w .greatest) (s .last) (length (texts b (s .literals) literalsFrom)) rank
   behind x = behind-head _ _ _ _ (no-fault .in-place) x
@@ -90,17 +77,17 @@ module _ (b : List ℕ) (s : Progress) (at : ℕ) (w : NextAt b s at) where
   constraint-here : (rank ≡ headRank → ⊥) → at ≡ skip b (s .constraints) (skip b (s .literals) literalsFrom)
   constraint-here x = w .stands .ends-here (behind x .head-read)
 
-  pub after-advanced : progressOf b (after b s at) ≡ questionAdvanced b (progressOf b s) at
+  pub after-advanced : readTo b (after b s at) ≡ questionAdvanced b (readTo b s) at
   after-advanced = go (ℕ-discrete rank headRank) (ℕ-discrete rank literalRank)
     where
-      go : Dec (rank ≡ headRank) → Dec (rank ≡ literalRank) → progressOf b (after b s at) ≡ questionAdvanced b (progressOf b s) at
-      go (yes k) d = rw (eq-eqb _ _ k) (read-head b (progressOf b s) at k)
+      go : Dec (rank ≡ headRank) → Dec (rank ≡ literalRank) → readTo b (after b s at) ≡ questionAdvanced b (readTo b s) at
+      go (yes k) d = rw (eq-eqb _ _ k) (read-head b (readTo b s) at k)
       go (no x) (yes k) =
           let (here, none) = literal-here k in
-          rw (ne-eqb _ _ x, eq-eqb _ _ k, none) (read-literal b (s .last) (s .n) (s .p) (s .q) (s .literals) at k here)
+          rw (ne-eqb _ _ x, eq-eqb _ _ k) (read-literal b s at k none here)
       go (no x) (no y) =
           rw (ne-eqb _ _ x, ne-eqb _ _ y)
-          (read-constraint b (s .last) (s .n) (s .p) (s .q) (s .literals) (s .constraints) at (ne-eqb _ _ x) (ne-eqb _ _ y) (constraint-here x))
+          (read-constraint b s at (ne-eqb _ _ x) (ne-eqb _ _ y) (constraint-here x))
 
   -- a head that was read
   head-here : rank ≡ headRank → (at ≡ 0) × Head b (at + 6) (size b at)
@@ -126,13 +113,14 @@ module _ (b : List ℕ) (s : Progress) (at : ℕ) (w : NextAt b s at) where
         few-literals = omega arith;
         counted = omega arith;
         nothing-yet = λ z. absurd (omega arith);
+        head-ends = λ _. subst (λ z. next b z ≡ literalsFrom) first (omega (arith, first, f .eight));
         ends-here = λ _. omega (arith, first, f .eight);
         literals-first = λ _. refl;
         literals-stand = λ j l. absurd (omega arith);
         constraints-stand = λ j l. absurd (omega arith);
       }
 
-  after-literal : rank ≡ literalRank → StandsTo (w .greatest) b (withLiteral s) (next b at)
+  after-literal : rank ≡ literalRank → StandsTo (w .greatest) b (andLiteral s) (next b at)
   unfolding skip
   after-literal k =
       let other : (rank ≡ headRank → ⊥) = λ z. omega arith in
@@ -159,6 +147,7 @@ module _ (b : List ℕ) (s : Progress) (at : ℕ) (w : NextAt b s at) where
         few-literals = omega (arith, g .few-literals k, length-texts b (s .literals) literalsFrom);
         counted = omega (arith, w .stands .counted);
         nothing-yet = λ z. absurd (omega arith);
+        head-ends = λ _. w .stands .head-ends (g .head-read);
         ends-here = λ _. there ∙ ap (λ m. skip b m (skip b (s .literals + 1) literalsFrom)) (sym none);
         literals-first = λ _. none;
         literals-stand =
@@ -166,7 +155,7 @@ module _ (b : List ℕ) (s : Progress) (at : ℕ) (w : NextAt b s at) where
         constraints-stand = λ j l. absurd (omega (arith, none, l));
       }
 
-  after-constraint : (rank ≡ headRank → ⊥) → (rank ≡ literalRank → ⊥) → StandsTo (w .greatest) b (withConstraint s rank) (next b at)
+  after-constraint : (rank ≡ headRank → ⊥) → (rank ≡ literalRank → ⊥) → StandsTo (w .greatest) b (andConstraint s rank) (next b at)
   after-constraint x y =
       let g = behind x in
       let from : ℕ = skip b (s .literals) literalsFrom in
@@ -187,6 +176,7 @@ module _ (b : List ℕ) (s : Progress) (at : ℕ) (w : NextAt b s at) where
         few-literals = w .stands .few-literals;
         counted = omega (arith, w .stands .counted);
         nothing-yet = λ z. absurd (omega arith);
+        head-ends = λ _. w .stands .head-ends (g .head-read);
         ends-here = λ _. there;
         literals-first = λ l. absurd (omega (arith, g .at-least, y));
         literals-stand = w .stands .literals-stand;
@@ -204,16 +194,16 @@ module _ (b : List ℕ) (s : Progress) (at : ℕ) (w : NextAt b s at) where
       go (no x) (no y) = rw (ne-eqb _ _ x, ne-eqb _ _ y) (after-constraint x y)
 
   -- and so do the numbers that are known to be those after the record
-  pub advanced-stands : (t : Progress) → progressOf b t ≡ questionAdvanced b (progressOf b s) at → StandsTo (w .greatest) b t (next b at)
-  advanced-stands t g = subst (λ (u : Progress). StandsTo (w .greatest) b u (next b at)) (same-numbers b (after b s at) t (after-advanced ∙ sym g)) after-stands
+  pub advanced-stands : (t : Numbers) → readTo b t ≡ questionAdvanced b (readTo b s) at → StandsTo (w .greatest) b t (next b at)
+  advanced-stands t g = subst (λ (u : Numbers). StandsTo (w .greatest) b u (next b at)) (same-numbers b (after b s at) t (after-advanced ∙ sym g)) after-stands
 
 -- ---- all records
 
 -- nothing was read yet
-abbrev pub begun : Progress
+abbrev pub begun : Numbers
 begun = record { last = 0; n = 0; p = 0; q = 0; literals = 0; constraints = 0 }
 
-pub begun-fresh : (b : List ℕ) → progressOf b begun ≡ unread
+pub begun-fresh : (b : List ℕ) → readTo b begun ≡ unread
 unfolding texts constraintsAt
 begun-fresh b = refl
 
@@ -227,6 +217,7 @@ begun-stands greatest b = record {
   few-literals = omega arith;
   counted = omega arith;
   nothing-yet = λ _. refl;
+  head-ends = λ z. absurd (omega arith);
   ends-here = λ z. absurd (omega arith);
   literals-first = λ _. refl;
   literals-stand = λ j l. absurd (omega arith);
@@ -234,48 +225,50 @@ begun-stands greatest b = record {
 }
 
 -- a record without fault in a manner is the next one
-abbrev pub next-at : (m : format.Manner) {b : List ℕ} {s : Progress} {at : ℕ}
+abbrev pub next-at : (m : Manner) {b : List ℕ} {s : Numbers} {at : ℕ}
     → StandsTo (m .greatest) b s at
-    → questionFault m b (progressOf b s) at ≡ 0
+    → questionFault m b (readTo b s) at ≡ 0
     → NextAt b s at
-next-at m {b} {s} {at} h e = record { greatest = m .greatest; stands = h; formed = uncrowded m b (progressOf b s) at e .0 }
+next-at m {b} {s} {at} h e = record { greatest = m .greatest; stands = h; formed = uncrowded m b (readTo b s) at e .0 }
 
-module _ (m : format.Manner) where
-  abbrev test : List ℕ → format.Progress → ℕ → ℕ
+module _ (m : Manner) where
+  abbrev test : List ℕ → Progress → ℕ → ℕ
   test = questionFault m
 
   -- where reading ended
-  abbrev pub Ends : List ℕ → Progress → ℕ → Type 0
+  abbrev pub Ends : List ℕ → Numbers → ℕ → Type 0
   Ends b t to = StandsTo (m .greatest) b t to × (to + 6 ≤ length b)
 
-  read-stands : (d : ℕ) (b : List ℕ) (s t : Progress) (r at to q : ℕ) → length b ≤ at + d → StandsTo (m .greatest) b s at
-      → readOn test b (progressOf b s) r at ≡ format.Ended (progressOf b t) to q → Ends b t to
-  read-stands zero b s t r at to q l h e = let g = read-none test b (progressOf b s) r at (omega arith) in clash cc
-  read-stands (suc d) b s t r at to q l h e =
-      go (leb (at + 6) (length b)) (ending (kind b at)) (test b (progressOf b s) at) refl refl refl
-      (λ k. read-stands d b (after b s at) t (suc r) (next b at) to q (omega arith) (after-stands b s at (next-at m h k)))
+  -- what was read are numbers that stand
+  abbrev pub Stood : List ℕ → Progress → ℕ → Type 0
+  Stood b p to = (t : Numbers) × (p ≡ readTo b t) × Ends b t to
+
+  read-stands : (d : ℕ) (b : List ℕ) (s : Numbers) (p : Progress) (r at to q : ℕ) → length b ≤ at + d → StandsTo (m .greatest) b s at
+      → readOn test b (readTo b s) r at ≡ Ended p to q → Stood b p to
+  read-stands zero b s p r at to q l h e = let g = read-none test b (readTo b s) r at (omega arith) in clash cc
+  read-stands (suc d) b s p r at to q l h e =
+      go (leb (at + 6) (length b)) (ending (kind b at)) (test b (readTo b s) at) refl refl refl
+      (λ k. read-stands d b (after b s at) p (suc r) (next b at) to q (omega arith) (after-stands b s at (next-at m h k)))
     where
-      go : (x y : Bool) (f : ℕ) → leb (at + 6) (length b) ≡ x → ending (kind b at) ≡ y → test b (progressOf b s) at ≡ f
-          → (test b (progressOf b s) at ≡ 0
-          → readOn test b (progressOf b (after b s at)) (suc r) (next b at) ≡ format.Ended (progressOf b t) to q
-          → Ends b t to)
-          → Ends b t to
-      go false y f ex ey ef later = let g = read-none test b (progressOf b s) r at (leb-false _ _ ex) in clash cc
+      go : (x y : Bool) (f : ℕ) → leb (at + 6) (length b) ≡ x → ending (kind b at) ≡ y → test b (readTo b s) at ≡ f
+          → (test b (readTo b s) at ≡ 0
+          → readOn test b (readTo b (after b s at)) (suc r) (next b at) ≡ Ended p to q
+          → Stood b p to)
+          → Stood b p to
+      go false y f ex ey ef later = let g = read-none test b (readTo b s) r at (leb-false _ _ ex) in clash cc
       go true true f ex ey ef later =
-          let g = read-ended test b (progressOf b s) r at (leb-true _ _ ex) ey in
+          let g = read-ended test b (readTo b s) r at (leb-true _ _ ex) ey in
           let here : at ≡ to = cc in
-          let known : progressOf b s ≡ progressOf b t = cc in (
-            subst (λ (u : Progress). StandsTo (m .greatest) b u to) (same-numbers b s t known) (subst (StandsTo (m .greatest) b s) here h),
-            subst (λ z. z + 6 ≤ length b) here (leb-true _ _ ex),
-          )
-      go true false (suc f) ex ey ef later = let g = read-stopped test b (progressOf b s) r at f (leb-true _ _ ex) ey ef in clash cc
+          let known : p ≡ readTo b s = cc in
+          (s, known, (subst (StandsTo (m .greatest) b s) here h, subst (λ z. z + 6 ≤ length b) here (leb-true _ _ ex)))
+      go true false (suc f) ex ey ef later = let g = read-stopped test b (readTo b s) r at f (leb-true _ _ ex) ey ef in clash cc
       go true false zero ex ey ef later =
-          later ef (ap (λ (u : format.Progress). readOn test b u (suc r) (next b at)) (after-advanced b s at (next-at m h ef))
-          ∙ sym (read-more test b (progressOf b s) r at (leb-true _ _ ex) ey ef)
+          later ef (ap (λ (u : Progress). readOn test b u (suc r) (next b at)) (after-advanced b s at (next-at m h ef))
+          ∙ sym (read-more test b (readTo b s) r at (leb-true _ _ ex) ey ef)
           ∙ e)
 
   -- a question is read from a ticket that is not too long
-  pub question-short : (b : List ℕ) (t : format.Progress) (to q : ℕ) → readIn m b ≡ format.Ended t to q → length b ≤ ticketBytes
+  pub question-short : (b : List ℕ) (t : Progress) (to q : ℕ) → readIn m b ≡ Ended t to q → length b ≤ ticketBytes
   question-short b t to q e = go (leb (length b) ticketBytes) refl
     where
       go : (x : Bool) → leb (length b) ticketBytes ≡ x → length b ≤ ticketBytes
@@ -283,24 +276,16 @@ module _ (m : format.Manner) where
       go true ex = leb-true _ _ ex
 
   -- it stands in the bytes, up to the six leading bytes where reading ended
-  pub question-stands : (b : List ℕ) (t : Progress) (to q : ℕ) → readIn m b ≡ format.Ended (progressOf b t) to q → Ends b t to
+  pub question-stood : (b : List ℕ) (p : Progress) (to q : ℕ) → readIn m b ≡ Ended p to q → Stood b p to
+  question-stood b p to q e =
+      read-stands (length b) b begun p 0 0 to q (omega arith) (begun-stands (m .greatest) b)
+      (ap (λ (u : Progress). readOn test b u 0 0) (begun-fresh b) ∙ sym (read-begin test b (question-short b p to q e)) ∙ e)
+
+  pub question-stands : (b : List ℕ) (t : Numbers) (to q : ℕ) → readIn m b ≡ Ended (readTo b t) to q → Ends b t to
   question-stands b t to q e =
-      read-stands (length b) b begun t 0 0 to q (omega arith) (begun-stands (m .greatest) b)
-      (ap (λ (u : format.Progress). readOn test b u 0 0) (begun-fresh b) ∙ sym (read-begin test b (question-short b (progressOf b t) to q e)) ∙ e)
+      let (s, known, ends) = question-stood b (readTo b t) to q e in
+      subst (λ (u : Numbers). Ends b u to) (sym (same-numbers b t s known)) ends
 
   -- where 10 is looked for, all its constraints find room on a branch
-  pub question-few : m .limited ≡ true → (b : List ℕ) (t : Progress) (to q : ℕ) → readIn m b ≡ format.Ended (progressOf b t) to q → t .constraints ≤ factLimit
+  pub question-few : m .limited ≡ true → (b : List ℕ) (t : Numbers) (to q : ℕ) → readIn m b ≡ Ended (readTo b t) to q → t .constraints ≤ factLimit
   question-few l b t to q e = omega (arith, read-few m l b e, length-constraints b (t .constraints) (skip b (t .literals) literalsFrom))
-
-  pub question-posed : m .limited ≡ true
-      → (b : List ℕ) (t : Progress) (to q : ℕ)
-      → readIn m b ≡ format.Ended (progressOf b t) to q
-      → headRank ≤ t .last
-      → PosedTo (m .greatest) b t
-  question-posed l b t to q e h = record {
-    to = to;
-    stands = question-stands b t to q e .0;
-    head = h;
-    short = question-short b (progressOf b t) to q e;
-    few-constraints = question-few l b t to q e;
-  }
