@@ -23,7 +23,7 @@ use Rattle.format.specs.Answer.{encode, assignmentOf}
 use Rattle.format.specs.Checking.{Outcome, Refused, NoSolution, Strings, largeEnough, verdict}
 use Rattle.format.specs.ProperForm.{ProperNo, ProperStrings, steps, stepsWithChild}
 use Rattle.format.specs.Judging.{Judging, Judged, judging, Judgement, Refusal, AllMet, Unmet, said}
-use Rattle.format.specs.Judging.{Side, ofQuestion, ofAnswer, Shown, nothingShown, answerShown, shownBy, partWithin}
+use Rattle.format.specs.Judging.{Side, ofQuestion, ofAnswer, Shown, shownBy, partWithin}
 
 abbrev pub Iff : Type 0 → Type 0 → Type 0
 Iff A B = (A → B) × (B → A)
@@ -91,15 +91,15 @@ pub record ShowsRecord (side : Side) (bytes : List ℕ) (r : ℕ) (s : Shown) : 
 
 -- what is shown of the question b and the answer v lies within them, so a record shown is whole. For an unmet constraint it is the record behind the head,
 -- the literals and the constraints before it, which is read as that constraint; for 16 it is the answer's record of that number; for 15 the whole answer; for
--- every other outcome nothing
+-- every other outcome the empty part at the question's first byte
 pub record Shows (b v : List ℕ) (g : Judging) (s : Shown) : Type 0 where
   pub lies-within : partWithin (length b) (length v) s ≡ true
   pub unmet : (u : Question) (a : Assignment) (k : ℕ) → g ≡ Judged u a → said g ≡ Unmet k
       → ShowsRecord ofQuestion b (1 + length (u .literals) + k) s × (getElem? (u .constraints) k ≡ some (constraintAt b (s .from)))
   pub out-of-range : (r : ℕ) → said g ≡ Refusal 16 r → ShowsRecord ofAnswer v r s
-  pub unformed : (r : ℕ) → said g ≡ Refusal 15 r → s ≡ answerShown v
-  pub refused : (c r : ℕ) → said g ≡ Refusal c r → c ≢ 15 → c ≢ 16 → s ≡ nothingShown
-  pub all-met : said g ≡ AllMet → s ≡ nothingShown
+  pub unformed : (r : ℕ) → said g ≡ Refusal 15 r → s ≡ record { side = ofAnswer; from = 0; to = length v }
+  pub refused : (c r : ℕ) → said g ≡ Refusal c r → c ≢ 15 → c ≢ 16 → s ≡ record { side = ofQuestion; from = 0; to = 0 }
+  pub all-met : said g ≡ AllMet → s ≡ record { side = ofQuestion; from = 0; to = 0 }
 
 abbrev pub TH-L1 : Type 0
 TH-L1 = (b v : List ℕ) → Shows b v (judging b v) (shownBy b v (judging b v))

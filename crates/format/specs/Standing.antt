@@ -1,4 +1,4 @@
--- Where the records of a question stand that was read up to a position, and what holds of each.
+-- Where the records of a question stand that was read up to a position, and what holds of each. No demand names it: it serves contracts and proofs.
 use Prim.Native.Nat.{ℕ, _+_, _*_, _%_, _≤_, _<_}
 use mathlib.Core.Path.{_≡_}
 use mathlib.Core.Bool.{true}
