@@ -1,11 +1,14 @@
-/* A host program, in C and C++ alike: checks the ticket in a file and, when it brings strings, judges them by the same ticket's question. Given the file of an
-   answer too, it judges that answer by the ticket's question instead. */
+/* A host program, in C and C++ alike: says how much checking the ticket in a file needs, checks it and, when it brings strings, judges them by the same ticket's
+   question. Given the file of an answer too, it judges that answer by the ticket's question instead. */
 
 #include <inttypes.h>
 #include <stdio.h>
 #include <stdlib.h>
 
 #include "nuldwich.h"
+
+/* From so many steps on this office puts a ticket off to the evening. The number is the host's own choice. */
+#define STEPS_FOR_THE_EVENING 200
 
 static uint32_t u32_at(const uint8_t *bytes) {
     return (uint32_t)bytes[0] | (uint32_t)bytes[1] << 8 | (uint32_t)bytes[2] << 16 | (uint32_t)bytes[3] << 24;
@@ -62,6 +65,22 @@ static void judge_and_print(const uint8_t *question, size_t question_len, const 
     print_shown(judgement, question, answer);
 }
 
+/* What a host may do with a ticket that has these needs. */
+static const char *advice(nuldwich_needs needs) {
+    if (needs.facts > NULDWICH_MOST_FACTS || needs.pending > NULDWICH_MOST_PENDING)
+        return "over the limits, it will be refused";
+    return needs.steps < STEPS_FOR_THE_EVENING ? "check it now" : "check it in the evening";
+}
+
+/* Prints how much checking a ticket needs. One that is refused here is refused by check too, perhaps at an earlier record. */
+static void print_needs(const uint8_t *ticket, size_t ticket_len) {
+    nuldwich_needs needs = nuldwich_need(ticket, ticket_len);
+    if (needs.number == NULDWICH_DONE)
+        printf("needs: steps %" PRIu64 ", facts %" PRIu64 ", pending splits %" PRIu64 ": %s\n", needs.steps, needs.facts, needs.pending, advice(needs));
+    else
+        printf("needs: not counted, refused at record %" PRIu64 " (%" PRIu64 ")\n", needs.record, needs.number);
+}
+
 /* Checks a ticket, prints the verdict and, for strings, what judging says of them. */
 static void check_and_print(const uint8_t *ticket, size_t ticket_len) {
     uint8_t answer[NULDWICH_ANSWER_BYTES];
@@ -112,6 +131,7 @@ int main(int argc, char **argv) {
     size_t ticket_len, answer_len;
     uint8_t *ticket = read_file(argv[1], &ticket_len);
     if (argc == 2) {
+        print_needs(ticket, ticket_len);
         check_and_print(ticket, ticket_len);
     } else {
         uint8_t *answer = read_file(argv[2], &answer_len);

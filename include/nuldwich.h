@@ -1,4 +1,4 @@
-/* The C interface of nuldwich: checking solver tickets and judging answers. For C99 and C++11, and later. */
+/* The C interface of nuldwich: checking solver tickets, saying beforehand how much that needs, and judging answers. For C99 and C++11, and later. */
 
 #ifndef NULDWICH_H
 #define NULDWICH_H
@@ -18,8 +18,8 @@ extern "C" {
  *                          What was accepted stays accepted, with the same answer; what was refused may be accepted, or get another number
  * at a new major version   structs may get further fields behind those they have, and what is accepted may change
  */
-#define NULDWICH_VERSION 2000
-#define NULDWICH_VERSION_STRING "2.0"
+#define NULDWICH_VERSION 2001
+#define NULDWICH_VERSION_STRING "2.1"
 
 /* The least size of the answer buffer that check is lent, in bytes. It holds every answer. */
 #define NULDWICH_ANSWER_BYTES 4268
@@ -27,12 +27,17 @@ extern "C" {
 /* The greatest size of a ticket or question, in bytes. */
 #define NULDWICH_TICKET_BYTES 32768
 
-/* The stack that a call uses at most, in bytes. Neither operation uses the heap. */
+/* The most facts that may stand on a branch, and the most splits that may be pending, for check to accept a ticket. */
+#define NULDWICH_MOST_FACTS 128
+#define NULDWICH_MOST_PENDING 64
+
+/* The stack that a call uses at most, in bytes. No operation uses the heap. */
 #define NULDWICH_CHECK_STACK_BYTES 81920
 #define NULDWICH_JUDGE_STACK_BYTES 8192
+#define NULDWICH_NEED_STACK_BYTES 32768
 
 /* Numbers of a reply that are no refusals. */
-#define NULDWICH_DONE 0    /* check: the ticket is accepted; judge: all constraints are met */
+#define NULDWICH_DONE 0    /* check: the ticket is accepted; judge: all constraints are met; nuldwich_need: the counts are there */
 #define NULDWICH_UNMET 255 /* judge: record names the lowest-numbered constraint that is not met */
 
 /* Claims of an accepted ticket: the reply's record when check returns number 0. */
@@ -122,7 +127,28 @@ typedef struct {
 } nuldwich_judgement;
 
 /*
- * Neither operation keeps a pointer or any state between calls, so both may be called from several threads at once. No pointer is null, also where a
+ * What nuldwich_need returns.
+ *
+ * number 0           record is 0, and
+ *                    steps    is the number of step records
+ *                    facts    the most facts on any branch; the constraints of the question are facts too
+ *                    pending  the most splits with a child not yet begun at one time; 0 where the claim is strings
+ * number 2 to 7, 11  refused; record is the first faulty record, and 0 for 2; the three counts are 0
+ *
+ * Every ticket that check accepts has counts, and checking meets exactly these numbers. So check refuses a ticket with facts over NULDWICH_MOST_FACTS or pending
+ * over NULDWICH_MOST_PENDING. It may refuse others that have counts, since no step is tested here for whether it fits. A ticket that is refused here is refused
+ * by check too; with an answer buffer that is large enough, at this record with the same number, or at an earlier record.
+ */
+typedef struct {
+    uint64_t number;
+    uint64_t record;
+    uint64_t steps;
+    uint64_t facts;
+    uint64_t pending;
+} nuldwich_needs;
+
+/*
+ * No operation keeps a pointer or any state between calls, so all may be called from several threads at once. No pointer is null, also where a
  * length is 0. The answer buffer that check is lent overlaps no byte of the ticket.
  */
 
@@ -147,7 +173,15 @@ nuldwich_reply check(const uint8_t *ticket, size_t ticket_len, uint8_t *answer, 
  */
 nuldwich_judgement judge(const uint8_t *question, size_t question_len, const uint8_t *answer, size_t answer_len);
 
-/* The same two under names with the library's prefix, for callers whose own names should not meet short ones. */
+/*
+ * Says how much checking a ticket needs, for a host that puts large tickets off to the evening: the time that check takes grows with steps, and with facts.
+ * Nothing is written.
+ *
+ * ticket, ticket_len   the ticket's bytes
+ */
+nuldwich_needs nuldwich_need(const uint8_t *ticket, size_t ticket_len);
+
+/* check and judge under names with the library's prefix, for callers whose own names should not meet short ones. */
 static inline nuldwich_reply nuldwich_check(const uint8_t *ticket, size_t ticket_len, uint8_t *answer, size_t answer_len) {
     return check(ticket, ticket_len, answer, answer_len);
 }

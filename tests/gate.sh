@@ -49,6 +49,7 @@ if [ "$failed" -eq 0 ]; then
     single build -p compare --features library
     counted "$CARGO_TARGET_DIR/release/compare" judge
     counted "$CARGO_TARGET_DIR/release/compare" check
+    counted "$CARGO_TARGET_DIR/release/compare" need
     counted "$CARGO_TARGET_DIR/release/compare" program target/bin/verdict
     single build -p show --features library
     counted "$CARGO_TARGET_DIR/release/show_test"

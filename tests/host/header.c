@@ -1,5 +1,5 @@
-/* Holds what include/nuldwich.h says of the library against it: the version, the words for refusals and, on the tickets named as arguments, what judge shows and
-   the stack that a call uses. The last line is 'N passed, M failed'. */
+/* Holds what include/nuldwich.h says of the library against it: the version, the words for refusals and, on the tickets named as arguments, what judge shows, what
+   nuldwich_need returns beside check, and the stack that a call uses. The last line is 'N passed, M failed'. */
 
 #define _XOPEN_SOURCE 700
 
@@ -14,11 +14,15 @@
 #define STACK_BYTES (1 << 18)
 #define PAINT 0xA5
 
+/* Of a ticket up to this size each byte is changed. */
+#define SMALL_TICKET 200
+
 static uint8_t stack[STACK_BYTES];
 static ucontext_t caller, callee;
 static uint8_t ticket[NULDWICH_TICKET_BYTES + 1], answer[NULDWICH_ANSWER_BYTES];
 static size_t ticket_len, answer_len;
 static nuldwich_reply reply;
+static nuldwich_needs needs;
 static unsigned passed, failed;
 
 static void count(int good, const char *what) {
@@ -75,6 +79,8 @@ static size_t constraints_start(void) {
 static void run_check(void) { reply = nuldwich_check(ticket, ticket_len, answer, sizeof answer); }
 
 static void run_judge(void) { nuldwich_judge(ticket, ticket_len, answer, answer_len); }
+
+static void run_need(void) { needs = nuldwich_need(ticket, ticket_len); }
 
 /* How many bytes of a painted stack a call changes, down to the lowest. */
 static size_t stack_used(void (*call)(void)) {
@@ -162,20 +168,78 @@ static void hold_shown(char **paths) {
     count(all && met[NULDWICH_REFUSED_CUT], "judge was not brought to every part that it may show");
 }
 
-/* Both operations stay within their stack on every ticket. */
-static void hold_stack(char **paths) {
-    size_t check_most = 0, judge_most = 0;
+/* The step records of a ticket all of whose records are whole. */
+static uint64_t step_records(void) {
+    uint64_t steps = 0;
+    for (size_t start = 0; start < ticket_len; start = record_start(ticket, start, 1))
+        steps += ticket[start + 4] == 6 && ticket[start + 5] == 0;
+    return steps;
+}
+
+/* Whether the ticket's needs are what the header says of them, beside what check returns. */
+static int needs_as_said(void) {
+    int accepted = reply.number == NULDWICH_DONE;
+    int within = needs.facts <= NULDWICH_MOST_FACTS && needs.pending <= NULDWICH_MOST_PENDING;
+    int same = reply.number == needs.number && reply.record == needs.record;
+    if (needs.number == NULDWICH_DONE)
+        return needs.record == 0 && needs.steps == step_records() && (within || !accepted);
+    return !accepted && (same || reply.record < needs.record) && needs.steps == 0 && needs.facts == 0 && needs.pending == 0;
+}
+
+/* Checks the ticket and counts its needs; met counts by the number of these. */
+static int needed_as_said(unsigned met[256]) {
+    run_check();
+    run_need();
+    met[needs.number & 255]++;
+    return needs_as_said();
+}
+
+/* Whether a number is one of nuldwich_need's. */
+static int is_of_need(unsigned number) { return number == NULDWICH_DONE || (2 <= number && number <= 7) || number == NULDWICH_REFUSED_OPEN; }
+
+/* On every ticket, and on the small ones with each of their bytes changed. */
+static void hold_needs(char **paths) {
+    unsigned met[256] = {0};
+    int good = 1, all = 1, over = 0;
     for (; *paths != NULL; paths++) {
         read_ticket(*paths);
-        size_t check_used = stack_used(run_check);
-        answer_len = answer_length();
-        size_t judge_used = stack_used(run_judge);
-        check_most = check_used > check_most ? check_used : check_most;
-        judge_most = judge_used > judge_most ? judge_used : judge_most;
+        good &= needed_as_said(met);
+        over |= needs.facts > NULDWICH_MOST_FACTS && needs.pending > NULDWICH_MOST_PENDING;
+        for (size_t at = 0; ticket_len <= SMALL_TICKET && at < ticket_len; at++) {
+            ticket[at] ^= 1;
+            good &= needed_as_said(met);
+            ticket[at] ^= 1;
+        }
     }
-    printf("stack: check %zu, judge %zu bytes\n", check_most, judge_most);
-    count(0 < check_most && check_most <= NULDWICH_CHECK_STACK_BYTES, "check uses more stack than is said");
-    count(0 < judge_most && judge_most <= NULDWICH_JUDGE_STACK_BYTES, "judge uses more stack than is said");
+    for (unsigned number = 0; number < 256; number++)
+        all &= (met[number] > 0) == is_of_need(number);
+    count(good, "nuldwich_need returns another thing than is said");
+    count(all && over, "nuldwich_need was not brought to every number and over the limits, or returned a number that is not its own");
+}
+
+/* A call of the operation may use so much stack. */
+static void hold_most(const char *operation, size_t most, size_t said) {
+    char words[64];
+    snprintf(words, sizeof words, "%s uses more stack than is said", operation);
+    printf("stack: %s %zu bytes\n", operation, most);
+    count(0 < most && most <= said, words);
+}
+
+static size_t larger(size_t one, size_t other) { return one > other ? one : other; }
+
+/* All operations stay within their stack on every ticket. */
+static void hold_stack(char **paths) {
+    size_t check_most = 0, judge_most = 0, need_most = 0;
+    for (; *paths != NULL; paths++) {
+        read_ticket(*paths);
+        check_most = larger(check_most, stack_used(run_check));
+        answer_len = answer_length();
+        judge_most = larger(judge_most, stack_used(run_judge));
+        need_most = larger(need_most, stack_used(run_need));
+    }
+    hold_most("check", check_most, NULDWICH_CHECK_STACK_BYTES);
+    hold_most("judge", judge_most, NULDWICH_JUDGE_STACK_BYTES);
+    hold_most("nuldwich_need", need_most, NULDWICH_NEED_STACK_BYTES);
 }
 
 int main(int argc, char **argv) {
@@ -183,6 +247,7 @@ int main(int argc, char **argv) {
     hold_version();
     hold_words();
     hold_shown(argv + 1);
+    hold_needs(argv + 1);
     hold_stack(argv + 1);
     printf("%u passed, %u failed\n", passed, failed);
     return failed != 0;

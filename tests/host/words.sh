@@ -1,5 +1,6 @@
 #!/usr/bin/env bash
-# What the host program named by the argument says of every example, and of some answers on file: expected.txt has it on file.
+# What the host program named by the argument says of every example, of some answers on file, and of some tickets that need more than checking takes or are refused:
+# expected.txt has it on file.
 set -eu
 host=$(realpath "$1")
 cd "$(dirname "$0")/../../examples"
@@ -12,4 +13,9 @@ for name in all-met-shows-an-empty-part-of-the-question question-refusal-shows-n
     15-shows-the-whole-answer 15-with-an-empty-answer 16-shows-the-answer-s-record 16-shows-the-integers-record; do
     echo "$name:"
     "$host" "$name.question" "$name.answer"
+done
+cd ../../L2/need
+for name in 65-pending-splits 129-constraints-never-give-10 claim-2-closing-rules-close-nothing step-after-the-last-branch-closed 2; do
+    echo "$name:"
+    "$host" "$name.ticket"
 done

@@ -1,16 +1,17 @@
--- An instance has the shape that its step shows, and the walk over shapes is the walk over facts, counted.
+-- A step that fits has the shape that it shows, and the walk over shapes is the walk over facts, counted.
 use Prim.Native.Nat.{ℕ, zero, suc, _+_, _≤_}
 use native.Mathlib.Omega.{arith}
-use mathlib.Core.Path.{_≡_, refl, sym, _∙_, ap, ap₂}
-use mathlib.Core.Logic.{_≢_, inl, inr}
+use mathlib.Core.Path.{_≡_, refl, sym, _∙_, ap, ap₂, subst}
 use mathlib.Core.Bool.{Bool, true, false, not, _&&_}
-use mathlib.Core.Option.{some}
+use mathlib.Core.Option.{some, Option·getD}
 use mathlib.Core.List.{List, [], _∷_, _++_, map}
-use lib.ListN.{length, replicate, getElem?, length-append}
+use lib.ListN.{length, replicate, getElem?, length-append, length-replicate}
 use lib.Dec.{leb, eqb}
 use lib.IntN.{negsuc}
 use borrow.Author.Tests.{lt-leb}
 use Rattle.lists.proofs.Options.{some-injective, none-some}
+use Rattle.lists.specs.Lists.{All}
+use Rattle.lists.proofs.Lists.{element-map, all-replicate}
 use Rattle.calculus.specs.Alphabet.{characterCount, codeRanges}
 use Rattle.calculus.specs.Facts.{Question, Fact, same, notSame, isLiteral, arithmetic, ge, eq, ne, Branch}
 use Rattle.calculus.specs.Classes.{labels, sameClass, classLiteral, conflict}
@@ -18,12 +19,11 @@ use Rattle.calculus.specs.Chains.{varNode}
 use Rattle.calculus.specs.Steps.{Step, Sum, BranchOn, Apart, AConf, SConf, SProp, LIntro, LValid}
 use Rattle.calculus.specs.Steps.{CCollapse, CValid, CInj, Card, Join, pairCount, lastCount, shape}
 use Rattle.calculus.specs.LinearForms.{scale, eqIntegers}
-use Rattle.calculus.specs.Children.{codeChild, pairChildrenWith, pairChildren, boundChild}
+use Rattle.calculus.specs.Children.{childAt, codeChild, pairChildrenWith, pairChildren, boundChild}
 use Rattle.calculus.specs.Rules.{sumOf, divided, apartOf, isFalse, joinOf, neighbours, distinct, leastPower, lastChild, cardChildren, children}
-use Rattle.calculus.specs.Instances.{LastChild, Instance}
 use Rattle.calculus.specs.Walk.{Waiting, Walk, working, closed, wait, cutBack, enter}
-use Rattle.calculus.proofs.Alphabet.{some-character}
 use Rattle.calculus.proofs.Tests.{guard→, then→}
+use Rattle.calculus.proofs.Walks.{childTaken}
 
 recount : (cs : List (List Fact)) (j k : ℕ) → j ≡ k → map length cs ≡ replicate j 1 → map length cs ≡ replicate k 1
 recount cs j k e h = h ∙ ap (λ n. replicate n 1) e
@@ -43,70 +43,9 @@ pairs-sizes (x ∷ xs) more k h =
     recount (pairChildren (x ∷ xs) more) (length xs + (pairCount (length xs) + k)) ((length xs + pairCount (length xs)) + k) (omega arith)
     (pairs-with-sizes x xs (pairChildren xs more) (pairCount (length xs) + k) (pairs-sizes xs more k h))
 
-last-sizes : (u : Question) (x m : ℕ) (cs : List (List Fact)) → 1 ≤ u .n → LastChild u x m cs → map length cs ≡ replicate (lastCount (characterCount (u .n))) 1
-last-sizes u x m cs h (inl (e, p)) = ap (map length) p ∙ ap (λ n. replicate (lastCount n) 1) (sym e)
-last-sizes u x m cs h (inr (e, p)) = ap (map length) (p .adds) ∙ ap (λ k. replicate k 1) (sym (one-more (characterCount (u .n)) (some-character (u .n) h) e))
-  where
-    one-more : (n : ℕ) → 1 ≤ n → n ≢ 1 → lastCount n ≡ 1
-    one-more zero h f = absurd (omega arith)
-    one-more (suc zero) h f = absurd (f refl)
-    one-more (suc (suc n)) h f = refl
-
 codes-sizes : (u : Question) (x : ℕ) (rs : List (ℕ × ℕ)) → map length (map (codeChild u x) rs) ≡ map (λ r. 3) rs
 codes-sizes u x [] = refl
 codes-sizes u x (r ∷ rs) = ap (λ l. 3 ∷ l) (codes-sizes u x rs)
-
--- how many children, how many facts each adds, or that the rule closes
-pub instance-shape : (u : Question) → 1 ≤ u .n → (b : Branch) (st : Step) (cs : List (List Fact)) → Instance u b st cs → map length cs ≡ shape (u .n) st
-unfolding Instance shape
-instance-shape u h b (Sum d ts) cs i = ap (map length) (i .adds)
-instance-shape u h b (BranchOn e) cs i = ap (map length) i
-instance-shape u h b (Apart k) cs i = ap (map length) (i .adds)
-instance-shape u h b (AConf k) cs i = ap (map length) (i .closes)
-instance-shape u h b SConf cs i = ap (map length) (i .closes)
-instance-shape u h b (SProp f x y) cs i = ap (map length) (i .adds)
-instance-shape u h b (LIntro x) cs i = ap (map length) (i .adds)
-instance-shape u h b (LValid x) cs i = ap (map length) i
-instance-shape u h b (CCollapse x) cs i = ap (map length) (i .adds)
-instance-shape u h b (CValid x) cs i = ap (map length) i ∙ ap (λ l. 2 ∷ l) (codes-sizes u x (codeRanges (u .n)))
-instance-shape u h b (CInj x y) cs i = ap (map length) (i .adds)
-instance-shape u h b (Card []) cs i = absurd i
-instance-shape u h b (Card (x ∷ [])) cs i = absurd i
-instance-shape u h b (Card (x ∷ y ∷ xs)) cs i =
-    ap (map length) (i .adds)
-    ∙ pairs-sizes (x ∷ y ∷ xs) (i .last) (lastCount (characterCount (u .n))) (last-sizes u x (length (x ∷ y ∷ xs)) (i .last) h (i .last-child))
-instance-shape u h b (Join j k) cs i = ap (map length) (i .adds)
-
--- ---- the walk counted
-
-abbrev pub counted : Waiting Branch (List Fact) → Waiting ℕ ℕ
-counted s = record { mark = length (s .mark); child = length (s .child); rest = map length (s .rest) }
-
--- the numbers of facts on the branch and at each pending split
-abbrev pub count : Walk Branch (List Fact) → Walk ℕ ℕ
-count (working b ss) = working (length b) (map counted ss)
-count closed = closed
-
-wait-counted : (b : Branch) (cs : List (List Fact)) (ss : List (Waiting Branch (List Fact)))
-    → map counted (wait b cs ss) ≡ wait (length b) (map length cs) (map counted ss)
-wait-counted b [] ss = refl
-wait-counted b (c ∷ cs) ss = refl
-
-cut-back-counted : (ss : List (Waiting Branch (List Fact))) → count (cutBack _++_ ss) ≡ cutBack _+_ (map counted ss)
-cut-back-counted [] = refl
-cut-back-counted (s ∷ ss) = ap₂ working (length-append (s .mark) (s .child)) (wait-counted (s .mark) (s .rest) ss)
-
-enter-counted : (b : Branch) (cs : List (List Fact)) (ss : List (Waiting Branch (List Fact)))
-    → count (enter _++_ b cs ss) ≡ enter _+_ (length b) (map length cs) (map counted ss)
-enter-counted b [] ss = cut-back-counted ss
-enter-counted b (c ∷ cs) ss = ap₂ working (length-append b c) (wait-counted b cs ss)
-
--- a step that fits moves the walk over shapes just as the walk over facts
-pub shape-walks : (u : Question) → 1 ≤ u .n → (b : Branch) (st : Step) (cs : List (List Fact)) (ss : List (Waiting Branch (List Fact))) → Instance u b st cs
-    → count (enter _++_ b cs ss) ≡ enter _+_ (length b) (shape (u .n) st) (map counted ss)
-shape-walks u h b st cs ss i = enter-counted b cs ss ∙ ap (λ l. enter _+_ (length b) l (map counted ss)) (instance-shape u h b st cs i)
-
--- ---- the children that checking computes, on any branch
 
 last-count : (n : ℕ) → lastCount n ≡ elim (leb n 1) [ true ↦ 0 | false ↦ 1 ]
 last-count zero = refl
@@ -153,7 +92,7 @@ joined-shape (same x y) g e = absurd (none-some e)
 joined-shape (notSame x y) g e = absurd (none-some e)
 joined-shape (isLiteral x l) g e = absurd (none-some e)
 
--- a step that fits has the shape that it shows
+-- how many children, how many facts each adds, or that the rule closes
 pub children-shape : (u : Question) (b : Branch) (st : Step) (cs : List (List Fact)) → children u b st ≡ some cs → map length cs ≡ shape (u .n) st
 unfolding shape
 children-shape u b (Sum d ts) cs e =
@@ -175,3 +114,99 @@ children-shape u b (Join j k) cs e =
     let (f, _, e2) = then→ (getElem? b j) _ e in
     let (g, _, e3) = then→ (getElem? b k) _ e2 in
     joined-shape f g e3
+
+-- ---- the walk counted
+
+abbrev pub counted : Waiting Branch (List Fact) → Waiting ℕ ℕ
+counted s = record { mark = length (s .mark); child = length (s .child); rest = map length (s .rest) }
+
+-- the numbers of facts on the branch and at each pending split
+abbrev pub count : Walk Branch (List Fact) → Walk ℕ ℕ
+count (working b ss) = working (length b) (map counted ss)
+count closed = closed
+
+wait-counted : (b : Branch) (cs : List (List Fact)) (ss : List (Waiting Branch (List Fact)))
+    → map counted (wait b cs ss) ≡ wait (length b) (map length cs) (map counted ss)
+wait-counted b [] ss = refl
+wait-counted b (c ∷ cs) ss = refl
+
+cut-back-counted : (ss : List (Waiting Branch (List Fact))) → count (cutBack _++_ ss) ≡ cutBack _+_ (map counted ss)
+cut-back-counted [] = refl
+cut-back-counted (s ∷ ss) = ap₂ working (length-append (s .mark) (s .child)) (wait-counted (s .mark) (s .rest) ss)
+
+enter-counted : (b : Branch) (cs : List (List Fact)) (ss : List (Waiting Branch (List Fact)))
+    → count (enter _++_ b cs ss) ≡ enter _+_ (length b) (map length cs) (map counted ss)
+enter-counted b [] ss = cut-back-counted ss
+enter-counted b (c ∷ cs) ss = ap₂ working (length-append b c) (wait-counted b cs ss)
+
+-- under claim 1 a step that fits moves the walk over shapes just as the walk over facts
+pub shape-walks : (u : Question) (b : Branch) (st : Step) (cs : List (List Fact)) (ss : List (Waiting Branch (List Fact))) → children u b st ≡ some cs
+    → count (enter _++_ b cs ss) ≡ enter _+_ (length b) (shape (u .n) st) (map counted ss)
+shape-walks u b st cs ss e = enter-counted b cs ss ∙ ap (λ l. enter _+_ (length b) l (map counted ss)) (children-shape u b st cs e)
+
+child-map : {A B : Type 0} (f : A → B) (cs : List A) (k : ℕ) {c : A} → childAt cs k ≡ some c → childAt (map f cs) k ≡ some (f c)
+child-map f cs zero e = absurd (none-some e)
+child-map f cs (suc k) e = element-map f cs k e
+
+-- and under claim 2 the child taken adds as many facts as its shape says
+pub shape-takes : (u : Question) (b : Branch) (t : Step × ℕ) (c : List Fact) → childTaken u b t ≡ some c
+    → length (b ++ c) ≡ length b + Option·getD (childAt (shape (u .n) (t .0)) (t .1)) 0
+shape-takes u b t c e =
+    let (cs, f, g) = then→ (children u b (t .0)) (λ cs. childAt cs (t .1)) e in
+    length-append b c
+    ∙ ap (λ o. length b + Option·getD o 0) (sym (child-map length cs (t .1) g))
+    ∙ ap (λ s. length b + Option·getD (childAt s (t .1)) 0) (children-shape u b (t .0) cs f)
+
+-- ---- how many facts the children add
+
+threes : (rs : List (ℕ × ℕ)) → map {B = ℕ} (λ r. 3) rs ≡ replicate (length rs) 3
+threes [] = refl
+threes (r ∷ rs) = ap (λ l. 3 ∷ l) (threes rs)
+
+-- no child adds more than three
+pub shape-small : (n : ℕ) (st : Step) → All (λ k. k ≤ 3) (shape n st)
+unfolding shape
+shape-small n (Sum d ts) = (omega arith, tt)
+shape-small n (BranchOn e) = (omega arith, (omega arith, tt))
+shape-small n (Apart k) = (omega arith, (omega arith, tt))
+shape-small n (AConf k) = tt
+shape-small n SConf = tt
+shape-small n (SProp f x y) = (omega arith, tt)
+shape-small n (LIntro x) = (omega arith, tt)
+shape-small n (LValid x) = (omega arith, (omega arith, tt))
+shape-small n (CCollapse x) = (omega arith, tt)
+shape-small n (CValid x) =
+    (omega arith, subst (All (λ k. k ≤ 3)) (sym (threes (codeRanges n))) (all-replicate (λ k. k ≤ 3) (length (codeRanges n)) 3 (omega arith)))
+shape-small n (CInj x y) = (omega arith, (omega arith, (omega arith, tt)))
+shape-small n (Card xs) = all-replicate (λ k. k ≤ 3) (pairCount (length xs) + lastCount (characterCount n)) 1 (omega arith)
+shape-small n (Join j k) = (omega arith, tt)
+
+-- the children behind the first add alike
+abbrev pub Alike : List ℕ → Type 0
+Alike [] = Unit {0}
+Alike (c ∷ []) = Unit {0}
+Alike (c ∷ d ∷ ds) = ds ≡ replicate (length ds) d
+
+alike-behind : (c d k : ℕ) → Alike (c ∷ replicate k d)
+alike-behind c d zero = tt
+alike-behind c d (suc k) = ap (λ j. replicate j d) (sym (length-replicate k d))
+
+alike-all : (c k : ℕ) → Alike (replicate k c)
+alike-all c zero = tt
+alike-all c (suc k) = alike-behind c c k
+
+pub shape-alike : (n : ℕ) (st : Step) → Alike (shape n st)
+unfolding shape
+shape-alike n (Sum d ts) = tt
+shape-alike n (BranchOn e) = refl
+shape-alike n (Apart k) = refl
+shape-alike n (AConf k) = tt
+shape-alike n SConf = tt
+shape-alike n (SProp f x y) = tt
+shape-alike n (LIntro x) = tt
+shape-alike n (LValid x) = refl
+shape-alike n (CCollapse x) = tt
+shape-alike n (CValid x) = subst (λ l. Alike (2 ∷ l)) (sym (threes (codeRanges n))) (alike-behind 2 3 (length (codeRanges n)))
+shape-alike n (CInj x y) = refl
+shape-alike n (Card xs) = alike-all 1 (pairCount (length xs) + lastCount (characterCount n))
+shape-alike n (Join j k) = tt

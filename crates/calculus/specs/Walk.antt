@@ -1,4 +1,5 @@
--- The walk over a derivation under claim 1, whatever a branch and a child are: checking walks over facts, proper form over their numbers.
+-- The walk over a derivation under claim 1, whatever a branch and a child are: checking walks over facts; proper form and what a ticket will
+-- need, over their numbers.
 use mathlib.Core.List.{List, [], _∷_}
 
 -- a split with children pending, "that is, not yet begun": its mark, the next child, and those after it

@@ -28,7 +28,7 @@ use Rattle.branch.specs.declared.Branch as code
 use Rattle.branch.specs.Stack.{split, stack, latestOf}
 use Rattle.delimiters.specs.declared.Claim.{Claim}
 use Rattle.delimiters.specs.declared.Claim.the-variants.{NoSolution, Strings}
-use Rattle.delimiters.specs.Claims.{openUnder}
+use Rattle.delimiters.specs.Claims.{openUnder, endsAt}
 use Rattle.derivation.specs.State.{childOn, waitings, stateOf, triedAt, KeepsBelow}
 use Rattle.derivation.specs.Ok.{Rooted, AllPend, InOrder}
 use Rattle.derivation.specs.Actions.{numberOf, Follows, Acts}
@@ -39,9 +39,11 @@ use Rattle.derivation.proofs.Closing.{rooted-mark}
 use Rattle.derivation.proofs.Acting as acting
 use Rattle.derivation.proofs.Acting.{entered, same-rows, holds-closed, entered-closed, entered-next, extended, entered-one, split-up, few-split, entered-more}
 use Rattle.claims.specs.declared.Walked as walked
-use Rattle.claims.specs.Outcomes.{endsAt, firstUpto, walkedOf, LeafAt}
+use Rattle.claims.specs.Outcomes.{firstUpto, walkedOf, LeafAt}
 use Rattle.format.proofs.Faults.{not-both}
-use Rattle.claims.proofs.Turns.{turn-none, turn-faulty, turn-moved, turn-taken}
+use Rattle.format.proofs.StepTurns.{turn-none, turn-faulty, turn-stepped}
+use Rattle.steps.specs.Offered.{offered}
+use Rattle.steps.proofs.Numbers.{triedBy}
 
 -- no more than the question's constraints are known at first
 pub first-few : (claim : Claim) (n : ℕ) → firstUpto claim n ≤ n
@@ -139,7 +141,7 @@ module _ (b : List ℕ) (s : Progress) where
       (g : Going claim n outcome w c known i k) (v : List ℤ) where
     pub going-none : length b < next b i → walkedOf b s v (walked.the-variants.Refused 3 k) ≡ outcome
     unfolding walkedOf
-    going-none h = sym (turn-none b (asked b s) (standsAt claim w c) k i h) ∙ g .rest
+    going-none h = sym (turn-none (checker (asked b s)) b (asked b s) (standsAt claim w c) k i h) ∙ g .rest
 
     pub going-refused : next b i ≤ length b
         → (f : ℕ)
@@ -147,7 +149,7 @@ module _ (b : List ℕ) (s : Progress) where
         → (f ≡ 0 → ⊥)
         → walkedOf b s v (walked.the-variants.Refused f k) ≡ outcome
     unfolding walkedOf
-    going-refused h f e z = sym (turn-faulty b (asked b s) k i h (standsAt claim w c) f e z) ∙ g .rest
+    going-refused h f e z = sym (turn-faulty (checker (asked b s)) b (asked b s) (standsAt claim w c) k i h f e z) ∙ g .rest
 
   pub going-model : (claim : Claim) (n : ℕ) (outcome : Ticket Branch (List Fact)) (w : List ℤ) (c : code.Branch) (known : Known) (i k j : ℕ)
       → Going claim n outcome w c known i k
@@ -180,8 +182,8 @@ module _ (b : List ℕ) (s : Progress) where
   -- the number that it was tried for is the record's: under claim 1 as many splits are pending as the depth says
   pub same-pending : (claim : Claim) (w : List ℤ) (c : code.Branch) (i : ℕ)
       → Holds claim b s w c
-      → triedAt claim b s i w (c .count) (c .depth) ≡ triedAt claim b s i w (c .count) (length (pendingOn w c))
-  unfolding Holds
+      → triedAt claim b s i w (c .count) (c .depth) ≡ triedBy (checker (asked b s)) claim b (branchOf w (c .count)) (pendingOn w c) (i + 6) (size b i)
+  unfolding Holds offered
   same-pending NoSolution w c i h = ap (λ (j : ℕ). triedAt NoSolution b s i w (c .count) j) (sym (waiting h))
   same-pending Strings w c i h = refl
 
@@ -215,10 +217,11 @@ module _ (b : List ℕ) (s : Progress) where
 
       -- the walk enters it
       on-from : (x : Walk Branch (List Fact)) → x ≡ into → numberOf a ≡ 0 → on (proving x) (k + 1) (i + 6 + m) ≡ outcome
+      unfolding offered
       on-from x q z =
           ap (λ (y : Walk Branch (List Fact)). on (proving y) (k + 1) (i + 6 + m)) q
           ∙ ap₂ (λ (l r : ℕ). on (proving into) r (i + 6 + l)) (t .sized) (add-one k)
-          ∙ sym (turn-moved b (asked b s) k i (t .whole) (t .step) (branchOf w (c .count)) (pendingOn w c) (sym (t .number) ∙ z))
+          ∙ sym (turn-stepped (checker (asked b s)) b (asked b s) (standsAt NoSolution w c) k i (t .whole) (t .step) (sym (t .number) ∙ z))
           ∙ g .rest
 
       going-on : (x : List ℤ) (d : code.Branch) (known' : Known)
@@ -245,7 +248,7 @@ module _ (b : List ℕ) (s : Progress) where
         → numberOf a ≡ 0
         → length v ≡ length w
         → Going Strings n outcome v d known (i + 6 + m) (k + 1)
-    unfolding Holds
+    unfolding Holds offered
     going-taken g t d f z same = record {
       kept = same ∙ g .kept;
       low = omega (arith, g .low);
@@ -255,7 +258,7 @@ module _ (b : List ℕ) (s : Progress) where
           ap (λ (l : Branch). on (taking l) (k + 1) (i + 6 + m)) (f .rows)
           ∙ ap₂ (λ (l r : ℕ). on (taking (branchOf w (c .count) ++ childOn b (asked b s) (branchOf w (c .count)) i (childField b (i + 6)))) r (i + 6 + l))
           (t .sized) (add-one k)
-          ∙ sym (turn-taken b (asked b s) k i (t .whole) (t .step) (branchOf w (c .count)) (sym (t .number) ∙ z))
+          ∙ sym (turn-stepped (checker (asked b s)) b (asked b s) (standsAt Strings w c) k i (t .whole) (t .step) (sym (t .number) ∙ z))
           ∙ g .rest;
     }
 

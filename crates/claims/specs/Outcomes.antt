@@ -1,14 +1,12 @@
 -- What the code says of the records behind the claim, in the definitions of the format.
-use Prim.Native.Nat.{ℕ, _+_, _≤_}
+use Prim.Native.Nat.{ℕ, _≤_}
 use mathlib.Core.Path.{_≡_}
-use mathlib.Core.Bool.{Bool, false}
 use mathlib.Core.List.{List, []}
 use lib.ListN.{length}
-use lib.Dec.{eqb}
 use lib.IntN.{ℤ}
 use Rattle.calculus.specs.Facts.{Fact, Branch}
 use Rattle.calculus.specs.Walk.{closed}
-use Rattle.format.specs.Records.{size, kind, next}
+use Rattle.format.specs.Records.{kind, next}
 use Rattle.format.specs.Reading.{proving, taking, Ticket, Faulty, stepsOn}
 use Rattle.format.specs.Checking.{checker}
 use Rattle.delimiters.specs.declared.Claim.{Claim}
@@ -20,15 +18,6 @@ use Rattle.rows.specs.Rows.{branchOf}
 use Rattle.rows.specs.Work.{Fine}
 use Rattle.claims.specs.declared.Walked as walked
 use Rattle.claims.specs.declared.Walked.{Walked}
-
--- a record of a kind, with so many bytes in its body, is all there
-abbrev pub WholeRecord : List ℕ → ℕ → ℕ → ℕ → Type 0
-WholeRecord b at k m = (k ≡ kind b at) × (m ≡ size b at) × (at + 6 + m ≤ length b)
-
--- the model's record ends the steps of claim 2
-abbrev pub endsAt : Claim → ℕ → Bool
-endsAt NoSolution k = false
-endsAt Strings k = eqb k 7
 
 -- of how many facts labels are kept to be set back to: of the question's constraints under claim 1
 abbrev pub firstUpto : Claim → ℕ → ℕ

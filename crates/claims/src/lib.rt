@@ -1,14 +1,10 @@
 // The steps of a derivation under either claim: claim 1's walk over every branch, claim 2's path to its leaf.
 ghost use mathlib.Core.Path.{_≡_};
-ghost use Prim.Native.Nat.{_+_, _≤_};
-ghost use lib.ListN.{length};
+ghost use Prim.Native.Nat.{_≤_};
 ghost use Rattle.calculus.specs.Classes.{labels};
 ghost use Rattle.rows.specs.Rows.{branchOf};
 ghost use Rattle.rows.specs.Work.{Fine};
-ghost use Rattle.question.specs.Posed.{Posed};
-ghost use Rattle.steps.specs.Faults.{faultUnder};
-ghost use Rattle.delimiters.specs.Numbers.{openFault};
-ghost use Rattle.claims.specs.Outcomes.{WholeRecord, endsAt, firstUpto, Loaded, walkFrom, walkedOf, LeafAt};
+ghost use Rattle.claims.specs.Outcomes.{firstUpto, Loaded, walkFrom, walkedOf, LeafAt};
 use branch::Branch;
 use classes::Known;
 use classes::bring_up;
@@ -16,50 +12,17 @@ use classes::nothing_known;
 use classes::set_back;
 use conclusions::classes_for;
 use delimiters::Claim;
-use delimiters::open_fault;
+use delimiters::ends_steps;
 use derivation::Action;
 use derivation::next_child;
 use derivation::take_step;
-use encoding::KIND_MODEL;
 use encoding::RECORD_HEAD;
 use question::Progress;
 use records::Found;
 use records::read_at;
 use records::u16_at;
+use steps::record_fault;
 use steps::rule_of;
-use steps::step_fault;
-
-// ---- one record
-
-// Does a record of a kind end the steps: the model, under claim 2?
-fn ends_steps(claim: Claim, kind: usize) -> bool
-    ensures { λ r. ⌜ r ≡ endsAt claim kind ⌝ }
-{
-    match claim {
-        Claim::NoSolution => false,
-        Claim::Strings => kind == KIND_MODEL,
-    }
-}
-
-// A whole record where a branch is open: its place, then its form. 0 for a step of proper form.
-fn record_fault(
-    ticket: &[u8],
-    s: Progress,
-    claim: Claim,
-    record: usize,
-    kind: usize,
-    size: usize,
-) -> usize
-    requires { ⌜ Posed (now ticket) s × WholeRecord (now ticket) «record» kind size ⌝ }
-    ensures { λ r. ⌜ r ≡ openFault (length (now (ticket .entry))) («record» + 6 + size) kind size
-        (faultUnder claim (now (ticket .entry)) s («record» + 6) size) ⌝ }
-{
-    let place = open_fault(ticket.len(), record + RECORD_HEAD + size, kind, size);
-    if place != 0 {
-        return place;
-    }
-    step_fault(ticket, s, claim, record + RECORD_HEAD, size)
-}
 
 // What is known of the classes of the question's constraints, for branches that are cut back. Under claim 2 none is.
 fn first_known(claim: Claim, work: &[i64], constraints: usize) -> Known
@@ -72,8 +35,6 @@ fn first_known(claim: Claim, work: &[i64], constraints: usize) -> Known
         Claim::Strings => nothing_known(),
     }
 }
-
-// ---- all of them
 
 // Refused: the number and the record. Closed: every branch is closed; the position and the number of the record behind. Model: the position and the
 // number of the model's record, and how many facts stand on the branch.

@@ -1,5 +1,5 @@
 -- What a ticket comes to, case by case.
-use Prim.Native.Nat.{ℕ, zero, suc}
+use Prim.Native.Nat.{ℕ}
 use mathlib.Core.Path.{_≡_, refl, sym, subst}
 use mathlib.Core.List.{List, _++_}
 use lib.ListN.{length, drop}
@@ -34,8 +34,3 @@ module _ {t : Ticket Branch (List Fact)} where
 -- reading that goes on as another does comes to the same
 pub decided-by : {t x : Ticket Branch (List Fact)} {a a' : List ℕ} {r : Outcome} → t ≡ x → Decided (outcomeOf x) a a' r → Decided (outcomeOf t) a a' r
 decided-by {t} {x} {a} {a'} {r} e d = subst (λ y. Decided (outcomeOf y) a a' r) (sym e) d
-
--- a number that is not 0 is a refusal
-pub nonzero : {t : Ticket Branch (List Fact)} {f r : ℕ} → ((k : ℕ) → f ≡ suc k → t ≡ Faulty (suc k) r) → (c : ℕ) → c ≡ f → (c ≡ 0 → ⊥) → t ≡ Faulty c r
-nonzero law zero e n = absurd (n refl)
-nonzero law (suc c) e n = law c (sym e)

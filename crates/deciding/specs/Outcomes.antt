@@ -1,9 +1,8 @@
 -- What a ticket comes to on buffers that are large enough, as the code tells it.
 use mathlib.Core.Path.{_≡_}
 use mathlib.Core.List.{List}
-use Prim.Native.Nat.{ℕ, _+_, _≤_}
-use lib.ListN.{length}
-use Rattle.calculus.specs.Limits.{ticketBytes, factLimit}
+use Prim.Native.Nat.{ℕ, _≤_}
+use Rattle.calculus.specs.Limits.{factLimit}
 use Rattle.calculus.specs.Facts.{Fact, Branch}
 use Rattle.format.specs.Question.{checkingManner, question}
 use Rattle.format.specs.Reading.{State, stepsOn, readClaim, readBehind}
@@ -14,8 +13,7 @@ use Rattle.delimiters.specs.declared.Claim.{Claim}
 use Rattle.claims.specs.Outcomes.{walkFrom}
 use Rattle.question.specs.declared.Progress.{Progress}
 use Rattle.question.specs.Progress.{progressOf}
-use Rattle.question.specs.Standing.{StandsTo}
-use Rattle.question.specs.Posed.{asked}
+use Rattle.question.specs.Posed.{asked, ReadTo}
 use Rattle.deciding.specs.declared.Outcome.{Outcome}
 use Rattle.deciding.specs.declared.Outcome.the-variants.{Refused, NoSolution, Strings}
 
@@ -40,10 +38,9 @@ claimedFrom b s at r = outcomeOf (readClaim checker b (progressOf b s) at r)
 abbrev pub readWhole : List ℕ → format.Outcome
 readWhole b = outcomeOf (readBehind checker b (question b))
 
--- a question that was read as checking reads it, up to record r at a position, where six bytes of the next record stand
-abbrev pub ReadTo : List ℕ → Progress → ℕ → ℕ → Type 0
-ReadTo b s at r =
-    StandsTo (checkingManner .greatest) b s at × (at + 6 ≤ length b) × (length b ≤ ticketBytes) × (s .constraints ≤ factLimit) × (r ≤ at)
+-- a question that was read as checking reads it, up to record r at a position
+abbrev pub ReadToClaim : List ℕ → Progress → ℕ → ℕ → Type 0
+ReadToClaim b s at r = ReadTo (checkingManner .greatest) b s at r × (s .constraints ≤ factLimit)
 
 -- a part of checking comes to an outcome: it tells it, and of the answer buffer changes the answer's bytes only
 pub record Decided (o : format.Outcome) (answer answer' : List ℕ) (r : Outcome) : Type 0 where

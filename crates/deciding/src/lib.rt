@@ -11,7 +11,7 @@ ghost use Rattle.question.specs.declared.Progress.{Progress};
 ghost use Rattle.question.specs.Posed.{Posed};
 ghost use Rattle.rows.specs.Rows.{branchOf};
 ghost use Rattle.rows.specs.Work.{Fine};
-ghost use Rattle.deciding.specs.Outcomes.{outcomeFrom, steppedFrom, claimedFrom, readWhole, ReadTo, Decided};
+ghost use Rattle.deciding.specs.Outcomes.{outcomeFrom, steppedFrom, claimedFrom, readWhole, ReadToClaim, Decided};
 ghost use Rattle.claims.specs.Outcomes.{Loaded};
 use claims::Walked;
 use claims::walk;
@@ -126,7 +126,7 @@ fn behind_question(
     work: &mut [i64],
     answer: &mut [u8],
 ) -> Outcome
-    requires { ⌜ ReadTo (now ticket) s at r ⌝ }
+    requires { ⌜ ReadToClaim (now ticket) s at r ⌝ }
     requires { ⌜ (workNumbers ≤ length (now work)) × (answerBytes ≤ length (now answer)) ⌝ }
     ensures { λ o. ⌜ Decided (claimedFrom (now (ticket .entry)) s at r) (now (answer .entry)) (now (answer .exit)) o ⌝ }
 {

@@ -1,5 +1,5 @@
 -- The model's record and the end, whatever the method.
-use Prim.Native.Nat.{ℕ, suc, _+_, _≤_, _<_}
+use Prim.Native.Nat.{ℕ, zero, suc, _+_, _≤_, _<_}
 use native.Mathlib.Omega.{arith}
 use mathlib.Core.Path.{_≡_, refl, sym, _∙_, ap}
 use mathlib.Core.Bool.{Bool, true, false, cond}
@@ -12,7 +12,7 @@ use Rattle.calculus.specs.Facts.{Question}
 use Rattle.calculus.specs.Walk.{closed}
 use Rattle.format.specs.Records.{size, kind, next, whole, need}
 use Rattle.format.specs.Reading.{State, proving, taking, modelled, Method, modelAt, modelFault}
-use Rattle.format.specs.Reading.{lastFault, bodyFault, fault, advanced, Faulty, Done, stepsOn, endForm}
+use Rattle.format.specs.Reading.{lastFault, bodyFault, fault, advanced, Ticket, Faulty, Done, stepsOn, endForm}
 use Rattle.format.proofs.Faults.{none-applies}
 use Rattle.format.proofs.StepTurns.{steps-none, steps-faulty, steps-done, steps-more}
 use Rattle.delimiters.specs.Numbers.{endFault}

@@ -1,2 +1,5 @@
 pub mod Open
 pub mod Ends
+pub mod Models
+pub mod AtModel
+pub mod Claiming

@@ -3,10 +3,15 @@ use Prim.Native.Nat.{ℕ}
 use native.Mathlib.Omega.{arith}
 use mathlib.Core.Path.{_≡_, refl}
 use mathlib.Core.Bool.{Bool, true, false, cond}
+use mathlib.Core.List.{List}
 use lib.Dec.{eqb}
 use borrow.Author.Tests.{eqb-true}
+use Rattle.calculus.specs.Walk.{Waiting}
 use Rattle.format.specs.Records.{need}
-use Rattle.format.specs.Reading.{endForm}
+use Rattle.format.specs.Reading.{complete, endForm}
+use Rattle.delimiters.specs.declared.Claim.{Claim}
+use Rattle.delimiters.specs.declared.Claim.the-variants.{NoSolution, Strings}
+use Rattle.delimiters.specs.Claims.{openUnder}
 use Rattle.delimiters.specs.Numbers.{openFault}
 
 -- a number at a record stands whatever is asked of a step behind it
@@ -34,3 +39,8 @@ open-step n to k m step e = go (eqb k 8) (eqb k 6) refl e
 
 pub at-step : (n to k m step : ℕ) → k ≡ 6 → openFault n to k m step ≡ step
 at-step n to k m step e = rw e
+
+-- an end there is 11
+pub open-end : {B C : Type 0} (claim : Claim) (br : B) (ss : List (Waiting B C)) → need 11 (complete (openUnder claim br ss)) 0 ≡ 11
+open-end NoSolution br ss = refl
+open-end Strings br ss = refl

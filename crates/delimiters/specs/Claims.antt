@@ -1,6 +1,6 @@
 -- The two claims, and where a branch is open under each.
 use Prim.Native.Nat.{ℕ}
-use mathlib.Core.Bool.{cond}
+use mathlib.Core.Bool.{Bool, false, cond}
 use mathlib.Core.List.{List}
 use lib.Dec.{eqb}
 use Rattle.calculus.specs.Walk.{Waiting, working}
@@ -16,3 +16,8 @@ claimOf k = cond (eqb k 1) NoSolution Strings
 abbrev pub openUnder : {B C : Type 0} → Claim → B → List (Waiting B C) → State B C
 openUnder NoSolution br ss = proving (working br ss)
 openUnder Strings br ss = taking br
+
+-- a record of kind k ends the steps: the model, under claim 2
+abbrev pub endsAt : Claim → ℕ → Bool
+endsAt NoSolution k = false
+endsAt Strings k = eqb k 7

@@ -1,18 +1,24 @@
-// The records that delimit a derivation: the claim before it, the end behind it. Nothing here asks for the rules.
+// The records that delimit a derivation: the claim before it, the model and the end behind it. Nothing here asks for the rules.
 ghost use mathlib.Core.Path.{_≡_};
-ghost use Rattle.format.specs.Reading.{claimFault, endForm};
+ghost use Prim.Native.Nat.{_+_, _≤_};
+ghost use lib.ListN.{length};
+ghost use Rattle.calculus.specs.Limits.{variableLimit};
+ghost use Rattle.format.specs.Reading.{claimFault, modelFault, endForm};
 ghost use Rattle.question.specs.Progress.{progressOf};
+ghost use Rattle.question.specs.Posed.{asked};
 ghost use Rattle.delimiters.specs.Numbers.{openFault, endFault};
-ghost use Rattle.delimiters.specs.Claims.{claimOf};
+ghost use Rattle.delimiters.specs.Claims.{claimOf, endsAt};
 use encoding::CLAIM_NO_SOLUTION;
 use encoding::CLAIM_STRINGS;
 use encoding::KIND_CLAIM;
 use encoding::KIND_END;
+use encoding::KIND_MODEL;
 use encoding::KIND_STEP;
 use encoding::RECORD_HEAD;
 use question::HEAD_RANK;
 use question::Progress;
 use records::Found;
+use records::integers_within;
 use records::read_at;
 use records::u16_at;
 
@@ -58,6 +64,33 @@ pub fn claim_of(number: usize) -> Claim
         return Claim::NoSolution;
     }
     Claim::Strings
+}
+
+// Does a record of a kind end the steps: the model, under claim 2?
+pub fn ends_steps(claim: Claim, kind: usize) -> bool
+    ensures { λ r. ⌜ r ≡ endsAt claim kind ⌝ }
+{
+    match claim {
+        Claim::NoSolution => false,
+        Claim::Strings => kind == KIND_MODEL,
+    }
+}
+
+// ---- the model
+
+// The form of a model's record with its body at a position: "an i32 for each column, within ±100,000,000".
+pub fn model_fault(ticket: &[u8], s: Progress, at: usize, size: usize) -> usize
+    requires { ⌜ (at + size ≤ length (now ticket)) × (s .p ≤ variableLimit) × (s .q ≤ variableLimit) ⌝ }
+    ensures { λ r. ⌜ r ≡ modelFault (now (ticket .entry)) (asked (now (ticket .entry)) s) 0 at size ⌝ }
+{
+    let columns = s.q + (s.p + s.p);
+    if size != 4 * columns {
+        return 5;
+    }
+    if !integers_within(ticket, at, columns) {
+        return 6;
+    }
+    0
 }
 
 // ---- the end

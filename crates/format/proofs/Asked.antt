@@ -89,7 +89,7 @@ data Reads (m : Manner) (b : List ℕ) : Progress → ℕ → List ℕ → Progr
 
 module _ (m : Manner) (b : List ℕ) where
   -- one turn, by the record's kind and its fault
-  abbrev turn : Progress → ℕ → ℕ → List ℕ → Bool → ℕ → Reading
+  abbrev pub turn : Progress → ℕ → ℕ → List ℕ → Bool → ℕ → Reading
   turn s r at ats x f =
       elim x as (λ _. Reading) [
         | true ↦ Ended s at r
@@ -162,7 +162,7 @@ module _ (greatest : ℕ) where
 
 -- ---- the whole question
 
-abbrev bySize : Manner → List ℕ → Bool → Reading
+abbrev pub bySize : Manner → List ℕ → Bool → Reading
 bySize m b x = elim x as (λ _. Reading) [ false ↦ Stopped 2 0 | true ↦ readFrom (questionFault m) b unread 0 (records b 0) ]
 
 whole→ : (m : Manner) (b : List ℕ) {s : Progress} {at r : ℕ}

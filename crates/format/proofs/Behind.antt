@@ -14,11 +14,11 @@ use Rattle.lists.proofs.Tests.{and-both}
 use Rattle.calculus.specs.Facts.{Question, columnCount}
 use Rattle.calculus.specs.Steps.{Step}
 use Rattle.calculus.specs.Instances.{StepInRange}
-use Rattle.calculus.specs.Walk.{Walk, working, closed}
+use Rattle.calculus.specs.Walk.{Walk, working, closed, enter}
 use Rattle.calculus.specs.Limits.{valueLimit}
 use Rattle.format.specs.Records.{size, kind, next, whole, need}
 use Rattle.format.specs.StepForms.{rule, childField, lengthFits, operandsInRange, stepAt, childInRange}
-use Rattle.format.specs.Reading.{State, proving, taking, modelled, Method, stepped, stepFault, modelAt, modelFault}
+use Rattle.format.specs.Reading.{State, proving, taking, modelled, Method, stepped, stepWithChild, stepFault, modelAt, modelFault}
 use Rattle.format.specs.Reading.{bodyFault, lastFault, fault, advanced, Ticket, Faulty, Done, readSteps}
 use Rattle.format.specs.ProperForm.{stepsAt}
 use Rattle.format.specs.Fields.{allWithin}
@@ -47,7 +47,7 @@ record StepAt (b : List ℕ) (u : Question) (ok : Step → ℕ → Bool) (at : �
   fits : lengthFits b (at + 6) (size b at) ≡ true
   operands : operandsInRange b (u .p) (columnCount u) (rule b (at + 6)) (at + 6) (size b at) ≡ true
   child-ok : ok (stepAt b (at + 6) (size b at)) (childField b (at + 6)) ≡ true
-  holds : t ≡ (stepAt b (at + 6) (size b at), childField b (at + 6))
+  holds : t ≡ stepWithChild b at
 
 -- the records at these positions are the steps ts, the model where there is one, and an end
 pub Formed : List ℕ → Question → (Step → ℕ → Bool) → List ℕ → List (Step × ℕ) → Option (List ℤ) → Type 0
@@ -59,7 +59,7 @@ Formed b u ok (at ∷ ats) (t ∷ ts) o = StepAt b u ok at t × Formed b u ok at
 not-six : (b : List ℕ) (at : ℕ) (ats : List ℕ) (k : ℕ) → kind b at ≡ k → eqb k 6 ≡ false → stepsAt b (at ∷ ats) ≡ []
 unfolding stepsAt
 not-six b at ats k e f =
-    ap (λ x. elim x as (λ _. List (Step × ℕ)) [ false ↦ [] | true ↦ (stepAt b (at + 6) (size b at), childField b (at + 6)) ∷ stepsAt b ats ])
+    ap (λ x. elim x as (λ _. List (Step × ℕ)) [ false ↦ [] | true ↦ stepWithChild b at ∷ stepsAt b ats ])
     (ap (λ z. eqb z 6) e ∙ f)
 
 -- they are the steps that the bytes hold
@@ -71,7 +71,7 @@ formed-steps b u ok [] ts o h = absurd h
 formed-steps b u ok (at ∷ ats) [] none h = not-six b at ats 8 (h .is-end) refl
 formed-steps b u ok (at ∷ ats) [] (some m) h = not-six b at ats 7 (h .0 .is-model) refl
 formed-steps b u ok (at ∷ ats) (t ∷ ts) o (h, hs) =
-    ap (λ x. elim x as (λ _. List (Step × ℕ)) [ false ↦ [] | true ↦ (stepAt b (at + 6) (size b at), childField b (at + 6)) ∷ stepsAt b ats ])
+    ap (λ x. elim x as (λ _. List (Step × ℕ)) [ false ↦ [] | true ↦ stepWithChild b at ∷ stepsAt b ats ])
     (ap (λ z. eqb z 6) (h .is-step))
     ∙ ap₂ (λ x xs. x ∷ xs) (sym (h .holds)) (formed-steps b u ok ats ts o hs)
 
@@ -119,9 +119,9 @@ Taken w s [] none s' = (w .endFault s ≡ 0) × (s ≡ s')
 Taken w (proving k) [] (some m) s' = ⊥
 Taken w (taking br) [] (some m) s' = (w .leafFault br m ≡ 0) × (w .endFault (modelled br m) ≡ 0) × (modelled br m ≡ s')
 Taken w (modelled br v) [] (some m) s' = ⊥
-Taken w (proving (working br ss)) (t ∷ ts) o s' = (w .splitFault br ss (t .0) ≡ 0) × Taken w (proving (stepped w br ss (t .0))) ts o s'
+Taken w (proving (working br ss)) (t ∷ ts) o s' = (w .splitFault br ss (t .0) ≡ 0) × Taken w (stepped w (proving (working br ss)) t) ts o s'
 Taken w (proving closed) (t ∷ ts) o s' = ⊥
-Taken w (taking br) (t ∷ ts) o s' = (w .takenFault br (t .0) (t .1) ≡ 0) × Taken w (taking (w .taken br (t .0) (t .1))) ts o s'
+Taken w (taking br) (t ∷ ts) o s' = (w .takenFault br (t .0) (t .1) ≡ 0) × Taken w (stepped w (taking br) t) ts o s'
 Taken w (modelled br v) (t ∷ ts) o s' = ⊥
 
 -- claim 1 ends with the walk, behind no model
@@ -131,7 +131,7 @@ pub proving-stays : {B C : Type 0} (w : Method B C) (k : Walk B C) (ts : List (S
 unfolding Taken
 proving-stays w k [] none h = ((k, sym (h .1)), refl)
 proving-stays w k [] (some m) h = absurd h
-proving-stays w (working br ss) (t ∷ ts) o h = proving-stays w (stepped w br ss (t .0)) ts o (h .1)
+proving-stays w (working br ss) (t ∷ ts) o h = proving-stays w (enter (w .add) br (w .children br (t .0)) ss) ts o (h .1)
 proving-stays w closed (t ∷ ts) o h = absurd h
 
 pub proving-no-model : {B C : Type 0} (w : Method B C) (k : Walk B C) (ts : List (Step × ℕ)) (o : Option (List ℤ)) (l : B) (m : List ℤ)
@@ -165,7 +165,7 @@ pub record Read {B C : Type 0} (w : Method B C) (b : List ℕ) (u : Question) (s
 
 module _ {B C : Type 0} (w : Method B C) (b : List ℕ) (u : Question) where
   -- one turn, by the record's fault and by its being an end
-  abbrev turn : State B C → ℕ → ℕ → List ℕ → ℕ → Bool → Ticket B C
+  abbrev pub turn : State B C → ℕ → ℕ → List ℕ → ℕ → Bool → Ticket B C
   turn s r at ats f x = elim f as (λ _. Ticket B C) [
     | suc c ↦ Faulty (suc c) r
     | zero ↦ elim x as (λ _. Ticket B C) [ true ↦ Done u s | false ↦ readSteps w b u (advanced w b u s at) (suc r) ats ]
@@ -195,7 +195,7 @@ module _ {B C : Type 0} (w : Method B C) (b : List ℕ) (u : Question) where
 
   step→ : (ok : Step → ℕ → Bool) (at later : ℕ) → whole b at ≡ true → eqb (kind b at) 6 ≡ true
       → stepFault b u (ok (stepAt b (at + 6) (size b at)) (childField b (at + 6))) later (at + 6) (size b at) ≡ 0
-      → StepAt b u ok at (stepAt b (at + 6) (size b at), childField b (at + 6)) × (later ≡ 0)
+      → StepAt b u ok at (stepWithChild b at) × (later ≡ 0)
   step→ ok at later h k e =
       let inRange : Bool = operandsInRange b (u .p) (columnCount u) (rule b (at + 6)) (at + 6) (size b at) in
       let childFits : Bool = ok (stepAt b (at + 6) (size b at)) (childField b (at + 6)) in
@@ -236,15 +236,15 @@ module _ {B C : Type 0} (w : Method B C) (b : List ℕ) (u : Question) where
           → cond y (stepFault b u (childInRange (u .n) (stepAt b (at + 6) (size b at)) (childField b (at + 6)))
           (w .takenFault br (stepAt b (at + 6) (size b at)) (childField b (at + 6))) (at + 6) (size b at))
           (need 4 (eqb (kind b at) 7) (modelFault b u (w .leafFault br (modelAt b u (at + 6))) (at + 6) (size b at))) ≡ 0
-          → readSteps w b u (cond y (taking (w .taken br (stepAt b (at + 6) (size b at)) (childField b (at + 6)))) (modelled br (modelAt b u (at + 6))))
+          → readSteps w b u (cond y (stepped w (taking br) (stepWithChild b at)) (modelled br (modelAt b u (at + 6))))
           (suc r) ats
           ≡ Done v s'
           → On → Read w b u (taking br) (at ∷ ats) v s'
       taken-or-model br true y h f e ih =
           let (a, l) = step→ (childInRange (u .n)) at (w .takenFault br (stepAt b (at + 6) (size b at)) (childField b (at + 6))) h y f in
-          let g = ih (taking (w .taken br (stepAt b (at + 6) (size b at)) (childField b (at + 6)))) e in
+          let g = ih (stepped w (taking br) (stepWithChild b at)) e in
           record {
-            steps = (stepAt b (at + 6) (size b at), childField b (at + 6)) ∷ g .steps;
+            steps = stepWithChild b at ∷ g .steps;
             model = g .model;
             formed = (a, g .formed);
             same-question = g .same-question;
@@ -272,9 +272,9 @@ module _ {B C : Type 0} (w : Method B C) (b : List ℕ) (u : Question) where
           none-applies 3 (eqb (kind b at) 6)
           (stepFault b u (eqb (childField b (at + 6)) 0) (w .splitFault br ss (stepAt b (at + 6) (size b at))) (at + 6) (size b at)) f in
           let (a, l) = step→ (λ st c. eqb c 0) at (w .splitFault br ss (stepAt b (at + 6) (size b at))) h (a4 .0) (a4 .1) in
-          let g = ih (proving (stepped w br ss (stepAt b (at + 6) (size b at)))) e in
+          let g = ih (stepped w (proving (working br ss)) (stepWithChild b at)) e in
           record {
-            steps = (stepAt b (at + 6) (size b at), childField b (at + 6)) ∷ g .steps;
+            steps = stepWithChild b at ∷ g .steps;
             model = g .model;
             formed = (a, g .formed);
             same-question = g .same-question;
@@ -331,7 +331,7 @@ module _ {B C : Type 0} (w : Method B C) (b : List ℕ) (u : Question) where
       ∙ f)
       (ap (λ k. eqb k 8) (h .is-model))
       ∙ ap (λ k. readSteps w b u
-      (cond (eqb k 6) (taking (w .taken br (stepAt b (at + 6) (size b at)) (childField b (at + 6)))) (modelled br (modelAt b u (at + 6)))) (suc r) ats)
+      (cond (eqb k 6) (stepped w (taking br) (stepWithChild b at)) (modelled br (modelAt b u (at + 6)))) (suc r) ats)
       (h .is-model)
       ∙ ap (λ m. readSteps w b u (modelled br m) (suc r) ats) (sym (h .holds))
       ∙ →done (modelled br m) (suc r) ats [] none hs (g, k)
@@ -342,8 +342,8 @@ module _ {B C : Type 0} (w : Method B C) (b : List ℕ) (u : Question) where
       ∙ step-fault (λ st c. eqb c 0) at (w .splitFault br ss (stepAt b (at + 6) (size b at))) h
       ∙ ap (λ (t : Step × ℕ). w .splitFault br ss (t .0)) (sym (h .holds)) ∙ f)
       (ap (λ k. eqb k 8) (h .is-step))
-      ∙ ap (λ (t : Step × ℕ). readSteps w b u (proving (stepped w br ss (t .0))) (suc r) ats) (sym (h .holds))
-      ∙ →done (proving (stepped w br ss (t .0))) (suc r) ats ts o hs k
+      ∙ ap (λ (t : Step × ℕ). readSteps w b u (stepped w (proving (working br ss)) t) (suc r) ats) (sym (h .holds))
+      ∙ →done (stepped w (proving (working br ss)) t) (suc r) ats ts o hs k
   →done (proving closed) r (at ∷ ats) (t ∷ ts) o h k = absurd k
   →done (taking br) r (at ∷ ats) (t ∷ ts) o (h, hs) (f, k) =
       ap₂ (turn (taking br) r at ats)
@@ -352,8 +352,8 @@ module _ {B C : Type 0} (w : Method B C) (b : List ℕ) (u : Question) where
       ∙ ap (λ (t : Step × ℕ). w .takenFault br (t .0) (t .1)) (sym (h .holds)) ∙ f)
       (ap (λ k. eqb k 8) (h .is-step))
       ∙ ap (λ k. readSteps w b u
-      (cond (eqb k 6) (taking (w .taken br (stepAt b (at + 6) (size b at)) (childField b (at + 6)))) (modelled br (modelAt b u (at + 6)))) (suc r) ats)
+      (cond (eqb k 6) (stepped w (taking br) (stepWithChild b at)) (modelled br (modelAt b u (at + 6)))) (suc r) ats)
       (h .is-step)
-      ∙ ap (λ (t : Step × ℕ). readSteps w b u (taking (w .taken br (t .0) (t .1))) (suc r) ats) (sym (h .holds))
-      ∙ →done (taking (w .taken br (t .0) (t .1))) (suc r) ats ts o hs k
+      ∙ ap (λ (t : Step × ℕ). readSteps w b u (stepped w (taking br) t) (suc r) ats) (sym (h .holds))
+      ∙ →done (stepped w (taking br) t) (suc r) ats ts o hs k
   →done (modelled br v) r (at ∷ ats) (t ∷ ts) o h k = absurd k

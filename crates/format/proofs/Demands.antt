@@ -6,6 +6,8 @@ use Rattle.format.proofs.Judged.{judging-is-theory}
 use Rattle.format.proofs.Shown.{record-concerned}
 use Rattle.format.proofs.ReadBack.{answers-judged}
 use Rattle.format.proofs.Proper.{no-solution-proper, strings-proper}
+use Rattle.format.proofs.NeedLimits.{within-limits}
+use Rattle.format.proofs.Needs.{needs-met, report-in-words, need-numbers}
 
 pub demands : Demands
 demands = record {
@@ -14,6 +16,10 @@ demands = record {
   th-3 = judging-is-theory;
   th-3-all = answers-judged;
   th-l1 = record-concerned;
+  th-l2 = needs-met;
+  th-l2-met = report-in-words;
+  th-l2-limits = within-limits;
+  th-l2-numbers = need-numbers;
   th-4 = no-solution-sound;
   th-5 = strings-hold;
   th-6 = leaves-exact;

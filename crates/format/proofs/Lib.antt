@@ -18,6 +18,8 @@ pub mod NoSolution
 pub mod Leaves
 pub mod Strings
 pub mod Proper
+pub mod Needs
+pub mod NeedLimits
 pub mod Judged
 pub mod Refusals
 pub mod Shown

@@ -65,6 +65,12 @@ module _ {B C : Type 0} (method : Question → Method B C) (b : List ℕ) (u : Q
       → Formed b u (childOk u (started (method u) x)) (behindClaim (h .claimed)) (stepsWithChild b) o
   formed-for x o h = subst (λ ok. Formed b u ok (behindClaim (h .claimed)) (stepsWithChild b) o) (sym (same-test x)) (h .formed)
 
+  pub held→done : (x : Bool) (o : Option (List ℤ)) {s : State B C}
+      → Holding b u x o
+      → Taken (method u) (started (method u) x) (stepsWithChild b) o s
+      → readBehind method b (questionForm b) ≡ Done u s
+  held→done x o h k = →ticket method b (h .claimed) x (stepsWithChild b) o (h .claim-is) (formed-for x o h) k
+
 -- ---- proper form
 
 pub proper→ : (b : List ℕ) (u : Question) {s : State ℕ ℕ} → ticketForm b ≡ Done u s → ReadAs byShape b u s
@@ -76,7 +82,7 @@ pub →proper : (b : List ℕ) (u : Question) (x : Bool) (o : Option (List ℤ))
     → Taken (byShape u) (started (byShape u) x) (stepsWithChild b) o s
     → ticketForm b ≡ Done u s
 unfolding ticketForm
-→proper b u x o h k = →ticket byShape b (h .claimed) x (stepsWithChild b) o (h .claim-is) (formed-for byShape b u x o h) k
+→proper b u x o h k = held→done byShape b u x o h k
 
 -- ---- checking, whatever the rules
 

@@ -3,15 +3,17 @@
 use Prim.Native.Nat.{ℕ, _+_, _<_, _≤_}
 use mathlib.Core.Path.{_≡_}
 use mathlib.Core.Bool.{true, cond}
-use mathlib.Core.Logic.{_≢_}
+use mathlib.Core.Logic.{_≢_, _⊎_}
 use mathlib.Core.Option.{some}
-use mathlib.Core.List.{List, [], _++_}
+use mathlib.Core.List.{List, [], _∷_, _++_}
 use lib.ListN.{length, take, drop, replicate, getElem?}
 use lib.Dec.{eqb}
 use lib.IntN.{ℤ, pos}
 use Rattle.lists.specs.Lists.{All}
-use Rattle.calculus.specs.Limits.{Small, lengthLimit, valueLimit, answerBytes}
+use Rattle.calculus.specs.Limits.{Small, lengthLimit, valueLimit, answerBytes, factLimit, pendingLimit}
 use Rattle.calculus.specs.Facts.{Question, Fact, Branch}
+use Rattle.calculus.specs.Steps.{Step}
+use Rattle.calculus.specs.Walk.{Waiting, working, closed}
 use Rattle.calculus.specs.Chains.{OneClass}
 use Rattle.calculus.specs.Derivations.{Closes, WithinLimits, Path, PathWithinLimits}
 use Rattle.calculus.specs.Saturation.{AcceptedLeaf}
@@ -20,7 +22,10 @@ use Rattle.format.specs.Question.{judgedQuestion, questionIn, questionOf
 use Rattle.format.specs.Records.{next, records}
 use Rattle.format.specs.Places.{constraintAt}
 use Rattle.format.specs.Answer.{encode, assignmentOf}
-use Rattle.format.specs.Checking.{Outcome, Refused, NoSolution, Strings, largeEnough, verdict}
+use Rattle.format.specs.Checking.{Outcome, Refused, NoSolution, Strings, largeEnough, checker, verdict}
+use Rattle.format.specs.Reading.{State, proving, taking, modelled, Method, stepped, begin}
+use Rattle.format.specs.Needs as needs
+use Rattle.format.specs.Needs.{Needs, Report, report, needed}
 use Rattle.format.specs.ProperForm.{ProperNo, ProperStrings, steps, stepsWithChild}
 use Rattle.format.specs.Judging.{Judging, Judged, judging, Judgement, Refusal, AllMet, Unmet, said}
 use Rattle.format.specs.Judging.{Side, ofQuestion, ofAnswer, Shown, shownBy, partWithin}
@@ -104,6 +109,61 @@ pub record Shows (b v : List ℕ) (g : Judging) (s : Shown) : Type 0 where
 abbrev pub TH-L1 : Type 0
 TH-L1 = (b v : List ℕ) → Shows b v (judging b v) (shownBy b v (judging b v))
 
+-- ---- TH-L2: "Every ticket that checking accepts must meet exactly these three numbers on its way"
+
+-- accepted under a claim, "1 for no solution, 2 for strings"
+abbrev pub AcceptedAs : ℕ → Outcome → Type 0
+AcceptedAs claim (Refused c r) = ⊥
+AcceptedAs claim NoSolution = claim ≡ 1
+AcceptedAs claim (Strings s) = claim ≡ 2
+
+-- what its need reports is the report of checking's own walk, over facts
+abbrev pub TH-L2 : Type 0
+TH-L2 = (work answer claim : ℕ) (t : List ℕ) → AcceptedAs claim (verdict work answer t)
+    → (u : Question) × (questionOf t ≡ some u) × (needed t ≡ Needs (report length (checker u) (begin (checker u) claim) (stepsWithChild t)))
+
+-- that report in words: where checking stands after some of its steps, the branch there, empty once every branch is closed, and the splits pending there
+abbrev pub stepsTaken : {B C : Type 0} → Method B C → State B C → List (Step × ℕ) → State B C
+stepsTaken w s [] = s
+stepsTaken w s (t ∷ ts) = stepsTaken w (stepped w s t) ts
+
+abbrev pub standing : Question → ℕ → List (Step × ℕ) → State Branch (List Fact)
+standing u claim ts = stepsTaken (checker u) (begin (checker u) claim) ts
+
+abbrev pub branchIn : State Branch (List Fact) → Branch
+branchIn (proving (working br ss)) = br
+branchIn (proving closed) = []
+branchIn (taking br) = br
+branchIn (modelled br m) = br
+
+abbrev pub splitsIn : State Branch (List Fact) → List (Waiting Branch (List Fact))
+splitsIn (proving (working br ss)) = ss
+splitsIn (proving closed) = []
+splitsIn (taking br) = []
+splitsIn (modelled br m) = []
+
+-- m is the greatest that f gives of the numbers up to n
+pub record Greatest (f : ℕ → ℕ) (n m : ℕ) : Type 0 where
+  pub none-above : (k : ℕ) → k ≤ n → f k ≤ m
+  pub reached : (k : ℕ) × (k ≤ n) × (f k ≡ m)
+
+pub record OnItsWay (u : Question) (claim : ℕ) (ts : List (Step × ℕ)) (r : Report) : Type 0 where
+  pub steps-are : r .steps ≡ length ts
+  pub facts-are : Greatest (λ k. length (branchIn (standing u claim (take k ts)))) (length ts) (r .facts)
+  pub pending-are : Greatest (λ k. length (splitsIn (standing u claim (take k ts)))) (length ts) (r .pending)
+
+abbrev pub TH-L2-met : Type 0
+TH-L2-met = (u : Question) (claim : ℕ) (ts : List (Step × ℕ)) → OnItsWay u claim ts (report length (checker u) (begin (checker u) claim) ts)
+
+-- so a ticket whose need passes checking's limits is refused
+abbrev pub TH-L2-limits : Type 0
+TH-L2-limits = (work answer claim : ℕ) (t : List ℕ) (r : Report) → AcceptedAs claim (verdict work answer t) → needed t ≡ Needs r
+    → (r .facts ≤ factLimit) × (r .pending ≤ pendingLimit)
+
+-- and a refusal is one of "2 to 7", or 11
+abbrev pub TH-L2-numbers : Type 0
+TH-L2-numbers = (t : List ℕ) (c r : ℕ) → needed t ≡ needs.Refused c r → ((2 ≤ c) × (c ≤ 7)) ⊎ (c ≡ 11)
+
 -- ---- TH-4, demand 3: whatever the bytes, where checking says "no solution", no assignment meets all constraints
 
 abbrev pub NoAssignment : Question → Type 0
@@ -157,6 +217,10 @@ pub record Demands : Type 0 where
   pub th-3 : TH-3
   pub th-3-all : TH-3-all
   pub th-l1 : TH-L1
+  pub th-l2 : TH-L2
+  pub th-l2-met : TH-L2-met
+  pub th-l2-limits : TH-L2-limits
+  pub th-l2-numbers : TH-L2-numbers
   pub th-4 : TH-4
   pub th-5 : TH-5
   pub th-6 : TH-6

@@ -9,5 +9,6 @@ pub mod Reading
 pub mod Checking
 pub mod ProperForm
 pub mod Judging
+pub mod Needs
 pub mod Demands
 pub mod Cases

@@ -12,14 +12,14 @@ use Rattle.calculus.specs.Facts.{Question}
 use Rattle.calculus.specs.Steps.{Step, shape}
 use Rattle.calculus.specs.Children.{childAt}
 use Rattle.calculus.specs.Walk.{Walk}
-use Rattle.format.specs.Records.{size, kind, next, records}
+use Rattle.format.specs.Records.{kind, next, records}
 use Rattle.format.specs.Question.{Reading, Stopped, Ended, questionForm}
-use Rattle.format.specs.StepForms.{childField, stepAt}
-use Rattle.format.specs.Reading.{proving, modelled, Method, Ticket, Done, readBehind}
+use Rattle.format.specs.Reading.{State, proving, modelled, Method, stepWithChild, Ticket, Done, claimAt, readBehind}
 
--- "every step taken as if it fitted": a branch is the number of its facts. Under claim 2 a closing rule closes nothing.
-abbrev pub byShape : Question → Method ℕ ℕ
-byShape u = record {
+-- "every step taken as if it fitted": a branch is the number of its facts. Under claim 2 "a closing rule counts as a step, adds no fact and closes nothing" (02, L2).
+-- The parameter is the number at the end record, by the state there.
+abbrev pub byShapeTo : (State ℕ ℕ → ℕ) → Question → Method ℕ ℕ
+byShapeTo end u = record {
   root = length (u .constraints);
   add = _+_;
   children = λ k st. shape (u .n) st;
@@ -27,8 +27,12 @@ byShape u = record {
   splitFault = λ k ss st. 0;
   takenFault = λ k st c. 0;
   leafFault = λ k m. 0;
-  endFault = λ s. 0;
+  endFault = end;
 }
+
+-- "none of 2 to 7": 11, the number at the end, is not among them
+abbrev pub byShape : Question → Method ℕ ℕ
+byShape = byShapeTo (λ s. 0)
 
 unfoldable pub ticketForm : List ℕ → Ticket ℕ ℕ
 ticketForm b = readBehind byShape b (questionForm b)
@@ -45,7 +49,7 @@ ProperStrings b u m = (k : ℕ) × (ticketForm b ≡ Done u (modelled k m))
 
 unfoldable pub stepsAt : List ℕ → List ℕ → List (Step × ℕ)
 stepsAt b [] = []
-stepsAt b (at ∷ ats) = elim (eqb (kind b at) 6) [ false ↦ [] | true ↦ (stepAt b (at + 6) (size b at), childField b (at + 6)) ∷ stepsAt b ats ]
+stepsAt b (at ∷ ats) = elim (eqb (kind b at) 6) [ false ↦ [] | true ↦ stepWithChild b at ∷ stepsAt b ats ]
 
 abbrev pub stepsBehind : List ℕ → Reading → List (Step × ℕ)
 stepsBehind b (Stopped c r) = []
@@ -53,6 +57,14 @@ stepsBehind b (Ended s at r) = stepsAt b (records b (next b at))
 
 abbrev pub stepsWithChild : List ℕ → List (Step × ℕ)
 stepsWithChild b = stepsBehind b (questionForm b)
+
+-- what a ticket claims, 1 or 2 where its claim has no fault
+abbrev pub claimBehind : List ℕ → Reading → ℕ
+claimBehind b (Stopped c r) = 0
+claimBehind b (Ended s at r) = claimAt b at
+
+abbrev pub claimIn : List ℕ → ℕ
+claimIn b = claimBehind b (questionForm b)
 
 abbrev pub steps : List ℕ → List Step
 steps b = map (λ (t : Step × ℕ). t .0) (stepsWithChild b)

@@ -175,7 +175,7 @@ checkingManner = record { limited = true; greatest = arithmeticRank }
 abbrev pub judgingManner : Manner
 judgingManner = record { limited = true; greatest = arithmeticRank }
 
--- proper form asks for "none of 2 to 7", of the kinds that checking takes
+-- proper form asks for "none of 2 to 7", of the kinds that checking takes; so does what a ticket will need: "It never gives 10" (02, L2)
 abbrev pub formManner : Manner
 formManner = record { limited = false; greatest = arithmeticRank }
 

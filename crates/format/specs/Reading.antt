@@ -1,5 +1,5 @@
 -- Reading behind the question: the claim, the steps, the model and the end, record by record, whatever a step is taken for.
--- Checking takes steps as facts, proper form as their shapes.
+-- Checking takes steps as facts; proper form and what a ticket will need take them by their shapes.
 use Prim.Native.Nat.{ℕ, zero, suc, _+_, _*_}
 use mathlib.Core.Bool.{Bool, true, false, cond, _&&_}
 use mathlib.Core.List.{List, [], _∷_}
@@ -48,9 +48,13 @@ pub record Method (B C : Type 0) : Type 0 where
   -- 11
   pub endFault : State B C → ℕ
 
--- the walk under claim 1 once a step is taken on the branch br, where the splits ss are pending
-abbrev pub stepped : {B C : Type 0} → Method B C → B → List (Waiting B C) → Step → Walk B C
-stepped w br ss st = enter (w .add) br (w .children br st) ss
+-- the state once a step is taken, with its child field: under claim 1 its first child is entered, or the branch closes and the next child begins; under claim 2
+-- the child taken is added. Behind the last closed branch and behind the model no step may stand.
+abbrev pub stepped : {B C : Type 0} → Method B C → State B C → Step × ℕ → State B C
+stepped w (proving (working br ss)) t = proving (enter (w .add) br (w .children br (t .0)) ss)
+stepped w (proving closed) t = proving closed
+stepped w (taking br) t = taking (w .taken br (t .0) (t .1))
+stepped w (modelled br v) t = modelled br v
 
 -- ---- one record behind the claim: a body of m bytes at a position
 
@@ -87,12 +91,14 @@ lastFault w b s at = endForm (length b) (next b at) (size b at) (w .endFault s)
 unfoldable pub fault : {B C : Type 0} → Method B C → List ℕ → Question → State B C → ℕ → ℕ
 fault w b u s at = need 3 (whole b at) (cond (eqb (kind b at) 8) (lastFault w b s at) (bodyFault w b u s (kind b at) (at + 6) (size b at)))
 
+-- the step of the record at a position, with its child field
+abbrev pub stepWithChild : List ℕ → ℕ → Step × ℕ
+stepWithChild b at = (stepAt b (at + 6) (size b at), childField b (at + 6))
+
 -- the state after a record without fault
 unfoldable pub advanced : {B C : Type 0} → Method B C → List ℕ → Question → State B C → ℕ → State B C
-advanced w b u (proving (working br ss)) at = proving (stepped w br ss (stepAt b (at + 6) (size b at)))
-advanced w b u (proving closed) at = proving closed
-advanced w b u (taking br) at =
-    cond (eqb (kind b at) 6) (taking (w .taken br (stepAt b (at + 6) (size b at)) (childField b (at + 6)))) (modelled br (modelAt b u (at + 6)))
+advanced w b u (proving k) at = stepped w (proving k) (stepWithChild b at)
+advanced w b u (taking br) at = cond (eqb (kind b at) 6) (stepped w (taking br) (stepWithChild b at)) (modelled br (modelAt b u (at + 6)))
 advanced w b u (modelled br v) at = modelled br v
 
 -- ---- the records behind the claim

@@ -229,6 +229,11 @@ element-none [] j h = refl
 element-none (x ∷ xs) zero h = absurd (omega arith)
 element-none (x ∷ xs) (suc j) h = element-none xs j (omega arith)
 
+pub element-map : {A B : Type 0} (f : A → B) (xs : List A) (k : ℕ) {x : A} → getElem? xs k ≡ some x → getElem? (map f xs) k ≡ some (f x)
+element-map f [] k e = absurd (none-some e)
+element-map f (y ∷ xs) zero e = ap (λ z. some (f z)) (some-injective e)
+element-map f (y ∷ xs) (suc k) e = element-map f xs k e
+
 pub getD-map : {A B : Type 0} (f : A → B) (xs : List A) (i : ℕ) (d : A) (e : B) → i < length xs → getD (map f xs) i e ≡ f (getD xs i d)
 getD-map f [] i d e h = absurd (omega arith)
 getD-map f (x ∷ xs) zero d e h = refl

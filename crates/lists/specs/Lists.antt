@@ -1,5 +1,6 @@
--- Lists: every element has a property, or some element, is not among others, differs from the rest; tests of all or some elements; lists read place by place.
-use Prim.Native.Nat.{ℕ, zero, suc}
+-- Lists: every element has a property, or some element, is not among others, differs from the rest; tests of all or some elements; the
+-- greatest of numbers; lists read place by place.
+use Prim.Native.Nat.{ℕ, zero, suc, max}
 use mathlib.Core.Logic.{_≢_, _⊎_}
 use mathlib.Core.Bool.{Bool, true, false, _&&_, _||_}
 use mathlib.Core.List.{List, [], _∷_, _++_}
@@ -45,6 +46,13 @@ allBelow (suc k) t = t k && allBelow k t
 abbrev pub anyBelow : ℕ → (ℕ → Bool) → Bool
 anyBelow zero t = false
 anyBelow (suc k) t = t k || anyBelow k t
+
+-- ---- numbers
+
+-- the greatest of them, 0 where there is none
+abbrev pub maximum : List ℕ → ℕ
+maximum [] = 0
+maximum (x ∷ xs) = max x (maximum xs)
 
 -- ---- place by place
 

@@ -22,7 +22,8 @@ use Rattle.question.specs.declared.Progress.{Progress}
 use Rattle.question.specs.Posed.{asked, numbered, Posed}
 use Rattle.leaf.specs.Leaf.{LiteralsAt, LeafReady}
 use Rattle.model.specs.Settled.{values, Filled, Answers}
-use Rattle.model.proofs.Tested.{lengths-pass, model-tests}
+use Rattle.delimiters.proofs.Models.{model-tests}
+use Rattle.model.proofs.Tested.{lengths-pass}
 
 -- ---- the model m, as 48 numbers
 
@@ -79,7 +80,7 @@ module _ (b places : List ℕ) (s : Progress) (h : Posed b s) (p : LiteralsAt b 
       unfolding asked
       settled-fault =
           tested ∙ ap (leafFault (asked b s) br) held-are
-          ∙ model-tests b (asked b s) (leafFault (asked b s) br m) at size true true (eq-eqb size (4 * columnCount (numbered s)) n) small
+          ∙ model-tests b (asked b s) at size (leafFault (asked b s) br m) true true (eq-eqb size (4 * columnCount (numbered s)) n) small
 
       pub settled-answers : r ≡ 0 → Answers b places s br (modelAt b (asked b s) at) ls held
       unfolding asked

@@ -1,17 +1,14 @@
--- The tests at a model, one after the other.
-use Prim.Native.Nat.{ℕ, _*_, _-_}
+-- The tests at a leaf, one after the other.
+use Prim.Native.Nat.{_-_}
 use mathlib.Core.Path.{_≡_, sym, _∙_, ap}
 use mathlib.Core.Bool.{Bool, true}
 use mathlib.Core.List.{List}
-use lib.Dec.{eqb}
 use lib.IntN.{ℤ}
-use Rattle.calculus.specs.Limits.{columnLimit, valueLimit}
+use Rattle.calculus.specs.Limits.{columnLimit}
 use Rattle.calculus.specs.Facts.{Question, Branch, columnCount}
 use Rattle.calculus.specs.SaturationTest.{saturated}
 use Rattle.format.specs.Records.{need}
-use Rattle.format.specs.Reading.{modelAt, modelFault}
 use Rattle.format.specs.Checking.{keeps, shortLengths, leafFault}
-use Rattle.format.specs.Fields.{allWithin}
 use Rattle.format.proofs.Faults.{none-applies}
 use Rattle.rows.proofs.Values.{keeps-filled}
 use Rattle.question.specs.declared.Progress.{Progress}
@@ -34,8 +31,3 @@ pub lengths-pass : (u : Question) (br : Branch) (m : List ℤ) → leafFault u b
 lengths-pass u br m e =
     let behind = none-applies 11 (keeps m br) (need 13 (saturated u br m) (need 14 (shortLengths u m) 0)) e .1 in
     none-applies 13 (shortLengths u m) 0 (none-applies 12 (saturated u br m) (need 14 (shortLengths u m) 0) behind .1) .0
-
-pub model-tests : (b : List ℕ) (u : Question) (later at m : ℕ) (t w : Bool) → eqb m (4 * columnCount u) ≡ t → allWithin valueLimit (modelAt b u at) ≡ w
-    → need 5 t (need 6 w later) ≡ modelFault b u later at m
-model-tests b u later at m t w et ew =
-    sym (ap (λ (x : Bool). need 5 x (need 6 (allWithin valueLimit (modelAt b u at)) later)) et ∙ ap (λ (x : Bool). need 5 t (need 6 x later)) ew)

@@ -18,12 +18,12 @@ ghost use Rattle.question.specs.Posed.{asked, Posed};
 ghost use Rattle.leaf.specs.Leaf.{LiteralsAt};
 ghost use Rattle.model.specs.Settled.{values, modelOf, faultOf, Filled, Writable, Answers};
 use answer::write_answer;
+use delimiters::model_fault;
 use limits::LENGTH_LIMIT;
 use limits::NODE_COUNT;
 use limits::VARIABLE_LIMIT;
 use question::Progress;
 use records::i32_at;
-use records::integers_within;
 use strings::give_strings;
 
 // The table of strings: a row for each string variable that there may be.
@@ -94,14 +94,14 @@ pub fn settle(
         (modelOf (now (ticket .entry)) s at) (r .labels) (now (model .exit))) ⌝ }
 {
     let labels = classes::labels(work, count);
-    let columns = s.q + (s.p + s.p);
-    if size != 4 * columns {
-        return Settled { fault: 5, labels };
+    let form = model_fault(ticket, s, at, size);
+    if form != 0 {
+        return Settled {
+            fault: form,
+            labels,
+        };
     }
-    if !integers_within(ticket, at, columns) {
-        return Settled { fault: 6, labels };
-    }
-    read_model(model, ticket, at, columns);
+    read_model(model, ticket, at, s.q + (s.p + s.p));
     let fault = leaf_fault(ticket, places, work, count, model, s, labels);
     Settled { fault, labels }
 }

@@ -8,9 +8,11 @@ use Rattle.calculus.specs.Limits.{workNumbers}
 use Rattle.format.specs.Checking.{Outcome, Refused, NoSolution, Strings, verdict}
 use Rattle.format.specs.Demands.{Checked, answerAfter}
 use Rattle.format.specs.Judging.{Judgement, Refusal, AllMet, Unmet, judging, said, Shown, shownBy, bySide}
+use Rattle.format.specs.Needs as needs
 use Rattle.nuldwich.specs.declared.JudgementNumbers.{JudgementNumbers}
 use Rattle.nuldwich.specs.declared.JudgeReply.{JudgeReply}
 use Rattle.nuldwich.specs.declared.Reply.{Reply}
+use Rattle.nuldwich.specs.declared.NeedReply.{NeedReply}
 
 -- judging: number 0 and record 0 where all constraints are met; number 255 where the constraint named by record is not met; else a refusal
 abbrev pub numbered : Judgement → JudgementNumbers
@@ -48,3 +50,8 @@ pub record LentReplies (ticket : List ℕ) (work work' : List ℤ) (answer answe
   pub outcome : Outcome
   pub checked : Checked ticket work work' answer answer' outcome
   pub numbered : reply ≡ checkReply outcome
+
+-- what a ticket will need: number 0 and record 0 with the report; else a refusal, and the three counts are 0 (docs/DECISIONS.md, 114)
+abbrev pub needReply : needs.Need → NeedReply
+needReply (needs.Refused c r) = record { number = c; «record» = r; steps = 0; facts = 0; pending = 0 }
+needReply (needs.Needs m) = record { number = 0; «record» = 0; steps = m .steps; facts = m .facts; pending = m .pending }

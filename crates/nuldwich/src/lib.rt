@@ -1,10 +1,12 @@
-// The host's entries, in C: "calls both operations on numbers and byte slices".
+// The host's entries, in C: "calls both operations on numbers and byte slices", and what a ticket will need (02, L2).
 ghost use mathlib.Core.Path.{_≡_};
 ghost use Rattle.format.specs.Checking as format;
 ghost use Rattle.deciding.specs.Outcomes.{told};
 ghost use Rattle.format.specs.Judging.{bySide};
 ghost use Rattle.judging.specs.Judgements.{judgementOf, sideOf};
-ghost use Rattle.nuldwich.specs.Replies.{numbered, JudgeReplies, checkReply, CheckReplies, LentReplies};
+ghost use Rattle.format.specs.Needs.{needed};
+ghost use Rattle.needs.specs.Outcomes.{needOf};
+ghost use Rattle.nuldwich.specs.Replies.{numbered, JudgeReplies, checkReply, CheckReplies, LentReplies, needReply};
 use checking::check_ticket;
 use deciding::Outcome;
 use judging::Judgement;
@@ -12,6 +14,8 @@ use judging::Side;
 use judging::judge_answer;
 use judging::show;
 use limits::WORK_NUMBERS;
+use needs::Need;
+use needs::need_ticket;
 
 // ---- judging
 
@@ -122,4 +126,45 @@ pub extern "C" fn check(ticket: &[u8], answer: &mut [u8]) -> Reply
     let mut work = [0i64; WORK_NUMBERS];
     let outcome = check_ticket(ticket, &mut work, answer);
     reply_outcome(outcome)
+}
+
+// ---- what a ticket will need
+
+// What nuldwich_need returns: a number and a record, and the three counts, which are 0 where the ticket is refused.
+#[repr(C)]
+pub struct NeedReply {
+    pub number: u64,
+    pub record: u64,
+    pub steps: u64,
+    pub facts: u64,
+    pub pending: u64,
+}
+
+fn reply_need(need: Need) -> NeedReply
+    ensures { λ r. ⌜ r ≡ needReply (needOf need) ⌝ }
+{
+    match need {
+        Need::Refused(c, r) => NeedReply {
+            number: c as u64,
+            record: r as u64,
+            steps: 0,
+            facts: 0,
+            pending: 0,
+        },
+        Need::Needs(report) => NeedReply {
+            number: 0,
+            record: 0,
+            steps: report.steps as u64,
+            facts: report.facts as u64,
+            pending: report.pending as u64,
+        },
+    }
+}
+
+// Counts what checking a ticket will need; nothing is written.
+#[no_mangle]
+pub extern "C" fn nuldwich_need(ticket: &[u8]) -> NeedReply
+    ensures { λ r. ⌜ r ≡ needReply (needed (now (ticket .entry))) ⌝ }
+{
+    reply_need(need_ticket(ticket))
 }

@@ -349,6 +349,12 @@ pub const JUDGING: Manner = Manner {
     greatest: ARITHMETIC_RANK,
 };
 
+// What a ticket will need: "It never gives 10" (02, L2).
+pub const NEEDING: Manner = Manner {
+    limited: false,
+    greatest: ARITHMETIC_RANK,
+};
+
 // ---- one record
 
 // What was read so far: the rank of the last record, 0 before the head, and the question by its numbers.

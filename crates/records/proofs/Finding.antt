@@ -10,7 +10,7 @@ use denote.Enum.Declared.{tagOf}
 use borrow.Author.Tests.{leb-true, leb-false}
 use Rattle.format.specs.Records.{leadingWhole, whole, next, kind, size}
 use Rattle.format.proofs.Faults.{clash}
-use Rattle.records.specs.Found.{foundAt}
+use Rattle.records.specs.Found.{foundAt, WholeRecord}
 use Rattle.records.proofs.Found.{the-type}
 use Rattle.records.specs.declared.Found.{Found}
 use Rattle.records.specs.declared.Found.the-variants.{Whole, Cut, Nothing}
@@ -38,11 +38,11 @@ module _ (b : List ℕ) (at : ℕ) where
       go true false eh ew q = (cc, leb-true (at + 6) (length b) eh, leb-false (next b at) (length b) ew)
       go false w eh ew q = clash cc
 
-  pub found-whole : (k m : ℕ) → foundAt b at ≡ Whole k m → (k ≡ kind b at) × (m ≡ size b at) × (at + 6 + m ≤ length b)
+  pub found-whole : (k m : ℕ) → foundAt b at ≡ Whole k m → WholeRecord b at k m
   unfolding foundAt
   found-whole k m = go (leadingWhole b at) (whole b at) refl refl
     where
-      go : (h w : Bool) → leadingWhole b at ≡ h → whole b at ≡ w → found h w ≡ Whole k m → (k ≡ kind b at) × (m ≡ size b at) × (at + 6 + m ≤ length b)
+      go : (h w : Bool) → leadingWhole b at ≡ h → whole b at ≡ w → found h w ≡ Whole k m → WholeRecord b at k m
       go true true eh ew q =
           let e : m ≡ size b at = cc in
           (cc, e, rw e (leb-true (next b at) (length b) ew))
@@ -59,5 +59,5 @@ not-whole b at (Cut k) e t = found-cut b at k (sym e) .2
 not-whole b at Nothing e t = omega (arith, found-nothing b at (sym e))
 
 -- a whole record ends within the bytes
-pub all-there : (b : List ℕ) (at k m : ℕ) → (k ≡ kind b at) × (m ≡ size b at) × (at + 6 + m ≤ length b) → next b at ≤ length b
+pub all-there : (b : List ℕ) (at k m : ℕ) → WholeRecord b at k m → next b at ≤ length b
 all-there b at k m w = rw (w .1) at (w .2)

@@ -85,25 +85,27 @@ card-few b n body m f =
     omega (arith, card-count b n body m, pairs-halved ((m - 4) / 2), pairs-few ((m - 4) / 2) variables, last-few (characterCount n))
 
 -- no step has more than 121 children
-pub few-children : (b : List ℕ) (n body m : ℕ) → lengthFits b body m ≡ true → length (shape n (stepAt b body m)) ≤ 121
-unfolding shape stepOf
-few-children b n body m f = go (rule b body) f
-  where
-    go : (r : Rule) → fitsForm (formFor r) m ≡ true → length (shape n (stepOf b r body m)) ≤ 121
-    go sum f = omega arith
-    go branch f = omega arith
-    go apart f = omega arith
-    go aConf f = omega arith
-    go sConf f = omega arith
-    go sProp f = omega arith
-    go lIntro f = omega arith
-    go lValid f = omega arith
-    go cCollapse f = omega arith
-    go cValid f = let two = ap length (c-valid-shape b n body m) in omega arith
-    go cInj f = omega arith
-    go card f = card-few b n body m f
-    go join f = omega arith
-    go unknown f = omega arith
+module _ (b : List ℕ) (n body m : ℕ) where
+  pub few-by : (r : Rule) → fitsForm (formFor r) m ≡ true → length (shape n (stepOf b r body m)) ≤ 121
+  unfolding shape stepOf
+  few-by sum f = omega arith
+  few-by branch f = omega arith
+  few-by apart f = omega arith
+  few-by aConf f = omega arith
+  few-by sConf f = omega arith
+  few-by sProp f = omega arith
+  few-by lIntro f = omega arith
+  few-by lValid f = omega arith
+  few-by cCollapse f = omega arith
+  few-by cValid f = let two = ap length (c-valid-shape b n body m) in omega arith
+  few-by cInj f = omega arith
+  few-by card f = card-few b n body m f
+  few-by join f = omega arith
+  few-by unknown f = omega arith
+
+  pub few-children : lengthFits b body m ≡ true → length (shape n (stepAt b body m)) ≤ 121
+  unfolding shape stepOf
+  few-children f = few-by (rule b body) f
 
 -- ---- how many facts each adds
 

@@ -6,3 +6,4 @@ pub mod Faults
 pub mod Concluding
 pub mod Bodies
 pub mod Offered
+pub mod Numbers

@@ -1,12 +1,13 @@
 -- The table of step forms, and what holds of every form.
 use Prim.Native.Nat.{ℕ, _-_, _/_, _%_, _<_, _≤_}
 use native.Mathlib.Omega.{arith}
-use mathlib.Core.Path.{_≡_, _∙_, ap}
-use mathlib.Core.Bool.{true}
+use native.Mathlib.Nat.{zero-mod, zero-div}
+use mathlib.Core.Path.{_≡_, _∙_, ap, ap₂}
+use mathlib.Core.Bool.{true, _&&_}
 use mathlib.Core.List.{List, map}
 use lib.ListN.{getD, List·getD-eq-default}
 use lib.Dec.{leb, eqb}
-use borrow.Author.Tests.{leb-true}
+use borrow.Author.Tests.{leb-true, le-leb}
 use Rattle.lists.proofs.Lists.{getD-map}
 use Rattle.lists.proofs.Tests.{and-both}
 use Rattle.format.specs.StepForms as format
@@ -21,6 +22,15 @@ entryOf r = record { 0 = formFor r .least; 1 = formFor r .stride; 2 = formFor r 
 
 pub entry-right : (k : ℕ) (d : Form) → k < 14 → stepForm (getD (map entryOf ruleNames) k d) ≡ formFor (ruleOf k)
 entry-right k d h = ap stepForm (getD-map entryOf ruleNames k unknown d h)
+
+-- the least length fits
+pub least-fits : (f : format.Form) (m : ℕ) → 0 < f .stride → m ≡ f .least → fitsForm f m ≡ true
+least-fits f m h e =
+    let none : m - f .least ≡ 0 = omega arith in
+    ap₂ _&&_ (le-leb (f .least) m (omega arith))
+    (ap (λ k. eqb (k % f .stride) 0 && leb (k / f .stride) (f .greatest)) none
+    ∙ ap₂ (λ r q. eqb r 0 && leb q (f .greatest)) (zero-mod (f .stride)) (zero-div (f .stride))
+    ∙ le-leb 0 (f .greatest) (omega arith))
 
 -- a length that fits is at least the least, and at most so many strides more
 pub at-most : (f : format.Form) (m : ℕ) → fitsForm f m ≡ true → (m - f .least) / f .stride ≤ f .greatest

@@ -11,12 +11,16 @@ ghost use Rattle.calculus.specs.Steps.{pairCount, lastCount};
 ghost use Rattle.format.specs.Fields.{u16s, pairsAt};
 ghost use Rattle.format.specs.StepForms as forms;
 ghost use Rattle.format.specs.StepForms.{ruleOf, formFor, fitsForm, lengthFits, multipliersWithin, areVariables, operandsInRange, stepOf, isChild};
+ghost use Rattle.records.specs.Found.{WholeRecord};
+ghost use Rattle.delimiters.specs.Numbers.{openFault};
 ghost use Rattle.steps.specs.Rules.{ruleNamed, shapeOf};
 ghost use Rattle.steps.specs.Forms.{stepForm};
 ghost use Rattle.steps.specs.Faults.{childFieldFits, faultBut, faultUnder};
 ghost use Rattle.steps.specs.Conclusions.{conclusionsOf};
 use delimiters::Claim;
+use delimiters::open_fault;
 use encoding::CODE;
+use encoding::RECORD_HEAD;
 use limits::COLUMN_LIMIT;
 use limits::NUMBER_LIMIT;
 use limits::SUMMAND_LIMIT;
@@ -79,7 +83,7 @@ pub const OPERANDS: usize = 4;
 
 // The least length of a body, rule and child counted in, the stride and the greatest count: at most so many strides more. The numbers are narrow, since the
 // table is put together at each use.
-pub struct Form(pub u16, pub u16, pub u16);
+pub struct Form(pub u8, pub u8, pub u16);
 
 // The numbers of the rules, and 0, which is for no rule.
 const RULE_NUMBERS: usize = 14;
@@ -135,6 +139,10 @@ fn fits_form(f: Form, size: usize) -> bool
     let greatest = f.2 as usize;
     if size < least {
         return false;
+    }
+    // Most steps have the least length: no division for them.
+    if size == least {
+        return true;
     }
     let more = size - least;
     if more % stride != 0 {
@@ -352,7 +360,7 @@ fn child_field_fits(claim: Claim, rule: Rule, n: usize, size: usize, k: usize) -
 }
 
 // The whole body.
-pub fn step_fault(b: &[u8], s: Progress, claim: Claim, body: usize, size: usize) -> usize
+fn step_fault(b: &[u8], s: Progress, claim: Claim, body: usize, size: usize) -> usize
     requires { ⌜ (body + size ≤ length (now b)) × (s .p ≤ variableLimit) × (s .q ≤ variableLimit) ⌝ }
     ensures { λ r. ⌜ r ≡ faultUnder claim (now (b .entry)) s body size ⌝ }
 {
@@ -367,4 +375,25 @@ pub fn step_fault(b: &[u8], s: Progress, claim: Claim, body: usize, size: usize)
     } else {
         6
     }
+}
+
+// ---- a record
+
+// A whole record where a branch is open: its place, then its form. 0 for a step of proper form.
+pub fn record_fault(
+    b: &[u8],
+    s: Progress,
+    claim: Claim,
+    at: usize,
+    kind: usize,
+    size: usize,
+) -> usize
+    requires { ⌜ WholeRecord (now b) at kind size × (s .p ≤ variableLimit) × (s .q ≤ variableLimit) ⌝ }
+    ensures { λ r. ⌜ r ≡ openFault (length (now (b .entry))) (at + 6 + size) kind size (faultUnder claim (now (b .entry)) s (at + 6) size) ⌝ }
+{
+    let place = open_fault(b.len(), at + RECORD_HEAD + size, kind, size);
+    if place != 0 {
+        return place;
+    }
+    step_fault(b, s, claim, at + RECORD_HEAD, size)
 }

@@ -1,6 +1,6 @@
 //! The inputs that are measured: kinds of ticket and of question, each at several sizes.
 
-use compare::writer;
+use compare::{proofs, writer};
 use nuldwich_reference::answer::{write_answer, Answer};
 use nuldwich_reference::derivation::Derivation;
 use nuldwich_reference::facts::Relation::{AtLeast, Equal};
@@ -48,6 +48,9 @@ pub const TO_CHECK: [Kind; 11] = [
     SMALLEST_REFUSAL,
     constraints("smallest acceptance", &[0], smallest_acceptance),
 ];
+
+/// What is measured of the need of a ticket, besides all that is measured of checking.
+pub const TO_NEED: [Kind; 1] = [steps("L-Valids, all pending", &[185, 371, 743, 1_487], pending)];
 
 /// What is measured of judging.
 pub const TO_JUDGE: [Kind; 3] = [
@@ -234,6 +237,12 @@ fn card(variables: usize) -> Vec<Vec<u8>> {
         growing.close();
     }
     growing.ticket()
+}
+
+/// So many pending splits, more than checking takes, and all their children closed; 1,487 are the most that a ticket holds.
+fn pending(splits: usize) -> Vec<Vec<u8>> {
+    let steps = [vec![Rule::LValid(0); splits], vec![Rule::SConf; splits + 1]].concat();
+    vec![proofs::ticket(&frame(128, 1, 0), &steps)]
 }
 
 /// The bytes of a ticket that claims strings without steps.

@@ -8,7 +8,7 @@ mod plain;
 use compare::library;
 use compare::operation::{operation, Buffers, Call, Entry, Operation, Reply, Sizes};
 use compare::random::Random;
-use inputs::{Kind, TO_CHECK, TO_JUDGE};
+use inputs::{Kind, TO_CHECK, TO_JUDGE, TO_NEED};
 use nuldwich_reference::records::whole_records;
 use std::hint::black_box;
 use std::time::{Duration, Instant};
@@ -18,7 +18,8 @@ const BUDGET: Duration = Duration::from_millis(800);
 const ROUND: Duration = Duration::from_micros(100);
 
 /// The operations that are measured, with the kinds of their inputs.
-const MEASURED: [(&str, &[Kind]); 2] = [("check", &TO_CHECK), ("judge", &TO_JUDGE)];
+const MEASURED: [(&str, &[&[Kind]]); 3] =
+    [("check", &[&TO_CHECK]), ("judge", &[&TO_JUDGE]), ("need", &[&TO_CHECK, &TO_NEED])];
 
 fn main() {
     let asked: Vec<String> = std::env::args().skip(1).collect();
@@ -30,7 +31,7 @@ fn main() {
 }
 
 /// The table of one operation: of its first entry, the one that a host calls.
-fn measure(operation: &dyn Operation, kinds: &[Kind]) {
+fn measure(operation: &dyn Operation, kinds: &[&[Kind]]) {
     let entry = &operation.entries()[0];
     let sizes = Sizes { work: 0, ..operation.sizes(&[]) };
     println!(
@@ -45,7 +46,7 @@ fn measure(operation: &dyn Operation, kinds: &[Kind]) {
         "ns each: library",
         "plain"
     );
-    for kind in kinds {
+    for kind in kinds.iter().copied().flatten() {
         for size in kind.sizes {
             print_line(entry, &sizes, kind, *size);
         }
@@ -131,5 +132,10 @@ mod tests {
     #[test]
     fn plain_judging_agrees_with_the_reference() {
         plain_agrees("judge");
+    }
+
+    #[test]
+    fn plain_need_agrees_with_the_reference() {
+        plain_agrees("need");
     }
 }

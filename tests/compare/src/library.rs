@@ -46,6 +46,22 @@ mod linked {
         }
     }
 
+    /// `nuldwich_needs`.
+    #[repr(C)]
+    struct Needed {
+        number: u64,
+        record: u64,
+        steps: u64,
+        facts: u64,
+        pending: u64,
+    }
+
+    impl From<Needed> for Reply {
+        fn from(needed: Needed) -> Reply {
+            [needed.number, needed.record, needed.steps, needed.facts, needed.pending]
+        }
+    }
+
     extern "C" {
         #[link_name = "check"]
         fn c_check(ticket: *const u8, ticket_len: usize, answer: *mut u8, answer_len: usize) -> Replied;
@@ -60,6 +76,8 @@ mod linked {
         ) -> Replied;
         #[link_name = "judge"]
         fn c_judge(question: *const u8, question_len: usize, answer: *const u8, answer_len: usize) -> Judged;
+        #[link_name = "nuldwich_need"]
+        fn c_need(ticket: *const u8, ticket_len: usize) -> Needed;
     }
 
     /// The entry of a name.
@@ -68,6 +86,7 @@ mod linked {
             "check" => Some(check),
             "check_in" => Some(check_in),
             "judge" => Some(judge),
+            "need" => Some(need),
             _ => None,
         }
     }
@@ -89,5 +108,11 @@ mod linked {
         let (question, answer) = (&parts[0], &parts[1]);
         // Both slices are valid for their lengths during the call.
         unsafe { c_judge(question.as_ptr(), question.len(), answer.as_ptr(), answer.len()) }.into()
+    }
+
+    fn need(parts: &[Vec<u8>], _: &mut Buffers) -> Reply {
+        let ticket = &parts[0];
+        // The slice is valid for its length during the call.
+        unsafe { c_need(ticket.as_ptr(), ticket.len()) }.into()
     }
 }

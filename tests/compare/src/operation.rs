@@ -2,13 +2,14 @@
 
 use crate::check::Check;
 use crate::judge::Judge;
+use crate::need::Need;
 use crate::random::Random;
 use crate::report::Report;
 use crate::vectors::Vector;
 use std::path::Path;
 
 /// All operations.
-pub const OPERATIONS: &[&dyn Operation] = &[&Check, &Judge];
+pub const OPERATIONS: &[&dyn Operation] = &[&Check, &Judge, &Need];
 
 /// The operation of a name.
 pub fn operation(name: &str) -> Option<&'static dyn Operation> {
@@ -96,6 +97,11 @@ pub trait Operation {
 
     /// The outcome to count by, where the reference gives `due`.
     fn label(&self, parts: &[Vec<u8>], due: &Reply) -> String;
+
+    /// What is wrong with an entry's reply, whatever the reference gives in its place.
+    fn fault(&self, _parts: &[Vec<u8>], _reply: &Reply) -> Option<String> {
+        None
+    }
 
     /// How many seeds inputs are grown from.
     fn seeds(&self) -> u64;

@@ -73,7 +73,7 @@ impl Run<'_> {
             let buffers = Buffers::dirty(random, &Sizes { work, ..input.sizes });
             let mut due_buffers = buffers.clone();
             let due = (entry.reference)(&input.parts, &mut due_buffers);
-            differences.extend(difference(entry.name, *call, input, buffers, (&due, &due_buffers)));
+            differences.extend(difference(self.operation, entry.name, *call, input, buffers, (&due, &due_buffers)));
             label = self.operation.label(&input.parts, &due);
         }
         let difference = (!differences.is_empty()).then(|| format!("{}\n{}", shown(input), differences.join("\n")));
@@ -81,23 +81,26 @@ impl Run<'_> {
     }
 }
 
-/// How what an entry returns and leaves differs from what is due, in words.
+/// How what an entry returns and leaves differs from what is due, and what else is wrong with it, in words.
 fn difference(
+    operation: &dyn Operation,
     name: &str,
     call: Call,
     input: &Input,
     mut buffers: Buffers,
     (due, due_buffers): (&Reply, &Buffers),
-) -> Option<String> {
+) -> Vec<String> {
     let lent = input.parts.clone();
     let reply = call(&lent, &mut buffers);
     let (answer, work) = (buffers.answer == due_buffers.answer, buffers.work == due_buffers.work);
     let same = *due == reply && answer && work && lent == input.parts;
-    (!same).then(|| {
+    let differs = (!same).then(|| {
         format!(
             "{name}: reference {due:?}, library {reply:?}, answer buffer as due: {answer}, work area as due: {work}"
         )
-    })
+    });
+    let fault = operation.fault(&lent, &reply).map(|fault| format!("{name}: {fault}"));
+    differs.into_iter().chain(fault).collect()
 }
 
 /// An input in words.

@@ -39,14 +39,19 @@ pub fn check(ticket: &[u8], work_len: usize, answer_len: usize) -> Outcome {
     if work_len < WORK_AREA || answer_len < ANSWER_BUFFER {
         return Outcome::Refused { number: 1, record: 0 };
     }
+    check_watched(ticket, &mut |_, _| {})
+}
+
+/// Checking with buffers that are large enough; `watch` is shown each record that is taken, and what has been read with it.
+pub fn check_watched(ticket: &[u8], watch: &mut dyn FnMut(&Record, &Ticket)) -> Outcome {
     if ticket.len() > LONGEST_TICKET {
         return Outcome::Refused { number: 2, record: 0 };
     }
-    check_records(ticket)
+    check_records(ticket, watch)
 }
 
 /// "Records are read one after another from the lent bytes."
-fn check_records(bytes: &[u8]) -> Outcome {
+fn check_records(bytes: &[u8], watch: &mut dyn FnMut(&Record, &Ticket)) -> Outcome {
     let mut ticket = Ticket::default();
     let mut start = 0;
     for number in 0.. {
@@ -56,12 +61,22 @@ fn check_records(bytes: &[u8]) -> Outcome {
         if let Err(refusal) = ticket.take(&record, bytes.len()) {
             return Outcome::Refused { number: refusal, record: number };
         }
+        watch(&record, &ticket);
         if record.kind == 8 {
             break;
         }
         start = record.end;
     }
     ticket.accepted()
+}
+
+/// "5 claim, once: u16, 1 for no solution, 2 for strings", behind a question and the claim before it, 0 for none.
+pub fn read_claim(question: &Question, before: u16, body: &[u8]) -> Result<u16, Refusal> {
+    demand(question.has_head() && before == 0, 4)?;
+    demand(body.len() == 2, 5)?;
+    let claim = u16_at(body, 0);
+    demand(claim == 1 || claim == 2, 6)?;
+    Ok(claim)
 }
 
 impl Ticket {
@@ -85,12 +100,8 @@ impl Ticket {
         }
     }
 
-    /// "5 claim, once: u16, 1 for no solution, 2 for strings."
     fn take_claim(&mut self, body: &[u8]) -> Result<(), Refusal> {
-        demand(self.question.has_head() && self.claim == 0, 4)?;
-        demand(body.len() == 2, 5)?;
-        self.claim = u16_at(body, 0);
-        demand(self.claim == 1 || self.claim == 2, 6)?;
+        self.claim = read_claim(&self.question, self.claim, body)?;
         self.derivation = Some(Derivation::new(&self.question));
         Ok(())
     }

@@ -1,4 +1,4 @@
-//! A simple reference checker and judge of solver tickets, written from documents 01 and 02 and from nothing else.
+//! A simple reference for the operations on solver tickets, written from documents 01 and 02 and from nothing else.
 //!
 //! It is meant to be read beside these: lists, `i128` and no cleverness. Quoted words are theirs.
 
@@ -9,6 +9,7 @@ pub mod derivation;
 pub mod facts;
 pub mod judging;
 pub mod leaf;
+pub mod need;
 pub mod program;
 pub mod question;
 pub mod records;
@@ -17,6 +18,7 @@ pub mod steps;
 
 pub use checking::{check, Outcome};
 pub use judging::{judge, Judgement, Part, Side};
+pub use need::{need, Needs};
 pub use program::program;
 
 /// The number of a refusal, 1 to 16.

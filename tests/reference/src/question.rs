@@ -7,7 +7,7 @@ use crate::{demand, Refusal};
 /// "At most 128 facts stand on a branch."
 pub const MOST_FACTS: usize = 128;
 
-/// "Kinds 1 to 4 are the question." Literal 0 is the empty string.
+/// "Kinds 1 to 4 are the question." Literal 0 is the empty string. "Its constraints are facts 0, 1 and on."
 #[derive(Clone, Debug, Default)]
 pub struct Question {
     pub n: u32,
@@ -41,6 +41,12 @@ impl Question {
 
     /// Takes one record of the question: 4 to 7 and 10, in this order.
     pub fn take(&mut self, kind: u16, body: &[u8]) -> Result<(), Refusal> {
+        self.read(kind, body)?;
+        demand(self.constraints.len() <= MOST_FACTS, 10)
+    }
+
+    /// Takes one record of a question that may have any number of constraints: 4 to 7, in this order.
+    pub fn read(&mut self, kind: u16, body: &[u8]) -> Result<(), Refusal> {
         demand(self.in_place(kind), 4)?;
         self.last_kind = kind;
         match kind {
@@ -94,7 +100,8 @@ impl Question {
             _ => return Err(6),
         };
         demand(b < choices, 6)?;
-        self.add_constraint(fact)
+        self.constraints.push(fact);
+        Ok(())
     }
 
     /// "4 arithmetic constraint: u16 relation, i32 constant, then 0 to 48 pairs."
@@ -107,7 +114,8 @@ impl Question {
             _ => return Err(6),
         };
         let row = self.read_form(&body[2..])?;
-        self.add_constraint(Fact::Arithmetic(relation, row))
+        self.constraints.push(Fact::Arithmetic(relation, row));
+        Ok(())
     }
 
     /// "i32 constant, then 0 to 48 pairs of u16 column and nonzero i32 coefficient, columns rising strictly."
@@ -123,12 +131,5 @@ impl Question {
         }
         demand(row.within_limit(), 6)?;
         Ok(row)
-    }
-
-    /// "Its constraints are facts 0, 1 and on", "at most 128 facts".
-    fn add_constraint(&mut self, fact: Fact) -> Result<(), Refusal> {
-        demand(self.constraints.len() < MOST_FACTS, 10)?;
-        self.constraints.push(fact);
-        Ok(())
     }
 }

@@ -27,8 +27,10 @@ use Rattle.conclusions.proofs.Labels.{known-for}
 use Rattle.question.specs.Posed.{asked}
 use Rattle.steps.specs.Faults.{faultUnder}
 use Rattle.steps.proofs.Table.{least-four}
-use Rattle.delimiters.specs.Claims.{openUnder}
+use Rattle.steps.proofs.Numbers.{form-refused, its-kind, its-form, its-field, its-trial}
+use Rattle.delimiters.specs.Claims.{openUnder, endsAt}
 use Rattle.delimiters.specs.Numbers.{openFault}
+use Rattle.delimiters.proofs.Open.{open-end}
 use Rattle.branch.specs.declared.Split.{Split}
 use Rattle.branch.specs.Stack.{stack, latestOf}
 use Rattle.derivation.specs.declared.Action.the-variants.{Closes}
@@ -36,8 +38,7 @@ use Rattle.derivation.specs.Ok.{InOrder}
 use Rattle.derivation.specs.Actions.{numberOf, Acts, ReadyUnder}
 use Rattle.derivation.proofs.Holding.{few-splits}
 use Rattle.derivation.proofs.Closing.{open-depth}
-use Rattle.claims.specs.Outcomes.{endsAt, firstUpto, LeafAt}
-use Rattle.claims.proofs.Numbers.{form-refused, its-kind, its-form, its-field, its-trial}
+use Rattle.claims.specs.Outcomes.{firstUpto, LeafAt}
 use Rattle.claims.proofs.Walking.{first-few, fine-rows, pendingOn, Going, going-same, starts, going-none}
 use Rattle.claims.proofs.Walking.{going-refused, going-model, leaf-here, Stepped, same-pending}
 use Rattle.claims.proofs.Walking.{going-closed, still-open, going-next, few-extended, going-one, can-mark, going-more, known-below}
@@ -144,7 +145,10 @@ returns-2 c =
     )
 
 record-fault-requires : tie.Need-record-fault-requires Inv-loop μ-loop
-record-fault-requires c κs = let found = c .before .before .before .before in (startOf (atLoop found) .pre .0 .0, whole found)
+record-fault-requires c κs =
+    let found = c .before .before .before .before in
+    let stands = startOf (atLoop found) .pre .0 .0 .stands in
+    (whole found, stands .few-strings, stands .few-integers)
 
 -- it does not end the steps
 going-on : (c : tie.Else1 Inv-loop μ-loop) →
@@ -167,7 +171,8 @@ returns-3 c =
     let r = whole found in
     let f = c .before .record-fault in (
       going-refused b (a .s) (o .inv) _ (all-there b (o .i) _ _ r) (f .result)
-          (form-refused b (a .s) (o .work) (o .b .count) (pendingOn b (a .s) (o .work) (o .b)) (o .i) (a .claim) _ _ r (going-on else1) (f .result) (f .ensures)
+          (form-refused (checker (asked b (a .s))) b (a .s) (branchOf (o .work) (o .b .count)) (pendingOn b (a .s) (o .work) (o .b)) (o .i) (a .claim)
+          (open-end (a .claim) _ _) _ _ r (going-on else1) (f .result) (f .ensures)
           (c .if2 .taken))
           (c .if2 .taken),
       tt,
@@ -203,12 +208,16 @@ ready c =
     record {
       ready = record {
         posed = startOf l .pre .0 .0;
-        formed = its-form b (a .s) (o .work) (o .b .count) ss (o .i) (a .claim) _ _ (whole found) on (passed else2);
+        formed =
+            its-form (checker (asked b (a .s))) b (a .s) (branchOf (o .work) (o .b .count)) ss (o .i) (a .claim) (open-end (a .claim) _ _) _ _ (whole found) on
+            (passed else2);
         fine = fine-rows (a .claim) b (a .s) (o .work) (o .b) (o .inv .holds);
       };
       named = c .rule-of .ensures ∙ ap ruleOf (c .before .u16-at .ensures .0);
       sized = whole found .1;
-      field = its-field b (a .s) (o .work) (o .b .count) ss (o .i) (a .claim) _ _ (whole found) on (passed else2);
+      field =
+          its-field (checker (asked b (a .s))) b (a .s) (branchOf (o .work) (o .b .count)) ss (o .i) (a .claim) (open-end (a .claim) _ _) _ _ (whole found) on
+          (passed else2);
     }
 
 add-u16-at : tie.Need-add-u16-at Inv-loop μ-loop
@@ -222,7 +231,8 @@ u16-at-requires c κs =
     let o = l .loop in
     let b = bytes l in
     let f =
-    its-form b (a .s) (o .work) (o .b .count) (pendingOn b (a .s) (o .work) (o .b)) (o .i) (a .claim) _ _ (whole found) (going-on (c .before .before))
+    its-form (checker (asked b (a .s))) b (a .s) (branchOf (o .work) (o .b .count)) (pendingOn b (a .s) (o .work) (o .b)) (o .i) (a .claim)
+    (open-end (a .claim) _ _) _ _ (whole found) (going-on (c .before .before))
     (passed c) in
     omega (arith, f .within, at-least (formFor (rule b (o .i + 6))) _ (f .fits), least-four (rule b (o .i + 6)))
 
@@ -302,11 +312,14 @@ stepped c =
     record {
       sized = r .1;
       whole = all-there b (o .i) _ _ r;
-      step = its-kind b (a .s) (o .work) (o .b .count) ss (o .i) (a .claim) _ _ r on (passed else2);
+      step =
+          its-kind (checker (asked b (a .s))) b (a .s) (branchOf (o .work) (o .b .count)) ss (o .i) (a .claim) (open-end (a .claim) _ _) _ _ r on
+          (passed else2);
       number =
           c .take-step .ensures .0
           ∙ same-pending b (a .s) (a .claim) (o .work) (o .b) (o .i) (o .inv .holds)
-          ∙ its-trial b (a .s) (o .work) (o .b .count) ss (o .i) (a .claim) _ _ r on (passed else2);
+          ∙ its-trial (checker (asked b (a .s))) b (a .s) (branchOf (o .work) (o .b .count)) ss (o .i) (a .claim) (open-end (a .claim) _ _) _ _ r on
+          (passed else2);
       acts = c .take-step .ensures .1;
     }
 

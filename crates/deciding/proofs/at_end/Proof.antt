@@ -2,7 +2,8 @@
 use borrow.Author.Needs.{needs}
 use denote.Ref.{now}
 use mathlib.Core.Path.{_∙_, refl, sym}
-use Rattle.deciding.proofs.Outcomes.{no-solution, nonzero, refused}
+use Rattle.deciding.proofs.Outcomes.{no-solution, refused}
+use Rattle.format.proofs.StepTurns.{nonzero}
 use Rattle.delimiters.proofs.Ends.{closed-done, closed-refused}
 use Rattle.format.specs.Checking.{checker}
 use Rattle.question.specs.Posed.{asked}

@@ -4,8 +4,9 @@ use borrow.Author.Needs.{needs}
 use denote.Ref.{now}
 use mathlib.Core.Path.{_∙_, refl, sym}
 use native.Mathlib.Omega.{arith}
-use Rattle.deciding.proofs.AtModel.{ended, unended, unsettled}
 use Rattle.deciding.proofs.Outcomes.{refused, strings}
+use Rattle.delimiters.proofs.AtModel.{ended, unended, unsettled}
+use Rattle.format.specs.Checking.{checker}
 use Rattle.format.specs.Reading.{modelAt}
 use Rattle.question.proofs.Posed.{literals-whole}
 use Rattle.question.specs.Posed.{asked}
@@ -46,7 +47,7 @@ returns c =
     let s = c .before .before .before .before .before .before .before .before .before in
     let b = now (s .args .ticket) in
     refused (now (s .args .answer))
-    (unsettled b (asked b (s .args .s)) (branchOf (now (s .args .work)) (s .args .count)) (s .args .r) (s .args .at) (u32-at .result)
+    (unsettled (checker (asked b (s .args .s))) (λ br v. refl) b (asked b (s .args .s)) (branchOf (now (s .args .work)) (s .args .count)) (s .args .r) (s .args .at) (u32-at .result)
     (u32-at .ensures .0) (s .pre .1) (s .pre .2) _ (c .before .before .settle .ensures .0) (c .if1 .taken))
 
 add-end-fault : tie.Need-add-end-fault
@@ -68,7 +69,7 @@ returns-2 c =
     let s = c .before .before .before .before .before .before .before .before .before .before .before in
     let b = now (s .args .ticket) in
     refused (now (s .args .answer))
-    (unended b (asked b (s .args .s)) (branchOf (now (s .args .work)) (s .args .count)) (s .args .r) (s .args .at) (u32-at .result)
+    (unended (checker (asked b (s .args .s))) (λ br v. refl) b (asked b (s .args .s)) (branchOf (now (s .args .work)) (s .args .count)) (s .args .r) (s .args .at) (u32-at .result)
     (u32-at .ensures .0) (s .pre .1) (s .pre .2)
     (sym (settle .ensures .0) ∙ c .before .before .if1 .left) _ (c .before .end-fault .ensures) (c .if2 .taken))
 
@@ -105,7 +106,7 @@ returns-3 c =
     let u = asked b (s .args .s) in
     let br = branchOf (now (s .args .work)) (s .args .count) in
     strings (now (s .args .answer)) _
-    (ended b u br (s .args .r) (s .args .at) (u32-at .result) (u32-at .ensures .0) (s .pre .1) (s .pre .2)
+    (ended (checker u) (λ br v. refl) b u br (s .args .r) (s .args .at) (u32-at .result) (u32-at .ensures .0) (s .pre .1) (s .pre .2)
     (sym (settle .ensures .0) ∙ if1 .left) (sym (end-fault .ensures) ∙ if2 .left))
     (c .before .before .write .ensures br (modelAt b u (s .args .at + 6)) (settle .ensures .1 (if1 .left)))
 

@@ -3,9 +3,10 @@ use borrow.Author.Needs.{needs}
 use denote.Ref.{now}
 use mathlib.Core.Path.{_∙_, ap, sym}
 use native.Mathlib.Omega.{arith}
-use Rattle.deciding.proofs.Outcomes.{decided-by, nonzero, refused}
-use Rattle.deciding.proofs.Posing.{claim-good, claims-so, posed}
-use Rattle.format.proofs.StepTurns.{claim-faulty}
+use Rattle.deciding.proofs.Outcomes.{decided-by, refused}
+use Rattle.deciding.proofs.Posing.{posed}
+use Rattle.delimiters.proofs.Claiming.{claim-good, claims-so}
+use Rattle.format.proofs.StepTurns.{nonzero, claim-faulty}
 use Rattle.format.specs.Checking.{checker}
 use Rattle.delimiters.specs.Claims.{claimOf}
 use Rattle.question.specs.Progress.{progressOf}
@@ -24,7 +25,7 @@ returns c =
 load-requires : tie.Need-load-requires
 load-requires c κs =
     let s = c .before .before .before .before .before in (
-      posed (now (s .args .ticket)) (s .args .s) (s .args .at) (s .pre .0 .0) (s .pre .0 .2) (s .pre .0 .3)
+      posed (now (s .args .ticket)) (s .args .s) (s .args .at) (s .args .r) (s .pre .0)
           (sym (c .before .before .claim-fault .ensures) ∙ c .before .if1 .left),
       s .pre .1 .0,
     )
@@ -57,7 +58,7 @@ behind-claim-requires c κs =
     let s = tested .before .before .before .before in
     let claimed = sym (tested .before .claim-fault .ensures) ∙ tested .if1 .left in (
       (
-        posed (now (s .args .ticket)) (s .args .s) (s .args .at) (s .pre .0 .0) (s .pre .0 .2) (s .pre .0 .3) claimed,
+        posed (now (s .args .ticket)) (s .args .s) (s .args .at) (s .args .r) (s .pre .0) claimed,
         loaded .load .ensures .1,
         loaded .load .ensures .0,
       ),
@@ -76,7 +77,7 @@ returns-2 c =
     let claim-of = c .before .before .before .before .before .before in
     let tested = claim-of .before .before .before .before .before in
     let s = tested .before .before .before .before .args in
-    decided-by (claims-so (now (s .ticket)) (s .s) (s .at) (s .r) (sym (tested .before .claim-fault .ensures) ∙ tested .if1 .left) (claim-of .claim-of .result)
+    decided-by (claims-so checker (now (s .ticket)) (s .s) (s .at) (s .r) (sym (tested .before .claim-fault .ensures) ∙ tested .if1 .left) (claim-of .claim-of .result)
     (claim-of .claim-of .ensures ∙ ap claimOf (claim-of .before .u16-at .ensures .0)))
     (c .before .before .before .behind-claim .ensures)
 

@@ -3,7 +3,7 @@ use borrow.Author.Needs.{needs}
 use denote.Ref.{now}
 use mathlib.Core.Path.{_∙_, ap, sym}
 use Rattle.deciding.proofs.Outcomes.{decided-by, refused}
-use Rattle.deciding.proofs.Posing.{read-question}
+use Rattle.deciding.proofs.Posing.{read-to}
 use Rattle.format.specs.Checking.{checker}
 use Rattle.format.specs.Reading.{readBehind}
 use Rattle.question.specs.Progress.{readingOf}
@@ -26,10 +26,10 @@ behind-question-requires c κs =
     let pre = c .before .before .before .before .before .before .before .before .pre in
     let s = c .before .before .before .before .before .before .before .before .args in
     let b = now (s .ticket) in
-    let end = c .before .before .before .s .given .0 in
-    let read =
-    read-question b (end .0) (end .1 .0) (end .1 .1 .0) (sym (read-question-call .ensures) ∙ ap (readingOf b) (c .before .before .before .s .given .1)) in
-    ((read .stands, read .headed, read .short, read .few-constraints, read .few), pre)
+    let end = c .before .before .before .s .given .0 in (
+      read-to b (end .0) (end .1 .0) (end .1 .1 .0) (sym (read-question-call .ensures) ∙ ap (readingOf b) (c .before .before .before .s .given .1)),
+      pre,
+    )
 
 returns : tie.Need-returns
 unfolding readingOf

@@ -1,6 +1,7 @@
 //! Checking: a whole ticket to its verdict or refusal.
 
 use super::branch::Branch;
+use super::forms::StepReader;
 use super::leaf::{read_model, Leaf};
 use super::question::Question;
 use super::records::{u16_at, Records, LONGEST_TICKET};
@@ -48,6 +49,16 @@ pub fn check(ticket: &[u8], answer: &mut [u8]) -> Reply {
     reply(0, u64::from(checker.claim))
 }
 
+impl<'a> StepReader<'a> for Checker<'a> {
+    fn question(&self) -> &Question<'a> {
+        &self.question
+    }
+
+    fn claim(&self) -> u16 {
+        self.claim
+    }
+}
+
 impl<'a> Checker<'a> {
     /// Takes one whole record.
     fn take(&mut self, kind: u16, body: &'a [u8], is_last: bool) -> Checked {
@@ -80,7 +91,7 @@ impl<'a> Checker<'a> {
 
     fn take_question(&mut self, kind: u16, body: &'a [u8]) -> Checked {
         demand(self.claim == 0, 4)?;
-        self.question.take(kind, body)?;
+        self.question.take_limited(kind, body)?;
         match kind {
             1 => self.branch = Branch::new(self.question.columns()),
             3 | 4 => self.branch.add_constraint(kind, body),

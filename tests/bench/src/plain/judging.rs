@@ -65,7 +65,7 @@ fn read_question<'a>(bytes: &'a [u8], constraints: &mut Vec<Constraint<'a>>) -> 
         }
         let start = bytes.len() - records.left();
         let (kind, body) = records.next().ok_or(refused(3))?;
-        question.take(kind, body).map_err(refused)?;
+        question.take_limited(kind, body).map_err(refused)?;
         if kind > 2 {
             constraints.push(Constraint { kind, body, start });
         }

@@ -4,8 +4,10 @@
 
 mod branch;
 mod checking;
+mod forms;
 mod judging;
 mod leaf;
+mod need;
 mod question;
 mod records;
 mod splits;
@@ -18,6 +20,7 @@ pub fn entry(entry: &Entry) -> Option<Call> {
     match entry.name {
         "check" => Some(|parts: &[Vec<u8>], lent: &mut Buffers| checking::check(&parts[0], &mut lent.answer)),
         "judge" => Some(|parts: &[Vec<u8>], _: &mut Buffers| judging::judge(&parts[0], &parts[1])),
+        "need" => Some(|parts: &[Vec<u8>], _: &mut Buffers| need::need(&parts[0])),
         _ => None,
     }
 }

@@ -1,4 +1,4 @@
-//! The question: kinds 1 to 4, as checking and judging read them.
+//! The question: kinds 1 to 4, as every operation reads them.
 
 use super::records::{i32_at, index_at, pair, u32_at, words};
 use super::{demand, Checked};
@@ -21,7 +21,7 @@ pub struct Question<'a> {
     pub q: usize,
     pub literals: [&'a [u8]; 16],
     pub literal_count: usize,
-    constraint_count: usize,
+    pub constraint_count: usize,
     last_kind: u16,
 }
 
@@ -44,6 +44,12 @@ impl<'a> Question<'a> {
         1 + self.q + self.p + x
     }
 
+    /// Takes one whole record of a question with at most 128 constraints.
+    pub fn take_limited(&mut self, kind: u16, body: &'a [u8]) -> Checked {
+        self.take(kind, body)?;
+        demand(self.constraint_count <= MOST_FACTS, 10)
+    }
+
     /// Takes one whole record; a constraint is tried, and the caller keeps it.
     pub fn take(&mut self, kind: u16, body: &'a [u8]) -> Checked {
         let in_place = match kind {
@@ -64,7 +70,7 @@ impl<'a> Question<'a> {
                     self.arithmetic_constraint_in_range(body)?;
                 }
                 self.constraint_count += 1;
-                demand(self.constraint_count <= MOST_FACTS, 10)
+                Ok(())
             }
         }
     }

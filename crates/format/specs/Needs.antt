@@ -1,0 +1,71 @@
+-- How much a ticket will need, document 02's L2: "reads a ticket's records and, judging no premise and treating every step as if it fitted, reports the number of
+-- steps, the most facts on any branch and the most pending splits". Refusals are reading's, the numbers are those of a walk.
+use Prim.Native.Nat.{ℕ}
+use mathlib.Core.List.{List, [], _∷_, map}
+use lib.ListN.{length}
+use Rattle.lists.specs.Lists.{maximum}
+use Rattle.calculus.specs.Facts.{Question}
+use Rattle.calculus.specs.Steps.{Step}
+use Rattle.calculus.specs.Walk.{working, closed}
+use Rattle.format.specs.Records.{need}
+use Rattle.format.specs.Question.{questionForm}
+use Rattle.format.specs.Reading.{State, proving, taking, modelled, complete, Method, stepped, Ticket, Faulty, Done, begin, readBehind}
+use Rattle.format.specs.ProperForm.{byShapeTo, stepsWithChild, claimIn}
+
+-- ---- what a walk meets on its way, whatever a branch and a child are
+
+-- the state before the first step and the one after each; a step that closes a branch also begins the next child, so every child that is begun is met
+unfoldable pub statesMet : {B C : Type 0} → Method B C → State B C → List (Step × ℕ) → List (State B C)
+statesMet w s [] = s ∷ []
+statesMet w s (t ∷ ts) = s ∷ statesMet w (stepped w s t) ts
+
+-- the facts on the branch, where count says how many a branch has; none once every branch is closed
+abbrev pub factsIn : {B C : Type 0} → (B → ℕ) → State B C → ℕ
+factsIn count (proving (working br ss)) = count br
+factsIn count (proving closed) = 0
+factsIn count (taking br) = count br
+factsIn count (modelled br m) = count br
+
+-- the pending splits: under claim 1 those with a child "not yet begun"; "Under claim 2 no split is ever pending"
+abbrev pub pendingIn : {B C : Type 0} → State B C → ℕ
+pendingIn (proving (working br ss)) = length ss
+pendingIn (proving closed) = 0
+pendingIn (taking br) = 0
+pendingIn (modelled br m) = 0
+
+-- "the number of steps, the most facts on any branch and the most pending splits"
+pub record Report : Type 0 where
+  pub steps : ℕ
+  pub facts : ℕ
+  pub pending : ℕ
+
+-- of a walk over steps from a state
+abbrev pub report : {B C : Type 0} → (B → ℕ) → Method B C → State B C → List (Step × ℕ) → Report
+report count w s ts = record {
+  steps = length ts;
+  facts = maximum (map (factsIn count) (statesMet w s ts));
+  pending = maximum (map pendingIn (statesMet w s ts));
+}
+
+-- ---- the operation
+
+-- "treating every step as if it fitted"; "a tree not closed at its end, or claim 2 without a model, gives 11"
+abbrev pub needing : Question → Method ℕ ℕ
+needing = byShapeTo (λ s. need 11 (complete s) 0)
+
+-- Refused: the number and the record. Needs: the report.
+pub data Need : Type 0 where
+  Refused : ℕ → ℕ → Need
+  Needs : Report → Need
+
+abbrev pub needBy : (Question → Report) → Ticket ℕ ℕ → Need
+needBy reported (Faulty c r) = Refused c r
+needBy reported (Done u s) = Needs (reported u)
+
+-- the report of a ticket's steps, a branch being the number of its facts
+abbrev pub reportOf : List ℕ → Question → Report
+reportOf b u = report (λ k. k) (needing u) (begin (needing u) (claimIn b)) (stepsWithChild b)
+
+-- "The operation gives 2 to 7, and 4 also for a step after the last branch closed"; "It never gives 10": the question is read without looking for it
+unfoldable pub needed : List ℕ → Need
+needed b = needBy (reportOf b) (readBehind needing b (questionForm b))
