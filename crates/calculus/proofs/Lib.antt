@@ -16,6 +16,7 @@ pub mod Columns
 pub mod Sound
 pub mod Trees
 pub mod Walks
+pub mod Everywhere
 pub mod Shapes
 pub mod Lowest
 pub mod Leaf

@@ -1,5 +1,5 @@
 -- What checking meets on its way is within its limits: all children of a split are tried for room when it is taken.
-use Prim.Native.Nat.{ℕ, _+_, _≤_, _<_}
+use Prim.Native.Nat.{ℕ, _≤_}
 use native.Mathlib.Omega.{arith}
 use native.Mathlib.Nat.{max-le}
 use mathlib.Core.Path.{_≡_, refl, sym, _∙_, ap, subst}
@@ -14,8 +14,10 @@ use Rattle.calculus.specs.Limits.{factLimit, pendingLimit}
 use Rattle.calculus.specs.Facts.{Question, Fact, Branch}
 use Rattle.calculus.specs.Steps.{Step}
 use Rattle.calculus.specs.Rules.{children}
-use Rattle.calculus.specs.Walk.{Waiting, Walk, working, closed, wait, cutBack, enter}
+use Rattle.calculus.specs.Walk.{Waiting, working, closed, enter}
+use Rattle.calculus.specs.Derivations.{ChildLimits}
 use Rattle.calculus.proofs.Walks.{childTaken}
+use Rattle.calculus.proofs.Everywhere.{Everywhere, enter-everywhere, splitsOf, enter-few}
 use Rattle.format.specs.Reading.{State, proving, taking, modelled, stepped, begin}
 use Rattle.format.specs.Checking.{allTried, takenTried, checker, verdict}
 use Rattle.format.specs.ProperForm.{stepsWithChild}
@@ -30,55 +32,33 @@ use Rattle.format.proofs.Needs.{needs-counted}
 
 -- ---- states within the limits
 
--- a branch has room for a child's facts
-abbrev RoomFor : Branch → List Fact → Type 0
-RoomFor b c = length b + length c ≤ factLimit
-
-abbrev RoomySplit : Waiting Branch (List Fact) → Type 0
-RoomySplit w = RoomFor (w .mark) (w .child) × All (RoomFor (w .mark)) (w .rest)
-
-abbrev RoomyWalk : Walk Branch (List Fact) → Type 0
-RoomyWalk (working b ss) = (length b ≤ factLimit) × (length ss ≤ pendingLimit) × All RoomySplit ss
-RoomyWalk closed = Unit {0}
+abbrev Few : Branch → Type 0
+Few b = length b ≤ factLimit
 
 abbrev Roomy : State Branch (List Fact) → Type 0
-Roomy (proving k) = RoomyWalk k
-Roomy (taking b) = length b ≤ factLimit
-Roomy (modelled b m) = length b ≤ factLimit
+Roomy (proving k) = Everywhere _++_ Few k × (length (splitsOf _++_ k) ≤ pendingLimit)
+Roomy (taking b) = Few b
+Roomy (modelled b m) = Few b
 
-with-child : (b : Branch) (c : List Fact) → RoomFor b c → length (b ++ c) ≤ factLimit
-with-child b c h = omega (arith, length-append b c)
-
-roomy-cut : (ss : List (Waiting Branch (List Fact))) → length ss ≤ pendingLimit → All RoomySplit ss → RoomyWalk (cutBack _++_ ss)
-roomy-cut [] h hs = tt
-roomy-cut (s ∷ ss) h ((l, ls), hs) = let (few, room) = waits (s .rest) ls in (with-child (s .mark) (s .child) l, few, room)
-  where
-    waits : (cs : List (List Fact)) → All (RoomFor (s .mark)) cs → (length (wait (s .mark) cs ss) ≤ pendingLimit) × All RoomySplit (wait (s .mark) cs ss)
-    waits [] ls = (omega arith, hs)
-    waits (c ∷ cs) (l, ls) = (h, ((l, ls), hs))
-
-roomy-entered : (b : Branch) (cs : List (List Fact)) (ss : List (Waiting Branch (List Fact))) → All (RoomFor b) cs → (2 ≤ length cs → length ss < pendingLimit)
-    → length ss ≤ pendingLimit
-    → All RoomySplit ss
-    → RoomyWalk (enter _++_ b cs ss)
-roomy-entered b [] ss hc p h hs = roomy-cut ss h hs
-roomy-entered b (c ∷ []) ss (l, ls) p h hs = (with-child b c l, h, hs)
-roomy-entered b (c ∷ d ∷ ds) ss (l, ls) p h hs = (with-child b c l, omega (arith, p (omega arith)), (ls, hs))
+with-child : (b : Branch) (c : List Fact) → ChildLimits b c → Few (b ++ c)
+with-child b c h = omega (arith, length-append b c, h .facts)
 
 module _ (u : Question) where
-  roomy-split : (b : Branch) (ss : List (Waiting Branch (List Fact))) (t : Step × ℕ) → RoomyWalk (working b ss)
+  roomy-split : (b : Branch) (ss : List (Waiting Branch (List Fact))) (t : Step × ℕ) → Roomy (proving (working b ss))
       → allTried b (length ss) (children u b (t .0)) ≡ 0
       → Roomy (stepped (checker u) (proving (working b ss)) t)
-  roomy-split b ss t (_, h, hs) f =
+  roomy-split b ss t ((_, hs), h) f =
       let (cs, e, d) = fitting (children u b (t .0)) _ f in
       let limits = tried→limits b (length ss) cs (ap (allTried b (length ss)) (sym e) ∙ f) in
-      subst (λ ds. RoomyWalk (enter _++_ b ds ss)) (sym d)
-      (roomy-entered b cs ss (all-map cs (λ c l. l .facts) (limits .children)) (limits .splits) h hs)
+      subst (λ ds. Roomy (proving (enter _++_ b ds ss))) (sym d) (
+        enter-everywhere _++_ Few b cs ss (all-map cs (with-child b) (limits .children)) hs,
+        enter-few _++_ pendingLimit b cs ss h (limits .splits),
+      )
 
   roomy-taken : (b : Branch) (t : Step × ℕ) → takenTried b (childTaken u b t) ≡ 0 → Roomy (stepped (checker u) (taking b) t)
   roomy-taken b t f =
       let (c, e, d) = fitting (childTaken u b t) _ f in
-      subst (λ x. length (b ++ x) ≤ factLimit) (sym d) (with-child b c (taken→limits b c (ap (takenTried b) (sym e) ∙ f) .facts))
+      subst (λ x. Few (b ++ x)) (sym d) (with-child b c (taken→limits b c (ap (takenTried b) (sym e) ∙ f)))
 
   -- every state that checking meets is
   all-roomy : (s : State Branch (List Fact)) (ts : List (Step × ℕ)) (o : Option (List ℤ)) (s' : State Branch (List Fact))
@@ -96,7 +76,7 @@ module _ (u : Question) where
 -- ---- the greatest numbers
 
 roomy-facts : (s : State Branch (List Fact)) → Roomy s → factsIn length s ≤ factLimit
-roomy-facts (proving (working b ss)) r = r .0
+roomy-facts (proving (working b ss)) r = r .0 .0
 roomy-facts (proving closed) r = omega arith
 roomy-facts (taking b) r = r
 roomy-facts (modelled b m) r = r
@@ -114,7 +94,7 @@ at-most f n (x ∷ xs) (l, h) = max-le l (at-most f n xs h)
 -- ---- accepted tickets
 
 first-roomy : (u : Question) (x : Bool) → length (u .constraints) ≤ factLimit → Roomy (started (checker u) x)
-first-roomy u true h = (h, omega arith, tt)
+first-roomy u true h = ((h, tt), omega arith)
 first-roomy u false h = h
 
 pub within-limits : TH-L2-limits
