@@ -18,8 +18,8 @@ extern "C" {
  *                          What was accepted stays accepted, with the same answer; what was refused may be accepted, or get another number
  * at a new major version   structs may get further fields behind those they have, and what is accepted may change
  */
-#define NULDWICH_VERSION 2001
-#define NULDWICH_VERSION_STRING "2.1"
+#define NULDWICH_VERSION 2002
+#define NULDWICH_VERSION_STRING "2.2"
 
 /* The least size of the answer buffer that check is lent, in bytes. It holds every answer. */
 #define NULDWICH_ANSWER_BYTES 4268
@@ -107,6 +107,7 @@ typedef struct {
  *
  * number 0           all constraints are met; record is 0
  * number 255         not all constraints are met; record is the number of the lowest-numbered one that is not, counted from 0
+ *                    over kinds 3, 4 and 11 as they stand in the question
  * number 2 to 7, 10  the question is refused; record is its first faulty record, and 0 for 2
  * number 15, 16      the answer is refused; record is its first faulty record, and 0 for 15
  *
@@ -166,6 +167,10 @@ nuldwich_reply check(const uint8_t *ticket, size_t ticket_len, uint8_t *answer, 
 
 /*
  * Judges an answer by a question. Nothing is written.
+ *
+ * Behind its other constraints a question may have some of kind 11, on case, digits and order. They take the next constraint numbers, and
+ * count towards the 128 that a question may have. judge alone takes them: check and nuldwich_need refuse kind 11 with
+ * NULDWICH_REFUSED_KIND.
  *
  * question, question_len   a question, read up to its first claim or end record: a whole ticket will do
  * answer, answer_len       the answer, exactly of its form, with nothing behind it: of a buffer that check filled, the bytes up to

@@ -1,6 +1,6 @@
 #!/usr/bin/env bash
 # Counts what must not become fewer and holds it against the numbers on file in tests/floors.tsv: the vectors of each operation (the lines of
-# expected.tsv at all levels), those of buffer sizes, the starred cases and the edits that must fail. The last line is 'N passed, M failed'.
+# expected.tsv at all levels), those of buffer sizes, the starred cases, those of extended constraints and the edits that must fail. The last line is 'N passed, M failed'.
 set -u
 cd "$(dirname "$0")/.."
 passed=0 failed=0
@@ -17,19 +17,20 @@ vectors() {
         END { for (name in count) print name, count[name] }'
 }
 
-# The entries of a list, each of which begins a line with its constructor, and the parts of its proof, which the prover takes only when
+# The entries of a list of cases, each of which begins a line with its constructor, and the parts of its proof, which the prover takes only when
 # there is one for each entry. The smaller number counts.
-starred() {
+cases() {
     local entries proofs
-    entries=$(awk '/^starred =$/ { inside = 1; next } !/^    / { inside = 0 } inside && /^    (∷ )?(checking|adding)( |$)/ { n++ } END { print n + 0 }' crates/format/specs/Cases.antt)
-    proofs=$(awk '/^starred-hold =/ { inside = 1 } /^$/ { inside = 0 } inside { n += gsub(/\(refl, /, "") } END { print n + 0 }' crates/format/proofs/Cases.antt)
+    entries=$(awk -v list="$1" '$0 == list " =" { inside = 1; next } !/^    / { inside = 0 } inside && /^    (∷ )?(checking|adding|judged)( |$)/ { n++ } END { print n + 0 }' crates/format/specs/Cases.antt)
+    proofs=$(awk -v proof="$2" 'index($0, proof " =") == 1 { inside = 1 } /^$/ { inside = 0 } inside { n += gsub(/\(refl, /, "") } END { print n + 0 }' crates/*/proofs/Cases.antt)
     echo $((entries < proofs ? entries : proofs))
 }
 
 while read -r name count; do found[$name]=$count; done < <(
     vectors
     echo "buffers $(grep -c '	' tests/vectors/base/buffers.tsv)"
-    echo "starred $(starred)"
+    echo "starred $(cases starred starred-hold)"
+    echo "extended $(cases extendedCases extended-hold)"
     echo "must-fail $(find crates -path '*/must-fail/*.edit' | wc -l)"
 )
 

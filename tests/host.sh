@@ -39,9 +39,9 @@ for ticket in tests/vectors/L2/need/the-most-*-that-a-ticket-holds.ticket; do
     in_bounds "$ticket"
 done
 
-# Judging: on every fourth of the vectors of which some bytes are shown.
+# Judging: on every sixth of the vectors of which some bytes are shown.
 for name in $(find tests/vectors -path '*/judge/expected.tsv' | sort | xargs awk -F '\t' '
-    $3 != "" { path = FILENAME; sub(/expected\.tsv$/, $1, path); if (n++ % 4 == 0) print path }'); do
+    $3 != "" { path = FILENAME; sub(/expected\.tsv$/, $1, path); if (n++ % 6 == 0) print path }'); do
     in_bounds "$name.question" "$name.answer"
 done
 

@@ -1,5 +1,5 @@
-/* Holds what include/nuldwich.h says of the library against it: the version, the words for refusals and, on the tickets named as arguments, what judge shows, what
-   nuldwich_need returns beside check, and the stack that a call uses. The last line is 'N passed, M failed'. */
+/* Holds what include/nuldwich.h says of the library against it: the version, the words for refusals, on the tickets named as arguments what judge shows, what
+   nuldwich_need returns beside check, and the stack that a call uses, and who takes kind 11. The last line is 'N passed, M failed'. */
 
 #define _XOPEN_SOURCE 700
 
@@ -146,22 +146,28 @@ static int judged_as_said(unsigned met[256]) {
     return shows_as_said(judgement);
 }
 
-/* On every ticket, with the answer that check gives or none, with one cut by a byte, and with each of its bytes changed. */
+/* Judges by the ticket the answer of this length, one cut by a byte, and all with one of its bytes changed. */
+static int all_judged_as_said(size_t whole, unsigned met[256]) {
+    int good = 1;
+    for (answer_len = whole > 0 ? whole - 1 : 0; answer_len <= whole; answer_len++)
+        good &= judged_as_said(met);
+    answer_len = whole;
+    for (size_t at = 0; at < whole; at++) {
+        answer[at] ^= 1;
+        good &= judged_as_said(met);
+        answer[at] ^= 1;
+    }
+    return good;
+}
+
+/* On every ticket, with the answer that check gives or none. */
 static void hold_shown(char **paths) {
     unsigned met[256] = {0};
     int good = 1;
     for (; *paths != NULL; paths++) {
         read_ticket(*paths);
         run_check();
-        size_t whole = answer_length();
-        for (answer_len = whole > 0 ? whole - 1 : 0; answer_len <= whole; answer_len++)
-            good &= judged_as_said(met);
-        answer_len = whole;
-        for (size_t at = 0; at < whole; at++) {
-            answer[at] ^= 1;
-            good &= judged_as_said(met);
-            answer[at] ^= 1;
-        }
+        good &= all_judged_as_said(answer_length(), met);
     }
     count(good, "judge shows another part than is said");
     int all = met[NULDWICH_DONE] && met[NULDWICH_UNMET] && met[NULDWICH_REFUSED_ANSWER_FORM] && met[NULDWICH_REFUSED_ANSWER_RANGE];
@@ -217,6 +223,41 @@ static void hold_needs(char **paths) {
     count(all && over, "nuldwich_need was not brought to every number and over the limits, or returned a number that is not its own");
 }
 
+/* A question with a constraint of kind 11 for each function, and strings and an integer that meet it. */
+static void pose_extended(void) {
+    static const uint8_t question[] = {
+        8, 0, 0, 0, 1,  0, 128, 0, 0, 0, 3, 0, 1, 0, /* n = 128, three strings, an integer */
+        6, 0, 0, 0, 11, 0, 0,   0, 0, 0, 1, 0,       /* x0 is x1 in upper case */
+        6, 0, 0, 0, 11, 0, 1,   0, 1, 0, 0, 0,       /* x1 is x0 in lower case */
+        6, 0, 0, 0, 11, 0, 2,   0, 0, 0, 2, 0,       /* i0 is x2 read in decimal */
+        6, 0, 0, 0, 11, 0, 3,   0, 2, 0, 0, 0,       /* x2 is i0 in decimal */
+        6, 0, 0, 0, 11, 0, 4,   0, 0, 0, 1, 0,       /* x0 is equal to x1 or before it */
+        0, 0, 0, 0, 8,  0,
+    };
+    static const uint8_t values[] = {
+        4, 0, 0, 0, 9,  0, 'A', 0, 0, 0, /* x0 */
+        4, 0, 0, 0, 9,  0, 'a', 0, 0, 0, /* x1 */
+        4, 0, 0, 0, 9,  0, '7', 0, 0, 0, /* x2 */
+        4, 0, 0, 0, 10, 0, 7,   0, 0, 0, /* i0 */
+        0, 0, 0, 0, 8,  0,
+    };
+    memcpy(ticket, question, sizeof question);
+    ticket_len = sizeof question;
+    memcpy(answer, values, sizeof values);
+    answer_len = sizeof values;
+}
+
+/* judge takes kind 11 and shows its record; the two others refuse it. */
+static void hold_extended(void) {
+    unsigned met[256] = {0};
+    pose_extended();
+    run_need();
+    count(needs.number == NULDWICH_REFUSED_KIND && needs.record == 1, "nuldwich_need takes kind 11");
+    count(all_judged_as_said(answer_len, met) && met[NULDWICH_DONE] == 1 && met[NULDWICH_UNMET], "judge does not take kind 11 as is said");
+    run_check();
+    count(reply.number == NULDWICH_REFUSED_KIND && reply.record == 1, "check takes kind 11");
+}
+
 /* A call of the operation may use so much stack. */
 static void hold_most(const char *operation, size_t most, size_t said) {
     char words[64];
@@ -227,7 +268,7 @@ static void hold_most(const char *operation, size_t most, size_t said) {
 
 static size_t larger(size_t one, size_t other) { return one > other ? one : other; }
 
-/* All operations stay within their stack on every ticket. */
+/* All operations stay within their stack on every ticket, judge also on kind 11. */
 static void hold_stack(char **paths) {
     size_t check_most = 0, judge_most = 0, need_most = 0;
     for (; *paths != NULL; paths++) {
@@ -237,6 +278,8 @@ static void hold_stack(char **paths) {
         judge_most = larger(judge_most, stack_used(run_judge));
         need_most = larger(need_most, stack_used(run_need));
     }
+    pose_extended();
+    judge_most = larger(judge_most, stack_used(run_judge));
     hold_most("check", check_most, NULDWICH_CHECK_STACK_BYTES);
     hold_most("judge", judge_most, NULDWICH_JUDGE_STACK_BYTES);
     hold_most("nuldwich_need", need_most, NULDWICH_NEED_STACK_BYTES);
@@ -248,6 +291,7 @@ int main(int argc, char **argv) {
     hold_words();
     hold_shown(argv + 1);
     hold_needs(argv + 1);
+    hold_extended();
     hold_stack(argv + 1);
     printf("%u passed, %u failed\n", passed, failed);
     return failed != 0;

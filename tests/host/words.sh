@@ -1,6 +1,6 @@
 #!/usr/bin/env bash
-# What the host program named by the argument says of every example, of some answers on file, and of some tickets that need more than checking takes or are refused:
-# expected.txt has it on file.
+# What the host program named by the argument says of every example, of some answers on file, those to questions with kind 11 last, and of some tickets that need
+# more than checking takes or are refused: expected.txt has it on file.
 set -eu
 host=$(realpath "$1")
 cd "$(dirname "$0")/../../examples"
@@ -14,6 +14,13 @@ for name in all-met-shows-an-empty-part-of-the-question question-refusal-shows-n
     echo "$name:"
     "$host" "$name.question" "$name.answer"
 done
+cd ../../L3/judge
+for name in upper leading-zero 64-digits unmet-behind-literals-and-all-kinds 4-kind-4-after-kind-11; do
+    echo "$name:"
+    "$host" "$name.question" "$name.answer"
+done
+echo "checking-refuses-kind-11-with-4:"
+"$host" ../check/checking-refuses-kind-11-with-4.ticket
 cd ../../L2/need
 for name in 65-pending-splits 129-constraints-never-give-10 claim-2-closing-rules-close-nothing step-after-the-last-branch-closed 2; do
     echo "$name:"

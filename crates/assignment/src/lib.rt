@@ -15,7 +15,6 @@ use encoding::KIND_END;
 use encoding::KIND_INTEGERS;
 use encoding::KIND_VALUE;
 use encoding::RECORD_HEAD;
-use limits::COLUMN_LIMIT;
 use limits::TEXT_BYTES;
 use question::all_characters;
 use question::text_code;
@@ -147,12 +146,12 @@ fn column_value(v: &[u8], p: usize, q: usize, places: &[usize], j: usize) -> i64
     string_code(v, places[x - p])
 }
 
-// The columns' values.
-pub fn column_values(v: &[u8], p: usize, q: usize, places: &[usize]) -> [i64; COLUMN_LIMIT]
+// The columns' values, at the front of a lent slice.
+pub fn fill_columns(values: &mut [i64], v: &[u8], p: usize, q: usize, places: &[usize])
+    requires { ⌜ q + (p + p) ≤ length (now values) ⌝ }
     requires { ⌜ (answerForm (now v) p q 0 ≡ true) × Placed (now v) 0 p (now places) × (p < length (now places)) × (p ≤ variableLimit) × (q ≤ variableLimit) ⌝ }
-    ensures { λ r. ⌜ take (q + (p + p)) r ≡ columnsAt (now (v .entry)) p q ⌝ }
+    ensures { λ _. ⌜ take (q + (p + p)) (now (values .exit)) ≡ columnsAt (now (v .entry)) p q ⌝ }
 {
-    let mut values = [0i64; COLUMN_LIMIT];
     let count = q + (p + p);
     let mut j = 0;
     while j < count {
@@ -160,5 +159,4 @@ pub fn column_values(v: &[u8], p: usize, q: usize, places: &[usize]) -> [i64; CO
         values[j] = z;
         j += 1;
     }
-    values
 }

@@ -1,9 +1,9 @@
 -- A step fits with its children exactly when it is an instance of its rule with them.
-use Prim.Native.Nat.{ℕ, zero, suc, _≤_}
+use Prim.Native.Nat.{ℕ, suc, _≤_}
 use native.Mathlib.Omega.{arith}
 use mathlib.Core.Path.{_≡_, refl, sym, _∙_, ap, ap₂, subst}
 use mathlib.Core.Logic.{_⊎_, inl, inr}
-use mathlib.Core.Bool.{Bool, true, false, not, _&&_}
+use mathlib.Core.Bool.{Bool, true, false, not, _&&_, _||_}
 use mathlib.Core.Option.{Option, none, some}
 use mathlib.Core.List.{List, [], _∷_}
 use lib.ListN.{length, getElem?}
@@ -13,13 +13,14 @@ use lib.Signed.{_≤ℤ_, _<ℤ_, nonNeg}
 use borrow.Author.Tests.{leb-true, leb-false}
 use Rattle.integers.proofs.Laws.{minus-one-*ℤ}
 use Rattle.lists.proofs.Every.{some-at}
+use Rattle.lists.specs.Lists.{any, lowest}
 use Rattle.lists.proofs.Options.{some-injective, none-some}
 use Rattle.lists.proofs.Lists.{all-at}
 use Rattle.lists.proofs.Tests.{→true, true→, and→, →and, or→, →or-left, →or-right}
 use Rattle.calculus.specs.Limits.{columnLimit}
 use Rattle.calculus.specs.Alphabet.{characterCount}
 use Rattle.calculus.specs.LinearForms.{plus, scale, minus, isZero, eqIntegers, allZero}
-use Rattle.calculus.specs.Facts.{Question, Fact, same, notSame, isLiteral, arithmetic, Branch, lowestFact}
+use Rattle.calculus.specs.Facts.{Question, Fact, same, notSame, isLiteral, arithmetic, Branch}
 use Rattle.calculus.specs.Facts.{Relation, ge, eq, ne, Function, len, code, holds, columnOf, apply, Holds}
 use Rattle.calculus.specs.Chains.{varNode}
 use Rattle.calculus.specs.Classes.{labels, sameClass, classLiteral, conflict}
@@ -27,10 +28,10 @@ use Rattle.calculus.specs.Steps.{Step, Sum, BranchOn, Apart, AConf, SCon
 use Rattle.calculus.specs.Children.{sumChild, literalChild, pairChildren, boundChild}
 use Rattle.calculus.specs.Rules.{guard, then, summand, sumOf, divided, isFalse, joinOf, statesZero, statesDifference, found}
 use Rattle.calculus.specs.Rules.{sameLength, neighbours, distinct, leastPower, lastChild, cardChildren, children, apartOf, statesEqual}
-use Rattle.calculus.specs.Instances.{entry, FactAt, Stands, Multiplier, Summands, IsSum, IsApart, IsAConf}
+use Rattle.calculus.specs.Instances.{entry, FactAt, Multiplier, Summands, IsSum, IsApart, IsAConf}
 use Rattle.calculus.specs.Instances.{IsClassLiteral, LengthsStated, Neighbours, LastChild, IsJoin, Instance, StepInRange}
 use Rattle.calculus.proofs.Alphabet.{some-character}
-use Rattle.calculus.proofs.Searches.{found-any, lowest-passes}
+use Rattle.lists.proofs.Searches.{turn, lowest-passes}
 use Rattle.calculus.proofs.InRange.{HeadInRange, FactInRange, FactsInRange}
 use Rattle.calculus.proofs.Tests.{guard→, →guard, then→, →then, differ→, →differ, distinct→, →distinct}
 use Rattle.calculus.proofs.LinearForms.{eqIntegers→, →eqIntegers}
@@ -88,6 +89,17 @@ sum→ b (t ∷ ts) e =
     →then _ (h .named) (→then _ (→summand (t .1) (h .relation) e (h .multiplier)) (→then (λ r. some (plus (scale (t .1) e) r)) (→sum b ts es hs) refl))
 
 -- a sum of whole forms is a whole form
+-- there is a lowest where some element passes
+found-any : {A : Type 0} (test : A → Bool) (b : List A) → found (lowest test b) ≡ any test b
+unfolding lowest
+found-any test [] = refl
+found-any test (f ∷ b) = go (test f) (lowest test b) (found-any test b)
+  where
+    go : (t : Bool) (o : Option ℕ) → found o ≡ any test b → found (turn test t o) ≡ (t || any test b)
+    go true o e = refl
+    go false none e = e
+    go false (some k) e = e
+
 module _ (u : Question) (b : Branch) (g : FactsInRange u b) where
   sum-size : (ts : List (ℕ × ℤ)) (es : List (List ℤ)) → Summands b ts es → (length (summed ts es) ≤ suc columnLimit) × (1 ≤ length ts → Whole (summed ts es))
   sum-size [] [] h = (omega arith, λ l. absurd (omega arith))
@@ -174,13 +186,13 @@ module _ (u : Question) (b : Branch) where
 
   same-length→ : (x y : ℕ) → T (sameLength u b x y) → LengthsStated u b x y
   unfolding statesEqual statesDifference
-  same-length→ x y t = go (lowestFact (states x y) b) refl t
+  same-length→ x y t = go (lowest (states x y) b) refl t
     where
       either : (k : ℕ) (f : Fact) → FactAt b k f → T (statesZero (difference x y) f) ⊎ T (statesZero (difference y x) f) → LengthsStated u b x y
       either k f h (inl s) = inl (k, h ∙ ap some (states→ (difference x y) f s))
       either k f h (inr s) = inr (k, h ∙ ap some (states→ (difference y x) f s))
 
-      go : (o : Option ℕ) → lowestFact (states x y) b ≡ o → T (found o) → LengthsStated u b x y
+      go : (o : Option ℕ) → lowest (states x y) b ≡ o → T (found o) → LengthsStated u b x y
       go none e t = absurd t
       go (some k) e t =
           let (f, h, p) = lowest-passes (states x y) b k e in

@@ -8,7 +8,7 @@ pub mod Entries
 pub mod Classes
 pub mod Powers
 pub mod Words
-pub mod Searches
+pub mod Extended
 pub mod Pairs
 pub mod Fits
 pub mod Ranges

@@ -1,9 +1,8 @@
 -- Questions and their facts; "Its constraints are facts 0, 1 and on".
-use Prim.Native.Nat.{ℕ, suc, _+_}
+use Prim.Native.Nat.{ℕ, _+_}
 use mathlib.Core.Path.{_≡_}
 use mathlib.Core.Logic.{_≢_}
-use mathlib.Core.Bool.{Bool, true, false, not}
-use mathlib.Core.Option.{Option, none, some}
+use mathlib.Core.Bool.{Bool, true, not}
 use mathlib.Core.List.{List, [], _∷_}
 use lib.ListN.{length, getD}
 use lib.IntN.{ℤ, pos, negsuc}
@@ -48,11 +47,6 @@ onArithmetic t (arithmetic r e) = t r e
 -- the facts that stand, by their numbers
 abbrev pub Branch : Type 0
 Branch = List Fact
-
--- the number of the lowest fact that passes a test
-unfoldable pub lowestFact : (Fact → Bool) → Branch → Option ℕ
-lowestFact t [] = none
-lowestFact t (f ∷ b) = elim (t f) [ true ↦ some 0 | false ↦ elim (lowestFact t b) [ none ↦ none | some k ↦ some (suc k) ] ]
 
 -- "Kinds 1 to 4 are the question": n characters, p string and q integer variables
 pub record Question : Type 0 where

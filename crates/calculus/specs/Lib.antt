@@ -15,3 +15,4 @@ pub mod Saturation
 pub mod SaturationTest
 pub mod Strings
 pub mod Meaning
+pub mod Extended

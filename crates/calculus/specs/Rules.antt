@@ -8,10 +8,10 @@ use lib.Dec.{leb, eqb}
 use lib.IntN.{ℤ, pos, negsuc}
 use lib.Signed.{nonNeg}
 use Rattle.integers.specs.Division.{floorDiv}
-use Rattle.lists.specs.Lists.{any}
+use Rattle.lists.specs.Lists.{any, lowest}
 use Rattle.calculus.specs.Alphabet.{characterCount}
 use Rattle.calculus.specs.LinearForms.{plus, scale, minus, isZero, eqIntegers, allZero, floorDivAll, column}
-use Rattle.calculus.specs.Facts.{holds, Fact, Branch, lowestFact, Question, ge, eq, ne, same}
+use Rattle.calculus.specs.Facts.{holds, Fact, Branch, Question, ge, eq, ne, same}
 use Rattle.calculus.specs.Facts.{notSame, isLiteral, arithmetic, len, code, columnOf, Function}
 use Rattle.calculus.specs.Chains.{varNode}
 use Rattle.calculus.specs.Classes.{labels, sameClass, classLiteral, conflict}
@@ -93,7 +93,7 @@ statesDifference i j f = statesZero (minus (column i) (column j)) f || statesZer
 
 -- the lowest fact that states it
 abbrev pub lowestDifference : Branch → ℕ → ℕ → Option ℕ
-lowestDifference b i j = lowestFact (statesDifference i j) b
+lowestDifference b i j = lowest (statesDifference i j) b
 
 -- a search found one
 abbrev pub found : Option ℕ → Bool

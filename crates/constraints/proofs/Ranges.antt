@@ -15,10 +15,10 @@ use Rattle.calculus.specs.LinearForms.{zeros}
 use Rattle.format.specs.Fields.{u16, i32, pairsAt, within, allWithin}
 use Rattle.format.specs.Records.{need}
 use Rattle.format.specs.Question.{stringRange, stringFact, stringFault, coefficientInRange, pairInRange, rising}
-use Rattle.format.specs.Question.{formRange, fillCoefficients, formOf, arithmeticFault, constraintFault, constraintOf}
+use Rattle.format.specs.Question.{formRange, fillCoefficients, formOf, arithmeticFault, factFault, bodyFact}
 use Rattle.format.specs.Checking.{factWithin}
 use Rattle.format.proofs.Faults.{passed}
-use Rattle.format.proofs.RecordFaults.{StringConstraint, ArithmeticConstraint, Constraint, on-strings, on-columns, constraint-formed}
+use Rattle.format.proofs.RecordFaults.{StringConstraint, ArithmeticConstraint, FactBody, on-strings, on-columns, fact-formed}
 use Rattle.format.proofs.Sums.{ranged}
 use Rattle.rows.proofs.Small.{within-set}
 
@@ -59,10 +59,10 @@ string-within zero x y = refl
 string-within (suc zero) x y = refl
 string-within (suc (suc r)) x y = refl
 
-pub constraint-within : (b : List ℕ) (p l c k at m : ℕ) → constraintFault b p l c k at m ≡ 0 → factWithin (constraintOf b k at m) ≡ true
-constraint-within b p l c k at m h = go (constraint-formed b p l c k at m h)
+pub constraint-within : (b : List ℕ) (p l c k at m : ℕ) → factFault b p l c k at m ≡ 0 → factWithin (bodyFact b k at m) ≡ true
+constraint-within b p l c k at m h = go (fact-formed b p l c k at m h)
   where
-    go : Constraint b p l c k at m → factWithin (constraintOf b k at m) ≡ true
+    go : FactBody b p l c k at m → factWithin (bodyFact b k at m) ≡ true
     go (on-strings e s i) = ap factWithin i ∙ string-within (u16 b at) (u16 b (at + 2)) (u16 b (at + 4))
     go (on-columns e s i) = ap factWithin i ∙ form-within b c (at + 2) (m / 6 - 1) (s .in-range)
 
@@ -110,11 +110,11 @@ form-more b c at m h a =
     ∙ passed 6 range 0 (ap₂ _&&_ (le-leb (u16 b at) 2 (a .relation)) (ap₂ _&&_ constant (form-rises b c (at + 2) (m / 6 - 1) h (a .in-range))))
 
 -- a constraint over a question's own variables, literals and columns, over as many as there may be
-pub constraint-more : (b : List ℕ) (p l c k at m : ℕ) → p ≤ variableLimit → l ≤ literalLimit → c ≤ columnLimit → constraintFault b p l c k at m ≡ 0
-    → constraintFault b variableLimit literalLimit columnLimit k at m ≡ 0
-unfolding constraintFault
-constraint-more b p l c k at m hp hl hc h = go (constraint-formed b p l c k at m h)
+pub constraint-more : (b : List ℕ) (p l c k at m : ℕ) → p ≤ variableLimit → l ≤ literalLimit → c ≤ columnLimit → factFault b p l c k at m ≡ 0
+    → factFault b variableLimit literalLimit columnLimit k at m ≡ 0
+unfolding factFault
+constraint-more b p l c k at m hp hl hc h = go (fact-formed b p l c k at m h)
   where
-    go : Constraint b p l c k at m → constraintFault b variableLimit literalLimit columnLimit k at m ≡ 0
+    go : FactBody b p l c k at m → factFault b variableLimit literalLimit columnLimit k at m ≡ 0
     go (on-strings e s i) = rw e (string-more b p l at m hl hp s)
     go (on-columns e s i) = rw e (form-more b c at m hc s)

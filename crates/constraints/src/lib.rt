@@ -9,7 +9,7 @@ ghost use Rattle.calculus.specs.Limits.{variableLimit, literalLimit, columnLimi
 ghost use Rattle.calculus.specs.LinearForms.{zeros, scale, below};
 ghost use Rattle.calculus.specs.Facts.{arithmetic, ge};
 ghost use Rattle.format.specs.Fields.{pairsAt};
-ghost use Rattle.format.specs.Question.{rising, relationOf, fillCoefficients, formOf, constraintFault, constraintOf};
+ghost use Rattle.format.specs.Question.{rising, relationOf, fillCoefficients, formOf, factFault, bodyFact};
 ghost use Rattle.rows.specs.Rows.{rowLength, factOf, branchOf, Behind};
 ghost use Rattle.rows.specs.Work.{Fine};
 ghost use Rattle.question.specs.Posed.{asked, Posed};
@@ -88,8 +88,8 @@ fn put_form(work: &mut [i64], k: usize, b: &[u8], relation: usize, at: usize, pa
 // The constraint of a record, by its kind and body, behind the first k facts. A kind that is no constraint's does not come here.
 fn put_constraint(work: &mut [i64], k: usize, b: &[u8], kind: usize, at: usize, size: usize)
     requires { ⌜ (k < factLimit) × (workNumbers ≤ length (now work)) ⌝ }
-    requires { ⌜ (at + size ≤ length (now b)) × (constraintFault (now b) variableLimit literalLimit columnLimit kind at size ≡ 0) ⌝ }
-    ensures { λ _. ⌜ Behind (now (work .entry)) k (constraintOf (now (b .entry)) kind at size) (now (work .exit)) ⌝ }
+    requires { ⌜ (at + size ≤ length (now b)) × (factFault (now b) variableLimit literalLimit columnLimit kind at size ≡ 0) ⌝ }
+    ensures { λ _. ⌜ Behind (now (work .entry)) k (bodyFact (now (b .entry)) kind at size) (now (work .exit)) ⌝ }
 {
     let relation = records::u16_at(b, at);
     match kind {

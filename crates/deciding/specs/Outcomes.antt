@@ -1,10 +1,10 @@
 -- What a ticket comes to on buffers that are large enough, as the code tells it.
 use mathlib.Core.Path.{_≡_}
 use mathlib.Core.List.{List}
-use Prim.Native.Nat.{ℕ, _≤_}
+use Prim.Native.Nat.{ℕ, _+_, _≤_}
 use Rattle.calculus.specs.Limits.{factLimit}
 use Rattle.calculus.specs.Facts.{Fact, Branch}
-use Rattle.format.specs.Question.{checkingManner, question}
+use Rattle.format.specs.Question.{question}
 use Rattle.format.specs.Reading.{State, stepsOn, readClaim, readBehind}
 use Rattle.format.specs.Checking as format
 use Rattle.format.specs.Checking.{checker, outcomeOf}
@@ -38,9 +38,9 @@ claimedFrom b s at r = outcomeOf (readClaim checker b (progressOf b s) at r)
 abbrev pub readWhole : List ℕ → format.Outcome
 readWhole b = outcomeOf (readBehind checker b (question b))
 
--- a question that was read as checking reads it, up to record r at a position
+-- a question that was read, with 10 looked for, up to record r at a position
 abbrev pub ReadToClaim : List ℕ → Progress → ℕ → ℕ → Type 0
-ReadToClaim b s at r = ReadTo (checkingManner .greatest) b s at r × (s .constraints ≤ factLimit)
+ReadToClaim b s at r = ReadTo b s at r × (s .constraints + s .extended ≤ factLimit)
 
 -- a part of checking comes to an outcome: it tells it, and of the answer buffer changes the answer's bytes only
 pub record Decided (o : format.Outcome) (answer answer' : List ℕ) (r : Outcome) : Type 0 where

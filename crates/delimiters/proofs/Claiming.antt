@@ -49,7 +49,7 @@ numbered test (suc d) b s t r at to q l h e =
     go true false (suc f) ex ey ef later = let g = read-stopped test b s r at f (leb-true _ _ ex) ey ef in clash cc
     go true false zero ex ey ef later = later (sym (read-more test b s r at (leb-true _ _ ex) ey ef) ∙ e)
 
-pub read-question : (m : Manner) (b : List ℕ) (s : Progress) (at r : ℕ) → readIn m b ≡ format.Ended (progressOf b s) at r → ReadTo (m .greatest) b s at r
+pub read-question : (m : Manner) (b : List ℕ) (s : Progress) (at r : ℕ) → readIn m b ≡ format.Ended (progressOf b s) at r → ReadTo b s at r
 read-question m b s at r e =
     let test : List ℕ → format.Progress → ℕ → ℕ = questionFault m in
     let (stands, headed) = question-stands m b (numbersOf s) at r e in

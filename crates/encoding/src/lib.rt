@@ -1,4 +1,4 @@
-// The numbers by which document 01 writes kinds, claims, relations and functions, each under its name. Rules are named in `steps`, tags of rows in `rows`,
+// The numbers by which documents 01 and 02 write kinds, claims, relations and functions, each under its name. Rules are named in `steps`, tags of rows in `rows`,
 // nodes in `classes`.
 
 // "A record is a u32 body length, a u16 kind, a body": so many bytes stand before the body.
@@ -36,6 +36,9 @@ pub const KIND_VALUE: usize = 9;
 // "one of kind 10 (q i32 values)"
 pub const KIND_INTEGERS: usize = 10;
 
+// "kind 11 after kind 4" (02, L3), an extended constraint
+pub const KIND_EXTENDED: usize = 11;
+
 // ---- claims
 
 // "1 for no solution, 2 for strings"
@@ -65,3 +68,15 @@ pub const NE: usize = 2;
 pub const LEN: usize = 0;
 
 pub const CODE: usize = 1;
+
+// "Functions: 0, string a is b in upper case ..; 1, string a is b in lower case; 2, integer a is b read in decimal ..; 3, string a is integer b in decimal ..;
+// 4, string a is equal to or before string b" (02, L3)
+pub const IS_UPPER: usize = 0;
+
+pub const IS_LOWER: usize = 1;
+
+pub const IS_VALUE: usize = 2;
+
+pub const IS_DECIMAL: usize = 3;
+
+pub const IN_ORDER: usize = 4;

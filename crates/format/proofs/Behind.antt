@@ -1,6 +1,7 @@
 -- Reading behind the claim, whatever the method: it is done exactly when the records have their forms and the method takes every step without fault.
-use Prim.Native.Nat.{ℕ, zero, suc, _+_, _*_}
+use Prim.Native.Nat.{ℕ, zero, suc, _+_, _*_, _≤_}
 use native.Mathlib.Omega.{arith}
+use native.Mathlib.Decide.{decLe}
 use mathlib.Core.Path.{_≡_, refl, sym, _∙_, ap, ap₂, subst}
 use mathlib.Core.Bool.{Bool, true, false, _&&_, cond}
 use mathlib.Core.Option.{Option, none, some}
@@ -16,12 +17,13 @@ use Rattle.calculus.specs.Steps.{Step}
 use Rattle.calculus.specs.Instances.{StepInRange}
 use Rattle.calculus.specs.Walk.{Walk, working, closed, enter}
 use Rattle.calculus.specs.Limits.{valueLimit}
-use Rattle.format.specs.Records.{size, kind, next, whole, need}
+use Rattle.format.specs.Records.{size, kind, next, whole, need, records}
 use Rattle.format.specs.StepForms.{rule, childField, lengthFits, operandsInRange, stepAt, childInRange}
 use Rattle.format.specs.Reading.{State, proving, taking, modelled, Method, stepped, stepWithChild, stepFault, modelAt, modelFault}
 use Rattle.format.specs.Reading.{bodyFault, lastFault, fault, advanced, Ticket, Faulty, Done, readSteps}
 use Rattle.format.specs.ProperForm.{stepsAt}
 use Rattle.format.specs.Fields.{allWithin}
+use Rattle.format.proofs.Records.{records-none, records-more}
 use Rattle.format.proofs.Faults.{none-applies, passed}
 use Rattle.format.proofs.Decoded.{step-in-range}
 
@@ -104,6 +106,38 @@ unfolding Formed
 formed-within b u ok [] ts m h = absurd h
 formed-within b u ok (at ∷ ats) [] m h = ap (allWithin valueLimit) (h .0 .holds) ∙ h .0 .values
 formed-within b u ok (at ∷ ats) (t ∷ ts) m h = formed-within b u ok ats ts m (h .1)
+
+-- from a position on, every record is a step, a model or an end
+module _ (b : List ℕ) (u : Question) (ok : Step → ℕ → Bool) where
+  abbrev Kinds : List ℕ → Type 0
+  Kinds ats = All (λ i. (6 ≤ kind b i) × (kind b i ≤ 8)) ats
+
+  -- there is a first one
+  first-formed : (ts : List (Step × ℕ)) (o : Option (List ℤ)) (at : ℕ) → Formed b u ok (records b at) ts o
+      → (records b at ≡ at ∷ records b (next b at)) × Formed b u ok (at ∷ records b (next b at)) ts o
+  unfolding Formed
+  first-formed ts o at h = go (decLe (at + 6) (length b))
+    where
+      go : Dec (at + 6 ≤ length b) → (records b at ≡ at ∷ records b (next b at)) × Formed b u ok (at ∷ records b (next b at)) ts o
+      go (yes g) = (records-more b at g, subst (λ l. Formed b u ok l ts o) (records-more b at g) h)
+      go (no g) = absurd (subst (λ l. Formed b u ok l ts o) (records-none b at (omega arith)) h)
+
+  end-kinds : (at : ℕ) → Formed b u ok (records b at) [] none → Kinds (records b at)
+  unfolding Formed
+  end-kinds at h =
+      let (e, end) = first-formed [] none at h in
+      let behind : records b (next b at) ≡ [] = records-none b (next b at) (omega (arith, eqb-true (next b at) (length b) (end .last))) in
+      subst Kinds (sym e) ((omega (arith, end .is-end), omega (arith, end .is-end)), subst Kinds (sym behind) tt)
+
+  pub formed-kinds : (ts : List (Step × ℕ)) (o : Option (List ℤ)) (at : ℕ) → Formed b u ok (records b at) ts o → Kinds (records b at)
+  unfolding Formed
+  formed-kinds [] none at h = end-kinds at h
+  formed-kinds [] (some m) at h =
+      let (e, (model, rest)) = first-formed [] (some m) at h in
+      subst Kinds (sym e) ((omega (arith, model .is-model), omega (arith, model .is-model)), end-kinds (next b at) rest)
+  formed-kinds (t ∷ ts) o at h =
+      let (e, (step, rest)) = first-formed (t ∷ ts) o at h in
+      subst Kinds (sym e) ((omega (arith, step .is-step), omega (arith, step .is-step)), formed-kinds ts o (next b at) rest)
 
 -- ---- the method's part
 

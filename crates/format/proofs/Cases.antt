@@ -6,7 +6,7 @@ use Rattle.calculus.specs.Alphabet.{characterCount, character, codeRanges, isCh
 use Rattle.calculus.specs.Steps.{shape}
 use Rattle.format.specs.Fields.{u32, signed, u16s, u32s, i32s, pairsAt, bytesOf, allWithin}
 use Rattle.format.specs.Records.{recordsBy, records}
-use Rattle.format.specs.Question.{rankOf, rising, fillCoefficients, constraintFault, formFault, questionFault, questionAdvanced, readFrom, readBy}
+use Rattle.format.specs.Question.{rankOf, rising, fillCoefficients, factFault, formFault, questionFault, questionAdvanced, readFrom, readBy}
 use Rattle.format.specs.StepForms.{multipliersWithin, operandsInRange, stepOf}
 use Rattle.format.specs.Answer.{characterBytes, integerBytes, stringRecords, encode}
 use Rattle.format.specs.Reading.{fault, advanced, readSteps}
@@ -14,7 +14,7 @@ use Rattle.format.specs.Checking.{factsWithin, childrenWithin, roomForAl
 use Rattle.format.specs.Cases.{shortBytes, pairBytes, ticket, CaseHolds, starred}
 
 pub starred-hold : All CaseHolds starred
-unfolding characterCount character codeRanges isCharacter allCharacters shape u32 signed u16s u32s i32s pairsAt bytesOf recordsBy records rankOf rising fillCoefficients constraintFault
+unfolding characterCount character codeRanges isCharacter allCharacters shape u32 signed u16s u32s i32s pairsAt bytesOf recordsBy records rankOf rising fillCoefficients factFault
     formFault questionFault questionAdvanced readFrom readBy multipliersWithin operandsInRange stepOf characterBytes integerBytes stringRecords encode allWithin
     fault advanced readSteps factsWithin childrenWithin roomForAll keeps verdictBy shortBytes pairBytes ticket flatMap
 starred-hold = (refl, (refl, (refl, (refl, (refl, (refl, (refl, (refl, (refl, (refl, (refl, (refl, (refl, tt)))))))))))))

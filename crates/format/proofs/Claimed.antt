@@ -11,6 +11,7 @@ use lib.IntN.{ℤ}
 use borrow.Author.Tests.{leb-true, le-leb}
 use Rattle.lists.proofs.Tests.{and-both}
 use Rattle.calculus.specs.Limits.{factLimit}
+use Rattle.calculus.specs.Extended.{Extended}
 use Rattle.calculus.specs.Facts.{Question}
 use Rattle.calculus.specs.Steps.{Step}
 use Rattle.calculus.specs.Walk.{working}
@@ -21,16 +22,17 @@ use Rattle.format.specs.ProperForm.{stepsAt, stepsBehind, stepsWithChild
 use Rattle.format.proofs.Faults.{none-applies}
 use Rattle.format.proofs.StepTurns.{atClaim, claim-clean}
 use Rattle.format.proofs.Entries.{QuestionInRange}
-use Rattle.format.proofs.Asked.{headed-asked, asked-in-range, question→form, form→question}
+use Rattle.format.proofs.Asked.{headed-in, asked-in-range, question→form, form→question}
 use Rattle.format.proofs.Behind.{Formed, Taken, childOk, Read, done→, →done}
 
 -- reading the question u came to a claim
 pub record Claimed (b : List ℕ) (g : Reading) (u : Question) : Type 0 where
   pub last : ℕ
+  pub extended : List Extended
   pub position : ℕ
   pub number : ℕ
-  pub ended : g ≡ Ended (record { last = last; question = u }) position number
-  pub claim-formed : claimFault b (record { last = last; question = u }) position ≡ 0
+  pub ended : g ≡ Ended (record { last = last; question = u; extended = extended }) position number
+  pub claim-formed : claimFault b (record { last = last; question = u; extended = extended }) position ≡ 0
 
 -- the claim is "no solution"
 abbrev pub claimsNone : {b : List ℕ} {g : Reading} {u : Question} → Claimed b g u → Bool
@@ -45,11 +47,11 @@ abbrev pub started : {B C : Type 0} → Method B C → Bool → State B C
 started w x = cond x (proving (working (w .root) [])) (taking (w .root))
 
 abbrev pub claimed→form : {b : List ℕ} {u : Question} → Claimed b (question b) u → Claimed b (questionForm b) u
-claimed→form {b} c = record { last = c .last; position = c .position; number = c .number; ended = question→form b (c .ended); claim-formed = c .claim-formed }
+claimed→form {b} c = record { last = c .last; extended = c .extended; position = c .position; number = c .number; ended = question→form b (c .ended); claim-formed = c .claim-formed }
 
 abbrev pub form→claimed : {b : List ℕ} {u : Question} → length (u .constraints) ≤ factLimit → Claimed b (questionForm b) u → Claimed b (question b) u
 form→claimed {b} l c =
-    record { last = c .last; position = c .position; number = c .number; ended = form→question b (c .ended) l; claim-formed = c .claim-formed }
+    record { last = c .last; extended = c .extended; position = c .position; number = c .number; ended = form→question b (c .ended) l; claim-formed = c .claim-formed }
 
 pub claimed-steps : {b : List ℕ} {u : Question} (c : Claimed b (questionForm b) u) → stepsWithChild b ≡ stepsAt b (behindClaim c)
 claimed-steps {b} c = ap (stepsBehind b) (c .ended)
@@ -70,7 +72,7 @@ claimed-in-range {b} c = asked-in-range b (c .ended) (claimed-headed c)
 
 pub claimed-asked : {b : List ℕ} {g : Reading} {u : Question} → Claimed b g u → questionIn g ≡ some u
 claimed-asked {b} {g} {u} c =
-    ap questionIn (c .ended) ∙ headed-asked (record { last = c .last; question = u }) (c .position) (c .number) (le-leb 1 (c .last) (claimed-headed c))
+    ap questionIn (c .ended) ∙ headed-in (λ s. s .question) (record { last = c .last; question = u; extended = c .extended }) (c .position) (c .number) (le-leb 1 (c .last) (claimed-headed c))
 
 module _ {B C : Type 0} (method : Question → Method B C) (b : List ℕ) where
   abbrev pub ReadBehind : Reading → Question → State B C → Type 0
@@ -85,7 +87,7 @@ module _ {B C : Type 0} (method : Question → Method B C) (b : List ℕ) where
       go zero k e =
           let h = done→ (method (p .question)) b (p .question) (begin (method (p .question)) (claimAt b at)) (suc r) (records b (next b at)) e in
           subst (λ v. ReadBehind (Ended p at r) v s) (h .same-question) (
-            record { last = p .last; position = at; number = r; ended = refl; claim-formed = k },
+            record { last = p .last; extended = p .extended; position = at; number = r; ended = refl; claim-formed = k },
             eqb (claimAt b at) 1,
             refl,
             record { steps = h .steps; model = h .model; formed = h .formed; same-question = refl; taken = h .taken },
@@ -95,6 +97,6 @@ module _ {B C : Type 0} (method : Question → Method B C) (b : List ℕ) where
       → Formed b u (childOk u (started (method u) x)) (behindClaim c) ts o → Taken (method u) (started (method u) x) ts o s → readBehind method b g ≡ Done u s
   →ticket {g} {u} {s} c x ts o e f k =
       ap (readBehind method b) (c .ended)
-      ∙ claim-clean method b (record { last = c .last; question = u }) (c .position) (c .number) (c .claim-formed)
+      ∙ claim-clean method b (record { last = c .last; question = u; extended = c .extended }) (c .position) (c .number) (c .claim-formed)
       ∙ ap (λ x. readSteps (method u) b u (started (method u) x) (suc (c .number)) (behindClaim c)) e
       ∙ →done (method u) b u (started (method u) x) (suc (c .number)) (behindClaim c) ts o f k

@@ -3,7 +3,10 @@ use Rattle.format.specs.Demands.{Demands}
 use Rattle.format.proofs.NoSolution.{derivations-exact, no-solution-sound}
 use Rattle.format.proofs.Strings.{strings-hold, leaves-exact}
 use Rattle.format.proofs.Judged.{judging-is-theory}
-use Rattle.format.proofs.Shown.{record-concerned}
+use Rattle.format.proofs.Shown.{record-concerned, constraints-counted}
+use Rattle.format.proofs.Extended.{reads-alike, extended-refused}
+use Rattle.format.proofs.Absent.{extended-absent}
+use Rattle.format.proofs.Functions.{characters-turned, in-decimal}
 use Rattle.format.proofs.ReadBack.{answers-judged}
 use Rattle.format.proofs.Proper.{no-solution-proper, strings-proper}
 use Rattle.format.proofs.NeedLimits.{within-limits}
@@ -20,6 +23,12 @@ demands = record {
   th-l2-met = report-in-words;
   th-l2-limits = within-limits;
   th-l2-numbers = need-numbers;
+  th-l3 = reads-alike;
+  th-l3-counted = constraints-counted;
+  th-l3-refused = extended-refused;
+  th-l3-absent = extended-absent;
+  th-l3-case = characters-turned;
+  th-l3-decimals = in-decimal;
   th-4 = no-solution-sound;
   th-5 = strings-hold;
   th-6 = leaves-exact;

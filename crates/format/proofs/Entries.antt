@@ -3,28 +3,30 @@ use Prim.Native.Nat.{ℕ, zero, suc, _+_, _*_, _-_, _/_, _%_, _<_, _≤_}
 use native.Mathlib.Omega.{arith}
 use mathlib.Core.Path.{_≡_, refl, sym, ap, subst}
 use mathlib.Core.Logic.{_≢_, inl, inr}
-use mathlib.Core.Bool.{Bool, true, false, not, _&&_, _||_, cond}
+use mathlib.Core.Bool.{Bool, true, false, not, _&&_, cond}
 use mathlib.Core.List.{List, [], _∷_, _++_}
 use lib.ListN.{length, length-append}
-use lib.Dec.{T-not, ltb, leb, eqb}
-use borrow.Author.Tests.{ltb-true, leb-true, eqb-true, eqb-false}
+use lib.Dec.{T-not, leb, eqb}
+use borrow.Author.Tests.{leb-true, eqb-true, eqb-false}
 use Rattle.lists.specs.Lists.{All, Distinct}
 use Rattle.lists.proofs.Tests.{true→, and-both}
 use Rattle.lists.proofs.Lists.{all-map, all-append, In, distinct-snoc}
 use Rattle.calculus.specs.Limits.{alphabetLimit, literalLimit, lengthLimit}
 use Rattle.calculus.specs.Alphabet.{Over, allCharacters}
 use Rattle.calculus.specs.Facts.{Question, Fact, same, notSame, isLiteral, arithmetic, columnCount}
+use Rattle.calculus.specs.Extended.{Extended}
 use Rattle.calculus.specs.Strings.{given}
 use Rattle.calculus.proofs.InRange.{HeadInRange, FactInRange, FactsInRange}
 use Rattle.calculus.proofs.Words.{over→, →given}
 use Rattle.format.specs.Fields.{u16, u32s}
 use Rattle.format.specs.Records.{size, kind, need}
-use Rattle.format.specs.Question.{headRank, literalRank, rankOf, Progress, withLiteral, withFact, headFault, headOf, textOf}
-use Rattle.format.specs.Question.{literalFault, stringFact, constraintFault, constraintOf, rankInPlace, formFault, questionAdvanced}
+use Rattle.format.specs.Question.{headRank, literalRank, extendedRank, rankOf, Progress, constraintCount}
+use Rattle.format.specs.Question.{withLiteral, withFact, headFault, headOf, textOf, extendedFault, extendedOf}
+use Rattle.format.specs.Question.{literalFault, stringFact, factFault, bodyFact, rankInPlace, formFault, questionAdvanced}
 use Rattle.format.proofs.Faults.{none-applies}
 use Rattle.format.proofs.Fields.{length-u32s, length-form}
 use Rattle.format.proofs.RecordFaults.{passed, head-first, behind-head, head-formed, StringConstraint}
-use Rattle.format.proofs.RecordFaults.{Constraint, on-strings, on-columns, constraint-formed}
+use Rattle.format.proofs.RecordFaults.{FactBody, on-strings, on-columns, fact-formed}
 
 not-empty : (b : List ℕ) (at k : ℕ) → 1 ≤ k → [] ≢ u32s b at k
 not-empty b at k h e = omega (arith, ap length e, length-u32s b at k)
@@ -122,30 +124,54 @@ string-in-range u m (suc (suc (suc r))) x y c = absurd (omega (arith, c .relatio
 
 -- a constraint's body without fault
 constraint-in-range : (b : List ℕ) (u : Question) (k at m : ℕ)
-    → Constraint b (u .p) (length (u .literals)) (columnCount u) k at m
-    → FactInRange u (constraintOf b k at m)
+    → FactBody b (u .p) (length (u .literals)) (columnCount u) k at m
+    → FactInRange u (bodyFact b k at m)
 constraint-in-range b u k at m (on-strings e c i) = subst (FactInRange u) (sym i) (string-in-range u m (u16 b at) (u16 b (at + 2)) (u16 b (at + 4)) c)
 constraint-in-range b u k at m (on-columns e c i) = subst (FactInRange u) (sym i) (length-form b (at + 2) (m / 6 - 1))
 
 -- ---- one record
 
--- a record that the question v stands behind, where s was read before it
-pub data Entry (b : List ℕ) (s : Progress) (at : ℕ) (v : Question) : Type 0 where
-  head : rankOf (kind b at) ≡ headRank → s .last ≡ 0 → length (v .constraints) ≡ 0 → QuestionInRange v → Entry b s at v
+-- how many records behind the head
+abbrev pub recordCount : Progress → ℕ
+recordCount s = length (s .question .literals) + constraintCount s
+
+-- a record that t is read behind, where s was read before it
+pub data Entry (b : List ℕ) (s : Progress) (at : ℕ) (t : Progress) : Type 0 where
+  head : rankOf (kind b at) ≡ headRank
+      → s .last ≡ 0
+      → constraintCount t ≡ 0
+      → recordCount t ≡ 0
+      → t .extended ≡ []
+      → QuestionInRange (t .question)
+      → Entry b s at t
   literal : rankOf (kind b at) ≡ literalRank
       → headRank ≤ s .last
-      → length (v .constraints) ≡ length (s .question .constraints)
-      → (QuestionInRange (s .question) → QuestionInRange v)
-      → Entry b s at v
+      → constraintCount t ≡ constraintCount s
+      → recordCount t ≡ suc (recordCount s)
+      → t .extended ≡ s .extended
+      → (QuestionInRange (s .question) → QuestionInRange (t .question))
+      → Entry b s at t
   constraint : literalRank < rankOf (kind b at)
+      → rankOf (kind b at) ≢ extendedRank
       → headRank ≤ s .last
-      → length (v .constraints) ≡ suc (length (s .question .constraints))
-      → (QuestionInRange (s .question) → QuestionInRange v)
-      → Entry b s at v
+      → constraintCount t ≡ suc (constraintCount s)
+      → recordCount t ≡ suc (recordCount s)
+      → t .extended ≡ s .extended
+      → (QuestionInRange (s .question) → QuestionInRange (t .question))
+      → Entry b s at t
+  extended : rankOf (kind b at) ≡ extendedRank
+      → headRank ≤ s .last
+      → constraintCount t ≡ suc (constraintCount s)
+      → recordCount t ≡ suc (recordCount s)
+      → t .question ≡ s .question
+      → Entry b s at t
 
 module _ (greatest : ℕ) (b : List ℕ) (s : Progress) (at : ℕ) where
   abbrev u : Question
   u = s .question
+
+  abbrev es : List Extended
+  es = s .extended
 
   abbrev r : ℕ
   r = rankOf (kind b at)
@@ -154,23 +180,37 @@ module _ (greatest : ℕ) (b : List ℕ) (s : Progress) (at : ℕ) where
   m = size b at
 
   abbrev fact : Fact
-  fact = constraintOf b (kind b at) (at + 6) m
+  fact = bodyFact b (kind b at) (at + 6) m
 
   -- by the tests of the record's rank
-  by-rank : (x y : Bool) → eqb r headRank ≡ x → eqb r literalRank ≡ y → rankInPlace greatest (s .last) (length (u .literals)) r ≡ true
+  by-rank : (x y z : Bool) → eqb r headRank ≡ x → eqb r literalRank ≡ y → eqb r extendedRank ≡ z
+      → rankInPlace greatest (s .last) (length (u .literals)) r ≡ true
       → cond x (headFault b (at + 6) m)
-      (cond y (literalFault b (u .n) (u .literals) (at + 6) m) (constraintFault b (u .p) (length (u .literals)) (columnCount u) (kind b at) (at + 6) m))
+      (cond y (literalFault b (u .n) (u .literals) (at + 6) m)
+      (cond z (extendedFault b (u .p) (u .q) (at + 6) m) (factFault b (u .p) (length (u .literals)) (columnCount u) (kind b at) (at + 6) m)))
       ≡ 0
-      → Entry b s at (cond x (headOf b (at + 6)) (cond y (withLiteral u (textOf b (at + 6) m)) (withFact u fact)))
-  by-rank true y p q t e = head (eqb-true _ _ p) (head-first greatest (s .last) (length (u .literals)) r t (eqb-true _ _ p)) refl (head-in-range b (at + 6) m e)
-  by-rank false true p q t e =
-      let w = behind-head greatest (s .last) (length (u .literals)) r t (eqb-false _ _ p) in
-      literal (eqb-true _ _ q) (w .head-read) refl (λ d. literal-in-range b u (at + 6) m d (w .few-literals (eqb-true _ _ q)) e)
-  by-rank false false p q t e =
-      let w = behind-head greatest (s .last) (length (u .literals)) r t (eqb-false _ _ p) in
-      constraint (omega (arith, w .at-least, eqb-false r literalRank q)) (w .head-read) (omega (arith, length-append (u .constraints) (fact ∷ [])))
-      (λ d. fact-in-range u fact d (constraint-in-range b u (kind b at) (at + 6) m (constraint-formed b _ _ _ _ _ _ e)))
+      → Entry b s at (record {
+        last = r;
+        question = cond x (headOf b (at + 6)) (cond y (withLiteral u (textOf b (at + 6) m)) (cond z u (withFact u fact)));
+        extended = cond x [] (cond y es (cond z (es ++ (extendedOf b (at + 6) ∷ [])) es));
+      })
+  by-rank true y z ex ey ez t e =
+      head (eqb-true _ _ ex) (head-first greatest (s .last) (length (u .literals)) r t (eqb-true _ _ ex)) refl refl refl (head-in-range b (at + 6) m e)
+  by-rank false true z ex ey ez t e =
+      let w = behind-head greatest (s .last) (length (u .literals)) r t (eqb-false _ _ ex) in
+      literal (eqb-true _ _ ey) (w .head-read) refl (omega (arith, length-append (u .literals) (textOf b (at + 6) m ∷ []))) refl
+      (λ d. literal-in-range b u (at + 6) m d (w .few-literals (eqb-true _ _ ey)) e)
+  by-rank false false true ex ey ez t e =
+      let w = behind-head greatest (s .last) (length (u .literals)) r t (eqb-false _ _ ex) in
+      let one = length-append es (extendedOf b (at + 6) ∷ []) in
+      extended (eqb-true _ _ ez) (w .head-read) (omega (arith, one)) (omega (arith, one)) refl
+  by-rank false false false ex ey ez t e =
+      let w = behind-head greatest (s .last) (length (u .literals)) r t (eqb-false _ _ ex) in
+      let one = length-append (u .constraints) (fact ∷ []) in
+      constraint (omega (arith, w .at-least, eqb-false r literalRank ey)) (eqb-false _ _ ez) (w .head-read)
+      (omega (arith, one)) (omega (arith, one)) refl
+      (λ d. fact-in-range u fact d (constraint-in-range b u (kind b at) (at + 6) m (fact-formed b _ _ _ _ _ _ e)))
 
-  pub entry : formFault greatest b s at ≡ 0 → Entry b s at (questionAdvanced b s at .question)
+  pub entry : formFault greatest b s at ≡ 0 → Entry b s at (questionAdvanced b s at)
   unfolding questionAdvanced
-  entry e = let w = passed greatest b s at e in by-rank (eqb r headRank) (eqb r literalRank) refl refl (w .in-place) (w .body-formed)
+  entry e = let w = passed greatest b s at e in by-rank (eqb r headRank) (eqb r literalRank) (eqb r extendedRank) refl refl refl (w .in-place) (w .body-formed)

@@ -1,7 +1,7 @@
 -- TH-3: judging says all met exactly when the answer's values meet every constraint, and else names the first that they do not meet.
 use Prim.Native.Nat.{ℕ, zero, suc, _+_}
 use native.Mathlib.Omega.{arith}
-use mathlib.Core.Path.{_≡_, refl, sym, _∙_, ap, subst}
+use mathlib.Core.Path.{_≡_, refl, sym, _∙_, ap, ap₂, subst}
 use mathlib.Core.Bool.{Bool, true, false, not}
 use mathlib.Core.Option.{Option, none, some}
 use mathlib.Core.List.{List, [], _∷_}
@@ -13,19 +13,22 @@ use Rattle.calculus.specs.Alphabet.{Over, allCharacters}
 use Rattle.calculus.specs.Facts.{Question, Fact, same, notSame, isLiteral, arithmetic, holds, literal}
 use Rattle.calculus.specs.Strings.{eqString}
 use Rattle.calculus.specs.Meaning.{Assignment, str, value, For, Meets}
+use Rattle.calculus.specs.Extended.{Extended, Constraint, basic, extended, constraintsOf, MeetsConstraint}
 use Rattle.calculus.proofs.Words.{over→, eqString→, →eqString}
 use Rattle.calculus.proofs.Relations.{holds→, →holds}
-use Rattle.calculus.proofs.Searches.{FirstWithout, lowest-first, first-unique}
+use Rattle.lists.proofs.Searches.{FirstWithout, lowest-first, first-unique}
+use Rattle.calculus.proofs.Extended.{extended→, →extended}
 use Rattle.format.specs.Records.{next}
-use Rattle.format.specs.Question.{Reading, Stopped, Ended, question, questionIn, questionOf}
+use Rattle.format.specs.Question.{Reading, Stopped, Ended, judgedQuestion, judgedIn}
 use Rattle.format.specs.Places.{skip, textAt, texts}
 use Rattle.format.specs.Answer.{answerForm, assignmentOf, outside}
-use Rattle.format.specs.Judging.{Judging, Refused, Judged, judgeAnswer, judgeBehind, judging, meets}
+use Rattle.format.specs.Judging.{Judged, byForm, byHead, judgeBehind, judging, meets, meetsConstraint}
 use Rattle.format.specs.Judging.{firstUnmet, saidOf, said}
 use Rattle.format.specs.Demands.{Iff, Judges, TH-3}
 use Rattle.format.proofs.Faults.{not-both, clash}
 use Rattle.format.proofs.Fields.{length-i32s}
-use Rattle.format.proofs.Asked.{headed-asked, question→form}
+use Rattle.format.proofs.Asked.{headed-in}
+use Rattle.format.proofs.Extended.{judged-put}
 use Rattle.format.proofs.Places.{length-texts}
 
 -- ---- a constraint is met exactly when its test holds
@@ -42,17 +45,25 @@ meets→ u a (arithmetic r e) h = holds→ r (value a e) (true→ h)
 →meets u a (isLiteral x l) h = →true (eqString (str a x) (literal u l)) (→eqString h)
 →meets u a (arithmetic r e) h = →true (holds r (value a e)) (→holds r (value a e) h)
 
+constraint→ : (u : Question) (a : Assignment) (c : Constraint) → meetsConstraint u a c ≡ true → MeetsConstraint u a c
+constraint→ u a (basic f) e = meets→ u a f e
+constraint→ u a (extended x) e = extended→ a x e
+
+→constraint : (u : Question) (a : Assignment) (c : Constraint) → MeetsConstraint u a c → meetsConstraint u a c ≡ true
+→constraint u a (basic f) h = →meets u a f h
+→constraint u a (extended x) h = →extended a x h
+
 -- ---- the first constraint that is not met
 
-module _ (u : Question) (a : Assignment) where
-  pub first-unmet : FirstWithout (Meets u a) (u .constraints) (firstUnmet u a)
-  first-unmet = lowest-first (Meets u a) (λ f. not (meets u a f)) unmet→ met→ (u .constraints)
+module _ (u : Question) (es : List Extended) (a : Assignment) where
+  pub first-unmet : FirstWithout (MeetsConstraint u a) (constraintsOf u es) (firstUnmet u es a)
+  first-unmet = lowest-first (MeetsConstraint u a) (λ c. not (meetsConstraint u a c)) unmet→ met→ (constraintsOf u es)
     where
-      unmet→ : (f : Fact) → not (meets u a f) ≡ true → Meets u a f → ⊥
-      unmet→ f e m = not-both (meets u a f) (→meets u a f m) (not-true (meets u a f) e)
+      unmet→ : (c : Constraint) → not (meetsConstraint u a c) ≡ true → MeetsConstraint u a c → ⊥
+      unmet→ c e m = not-both (meetsConstraint u a c) (→constraint u a c m) (not-true (meetsConstraint u a c) e)
 
-      met→ : (f : Fact) → not (meets u a f) ≡ false → Meets u a f
-      met→ f e = meets→ u a f (not-false (meets u a f) e)
+      met→ : (c : Constraint) → not (meetsConstraint u a c) ≡ false → MeetsConstraint u a c
+      met→ c e = constraint→ u a c (not-false (meetsConstraint u a c) e)
 
 -- ---- the answer's values are an assignment of the question
 
@@ -71,47 +82,57 @@ inside-over v u (suc p) r at e x = go (allCharacters (u .n) (textAt v at)) refl 
     go true t e (suc y) ih = ih e y
     go false t e x ih = absurd (let z : _≡_ {A = ℕ} 0 1 = cc in omega arith)
 
-record Taken (b v : List ℕ) (u : Question) (a : Assignment) : Type 0 where
-  asked-is : questionOf b ≡ some u
-  values-are : a ≡ assignmentOf v u
-  all-inside : outside v u (u .p) 0 0 ≡ none
+-- what was judged is the question that was read and an answer of its form and in its ranges
+pub record Taken (b v : List ℕ) (u : Question) (es : List Extended) (a : Assignment) : Type 0 where
+  pub asked-is : judgedIn (judgedQuestion b) ≡ some (u, es)
+  pub values-are : a ≡ assignmentOf v u
+  pub formed : answerForm v (u .p) (u .q) 0 ≡ true
+  pub all-inside : outside v u (u .p) 0 0 ≡ none
 
-judged-taken : (b v : List ℕ) (u : Question) (a : Assignment) → judging b v ≡ Judged u a → Taken b v u a
+pub judged-taken : (b v : List ℕ) (u : Question) (es : List Extended) (a : Assignment) → judging b v ≡ Judged u es a → Taken b v u es a
 unfolding judging
-judged-taken b v u a e = behind (question b) refl e
+judged-taken b v u es a e = behind (judgedQuestion b) refl e
   where
-    answered : (w : Question) (x : Bool) (o : Option ℕ) → outside v w (w .p) 0 0 ≡ o → questionOf b ≡ some w
-        →
-        (elim x as (λ _. Judging) [ false ↦ Refused 15 0 | true ↦ elim o as (λ _. Judging) [ some r ↦ Refused 16 r | none ↦ Judged w (assignmentOf v w) ] ])
-        ≡ Judged u a
-        → Taken b v u a
-    answered w false o p q e = absurd (let z : _≡_ {A = ℕ} 0 1 = cc in omega arith)
-    answered w true (some r) p q e = absurd (let z : _≡_ {A = ℕ} 0 1 = cc in omega arith)
-    answered w true none p q e =
+    answered : (w : Question) (ws : List Extended) (x : Bool) (o : Option ℕ)
+        → answerForm v (w .p) (w .q) 0 ≡ x
+        → outside v w (w .p) 0 0 ≡ o
+        → judgedIn (judgedQuestion b) ≡ some (w, ws)
+        → byForm w ws v x o ≡ Judged u es a
+        → Taken b v u es a
+    answered w ws false o f p q e = clash cc
+    answered w ws true (some r) f p q e = clash cc
+    answered w ws true none f p q e =
         let s : w ≡ u = cc in
         let t : assignmentOf v w ≡ a = cc in
-        record { asked-is = q ∙ ap some s; values-are = sym t ∙ ap (assignmentOf v) s; all-inside = subst (λ z. outside v z (z .p) 0 0 ≡ none) s p }
+        let z : ws ≡ es = cc in
+        record {
+          asked-is = q ∙ ap₂ (λ x y. some (x, y)) s z;
+          values-are = sym t ∙ ap (assignmentOf v) s;
+          formed = subst (λ z. answerForm v (z .p) (z .q) 0 ≡ true) s f;
+          all-inside = subst (λ z. outside v z (z .p) 0 0 ≡ none) s p;
+        }
 
-    behind : (g : Reading) → question b ≡ g → judgeBehind g v ≡ Judged u a → Taken b v u a
-    behind (Stopped c r) p e = absurd (let z : _≡_ {A = ℕ} 0 1 = cc in omega arith)
+    behind : (g : Reading) → judgedQuestion b ≡ g → judgeBehind g v ≡ Judged u es a → Taken b v u es a
+    behind (Stopped c r) p e = clash cc
     behind (Ended s at r) p e = go (leb 1 (s .last)) refl e
       where
         go : (x : Bool)
             → leb 1 (s .last) ≡ x
-            → (elim x as (λ _. Judging) [ false ↦ Refused 4 r | true ↦ judgeAnswer (s .question) v ]) ≡ Judged u a
-            → Taken b v u a
-        go false h e = absurd (let z : _≡_ {A = ℕ} 0 1 = cc in omega arith)
+            → byHead s r v x ≡ Judged u es a
+            → Taken b v u es a
+        go false h e = clash cc
         go true h e =
-            answered (s .question) (answerForm v (s .question .p) (s .question .q) 0) (outside v (s .question) (s .question .p) 0 0) refl
-            (ap questionIn (question→form b p) ∙ headed-asked s at r h) e
+            answered (s .question) (s .extended) (answerForm v (s .question .p) (s .question .q) 0) (outside v (s .question) (s .question .p) 0 0) refl refl
+            (ap judgedIn p ∙ headed-in (λ s. (s .question, s .extended)) s at r h) e
 
 -- ---- the theorem
 
 pub judging-is-theory : TH-3
-judging-is-theory b v u a e =
-    let t = judged-taken b v u a e in
-    subst (λ g. Judges b v (said g) u a) (sym e) (record {
+judging-is-theory b v u es a e =
+    let t = judged-taken b v u es a e in
+    subst (λ g. Judges b v (said g) u es a) (sym e) (record {
       asked = t .asked-is;
+      put = λ none-extended. judged-put b (t .asked-is ∙ ap (λ es. some (u, es)) none-extended);
       values = t .values-are;
       for-question = subst (For u) (sym (t .values-are)) (record {
         strings = length-texts v (u .p) 0;
@@ -128,8 +149,8 @@ judging-is-theory b v u a e =
     said-one (some k) none e = clash cc
     said-one (some k) (some j) e = let z : k ≡ j = cc in ap some z
 
-    exactly : (o : Option ℕ) → Iff (saidOf (firstUnmet u a) ≡ saidOf o) (FirstWithout (Meets u a) (u .constraints) o)
+    exactly : (o : Option ℕ) → Iff (saidOf (firstUnmet u es a) ≡ saidOf o) (FirstWithout (MeetsConstraint u a) (constraintsOf u es) o)
     exactly o = (
-      (λ e. subst (FirstWithout (Meets u a) (u .constraints)) (said-one (firstUnmet u a) o e) (first-unmet u a)),
-      (λ h. ap saidOf (first-unique (Meets u a) (u .constraints) (firstUnmet u a) o (first-unmet u a) h)),
+      (λ e. subst (FirstWithout (MeetsConstraint u a) (constraintsOf u es)) (said-one (firstUnmet u es a) o e) (first-unmet u es a)),
+      (λ h. ap saidOf (first-unique (MeetsConstraint u a) (constraintsOf u es) (firstUnmet u es a) o (first-unmet u es a) h)),
     )

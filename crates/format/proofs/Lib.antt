@@ -20,6 +20,9 @@ pub mod Strings
 pub mod Proper
 pub mod Needs
 pub mod NeedLimits
+pub mod Extended
+pub mod Functions
+pub mod Absent
 pub mod Judged
 pub mod Refusals
 pub mod Shown

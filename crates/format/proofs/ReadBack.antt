@@ -3,35 +3,34 @@ use Prim.Native.Nat.{ℕ, suc, _+_, _*_, _-_, _/_, _%_, _≤_, _<_}
 use native.Mathlib.Nat.{add-zero}
 use native.Mathlib.Omega.{arith}
 use mathlib.Core.Path.{_≡_, refl, sym, _∙_, ap, ap₂, subst}
-use mathlib.Core.Bool.{true, false, _&&_, Bool, cond}
+use mathlib.Core.Bool.{true, false, _&&_}
 use mathlib.Core.Option.{Option, none, some}
 use mathlib.Core.List.{List, [], _∷_, _++_, append-assoc, append-nil, flatMap}
 use lib.ListN.{length, getD, drop, length-append, length-drop}
 use lib.Seq.{drop-at, drop-drop, getD-drop}
 use lib.IntN.{ℤ, pos, negsuc}
 use borrow.Author.Tests.{leb-true, le-leb, eq-eqb}
-use lib.Dec.{leb}
 use Rattle.lists.specs.Lists.{All}
 use Rattle.lists.proofs.Lists.{getD-all}
 use Rattle.lists.proofs.Tests.{→true, and-both}
-use Rattle.lists.proofs.Options.{none-some, some-injective}
 use Rattle.calculus.specs.Limits.{alphabetLimit, variableLimit, lengthLimit, valueLimit}
 use Rattle.calculus.specs.Alphabet.{Over, allCharacters}
 use Rattle.calculus.proofs.Alphabet.{character-below}
 use Rattle.calculus.specs.Facts.{Question}
 use Rattle.calculus.specs.Meaning.{Assignment, For}
+use Rattle.calculus.specs.Extended.{Extended}
 use Rattle.calculus.proofs.Words.{→over}
 use Rattle.format.specs.Fields.{bytesOf, unsigned, signed, u16, u32, u32s, i32s, within, allWithin}
 use Rattle.format.specs.Records.{size, kind, next, whole}
-use Rattle.format.specs.Question.{Reading, question, questionIn, Stopped, Ended}
+use Rattle.format.specs.Question.{Progress, judgingManner, judgedQuestion}
 use Rattle.format.specs.Places.{skip, textAt, texts}
 use Rattle.format.specs.Answer.{recordBytes, characterBytes, integerBytes, stringRecords, encode, answerForm, integersAt, assignmentOf, outside}
-use Rattle.format.specs.Judging.{Judging, Refused, Judged, judgeAnswer, judgeBehind, judging}
+use Rattle.format.specs.Judging.{Judged, byForm, judgeAnswer, byHead, judgeBehind, judging}
 use Rattle.format.specs.Demands.{TH-3-all}
 use Rattle.format.proofs.Entries.{QuestionInRange}
 use Rattle.format.proofs.Encoded.{length-bytes, length-characters, length-integers, length-record}
 use Rattle.format.proofs.Fields.{signed-low, signed-high}
-use Rattle.format.proofs.Asked.{asked-in-range, question→form}
+use Rattle.format.proofs.Asked.{headed-by, read-in-range}
 use Rattle.format.proofs.Limits.{→within}
 
 -- ---- what stands at a position
@@ -190,30 +189,26 @@ module _ (b : List ℕ) (u : Question) (zs : List ℤ) (characters : u .n ≤ al
 
 -- ---- judging
 
-judged : (u : Question) (v : List ℕ) (a : Assignment)
+judged : (u : Question) (es : List Extended) (v : List ℕ) (a : Assignment)
     → answerForm v (u .p) (u .q) 0 ≡ true
     → outside v u (u .p) 0 0 ≡ none
     → assignmentOf v u ≡ a
-    → judgeAnswer u v ≡ Judged u a
-judged u v a form inside read =
-    ap₂ (λ x o.
-    elim x as (λ _. Judging) [ false ↦ Refused 15 0 | true ↦ elim o as (λ _. Judging) [ some r ↦ Refused 16 r | none ↦ Judged u (assignmentOf v u) ] ])
-    form inside
-    ∙ ap (Judged u) read
+    → judgeAnswer u es v ≡ Judged u es a
+judged u es v a form inside read = ap₂ (byForm u es v) form inside ∙ ap (Judged u es) read
 
 -- from the bytes of an assignment of the question judging reads that assignment
-answer-back : (u : Question) (a : Assignment)
+answer-back : (u : Question) (es : List Extended) (a : Assignment)
     → QuestionInRange u
     → For u a
     → All (λ s. length s ≤ lengthLimit) (a .strs)
     → allWithin valueLimit (a .ints) ≡ true
-    → judgeAnswer u (encode a) ≡ Judged u a
+    → judgeAnswer u es (encode a) ≡ Judged u es a
 unfolding encode
-answer-back u a r f short values =
+answer-back u es a r f short values =
     let k =
     strings-back (encode a) u (a .ints) (r .characters) (f .integers) (omega (arith, f .integers, r .head .integers)) values (a .strs) 0 0 short
     (getD-all (Over (u .n)) (a .strs) [] (λ x h. f .over x)) refl in
-    judged u (encode a) a
+    judged u es (encode a) a
     (ap₂ (λ p q. answerForm (encode a) p q 0) (sym (f .strings)) (sym (f .integers)) ∙ k .form)
     (ap (λ p. outside (encode a) u p 0 0) (sym (f .strings)) ∙ k .inside)
     (ap₂ (λ p q. record { strs = texts (encode a) p 0; ints = integersAt (encode a) q (skip (encode a) p 0) }) (sym (f .strings)) (sym (f .integers))
@@ -221,21 +216,12 @@ answer-back u a r f short values =
 
 pub answers-judged : TH-3-all
 unfolding judging
-answers-judged b u a e f short values = read (question b) refl e
-  where
-    read : (g : Reading) → question b ≡ g → questionIn g ≡ some u → judgeBehind (question b) (encode a) ≡ Judged u a
-    read (Stopped c r) q e = absurd (none-some e)
-    read (Ended s at r) q e = headed (leb 1 (s .last)) refl e
-      where
-        headed : (x : Bool)
-            → leb 1 (s .last) ≡ x
-            → _≡_ {A = Option Question} (cond x (some (s .question)) none) (some u)
-            → judgeBehind (question b) (encode a) ≡ Judged u a
-        headed false h e = absurd (none-some e)
-        headed true h e =
-            let same : s .question ≡ u = some-injective e in
-            ap (λ g. judgeBehind g (encode a)) q
-            ∙ ap (λ x. elim x as (λ _. Judging) [ false ↦ Refused 4 r | true ↦ judgeAnswer (s .question) (encode a) ]) h
-            ∙ ap (λ v. judgeAnswer v (encode a)) same
-            ∙ answer-back u a (subst QuestionInRange same (asked-in-range b (question→form b q) (leb-true 1 (s .last) h))) f short
-            (→within valueLimit (a .ints) values)
+answers-judged b u es a e f short values =
+    let h = headed-by (λ s. (s .question, s .extended)) (judgedQuestion b) e in
+    let s : Progress = h .progress in
+    let same : s .question ≡ u = ap (λ x. x .0) (h .gives) in
+    ap (λ g. judgeBehind g (encode a)) (h .ends)
+    ∙ ap (byHead s (h .number) (encode a)) (h .has-head)
+    ∙ ap (λ x. judgeAnswer (x .0) (x .1) (encode a)) (h .gives)
+    ∙ answer-back u es a (subst QuestionInRange same (read-in-range judgingManner b (h .ends) (leb-true 1 (s .last) (h .has-head)))) f short
+    (→within valueLimit (a .ints) values)

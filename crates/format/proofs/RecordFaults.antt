@@ -14,9 +14,11 @@ use Rattle.calculus.specs.Facts.{arithmetic}
 use Rattle.calculus.specs.Strings.{given}
 use Rattle.format.specs.Fields.{u16, u32}
 use Rattle.format.specs.Records.{size, kind, next, whole, need}
-use Rattle.format.specs.Question.{stringKind, arithmeticKind, headRank, literalRank, Progress, Manner, headRange, headFault, textOf, literalFault}
-use Rattle.format.specs.Question.{stringRange, stringFact, stringFault, formRange, formOf, relationOf, arithmeticFault, constraintFault}
-use Rattle.format.specs.Question.{constraintOf, rankInPlace, inPlace, questionBodyFault, formFault, findsRoom, orCrowded, questionFault}
+use Rattle.format.specs.Question.{headKind, literalKind, stringKind, arithmeticKind, extendedKind, headRank, literalRank, stringRank, arithmeticRank}
+use Rattle.format.specs.Question.{extendedRank, rankOf, Progress, Manner, headRange, headFault, textOf, literalFault}
+use Rattle.format.specs.Question.{threeFault, extendedRange, extendedFault}
+use Rattle.format.specs.Question.{stringRange, stringFact, stringFault, formRange, formOf, relationOf, arithmeticFault, factFault}
+use Rattle.format.specs.Question.{bodyFact, rankInPlace, inPlace, questionBodyFault, formFault, findsRoom, orCrowded, questionFault}
 use Rattle.format.proofs.Faults.{none-applies}
 
 -- ---- a whole record, of a kind k and a size n
@@ -85,6 +87,34 @@ passed greatest b s at e =
     let a4 = none-applies 3 (inPlace greatest s (kind b at)) body (a3 .1) in
     record { all-there = leb-true _ _ (a3 .0); in-place = a4 .0; body-formed = a4 .1 }
 
+-- the rank of kind 11 is the greatest, and no other kind's
+pub rank-most : (k : ℕ) → rankOf k ≤ extendedRank
+unfolding rankOf
+rank-most k = go (eqb k headKind) (eqb k literalKind) (eqb k stringKind) (eqb k arithmeticKind) (eqb k extendedKind)
+  where
+    go : (v w x y z : Bool) → cond v headRank (cond w literalRank (cond x stringRank (cond y arithmeticRank (cond z extendedRank 0)))) ≤ extendedRank
+    go true w x y z = omega arith
+    go false true x y z = omega arith
+    go false false true y z = omega arith
+    go false false false true z = omega arith
+    go false false false false true = omega arith
+    go false false false false false = omega arith
+
+pub extended-kind : (k : ℕ) → rankOf k ≡ extendedRank → k ≡ extendedKind
+unfolding rankOf
+extended-kind k e = go (eqb k headKind) (eqb k literalKind) (eqb k stringKind) (eqb k arithmeticKind) (eqb k extendedKind) refl e
+  where
+    go : (v w x y z : Bool)
+        → eqb k extendedKind ≡ z
+        → cond v headRank (cond w literalRank (cond x stringRank (cond y arithmeticRank (cond z extendedRank 0)))) ≡ extendedRank
+        → k ≡ extendedKind
+    go true w x y z f e = absurd (omega arith)
+    go false true x y z f e = absurd (omega arith)
+    go false false true y z f e = absurd (omega arith)
+    go false false false true z f e = absurd (omega arith)
+    go false false false false true f e = eqb-true k extendedKind f
+    go false false false false false f e = absurd (omega arith)
+
 -- a rank in its place: the head is the first, and others stand behind it
 pub record Behind (greatest last literals r : ℕ) : Type 0 where
   pub head-read : headRank ≤ last
@@ -111,6 +141,18 @@ module _ (greatest last literals r : ℕ) (e : rankInPlace greatest last literal
         at-most = leb-true _ _ (a4 .0);
         few-literals = λ g. ltb-true literals literalLimit (rw (eq-eqb r literalRank g) at (a4 .1));
       }
+
+-- where kind 11 is not taken, what has no fault is of another rank
+pub rank-extended : rankOf extendedKind ≡ extendedRank
+unfolding rankOf
+rank-extended = refl
+
+pub not-extended : (greatest : ℕ) (b : List ℕ) (s : Progress) (at : ℕ) → greatest < extendedRank → formFault greatest b s at ≡ 0
+    → rankOf (kind b at) ≡ extendedRank → ⊥
+not-extended greatest b s at l f k =
+    let no-head : rankOf (kind b at) ≡ headRank → ⊥ = λ z. omega arith in
+    let place = passed greatest b s at f .in-place in
+    omega (arith, behind-head greatest (s .last) (length (s .question .literals)) (rankOf (kind b at)) place no-head .at-most)
 
 -- ---- a body without fault
 
@@ -158,6 +200,14 @@ literal-formed b n ls at m e =
       characters-over = none-applies _ _ _ (a5 .1) .0;
     }
 
+-- a body of three fields
+three-formed : (range : ℕ → ℕ → ℕ → Bool) (b : List ℕ) (at m : ℕ) → threeFault range b at m ≡ 0
+    → (m ≡ 6) × (range (u16 b at) (u16 b (at + 2)) (u16 b (at + 4)) ≡ true)
+three-formed range b at m e =
+    let t : Bool = range (u16 b at) (u16 b (at + 2)) (u16 b (at + 4)) in
+    let a5 = none-applies 4 (eqb m 6) (need 6 t 0) e in
+    (eqb-true _ _ (a5 .0), none-applies 5 t 0 (a5 .1) .0)
+
 -- a string constraint of m bytes: relation r and operands x and y, over p variables and k literals besides the empty one
 pub record StringConstraint (p k m r x y : ℕ) : Type 0 where
   pub six : m ≡ 6
@@ -171,16 +221,34 @@ string-constraint-formed b p k at m e =
     let r : ℕ = u16 b at in
     let x : ℕ = u16 b (at + 2) in
     let y : ℕ = u16 b (at + 4) in
-    let a5 = none-applies 4 (eqb m 6) (need 6 (stringRange p k r x y) 0) e in
-    let r1 = and-both (leb r 2) (ltb x p && cond (eqb r 2) (leb y k) (ltb y p)) (none-applies 5 (stringRange p k r x y) 0 (a5 .1) .0) in
+    let (size, range) = three-formed (stringRange p k) b at m e in
+    let r1 = and-both (leb r 2) (ltb x p && cond (eqb r 2) (leb y k) (ltb y p)) range in
     let r2 = and-both (ltb x p) (cond (eqb r 2) (leb y k) (ltb y p)) (r1 .1) in
     record {
-      six = eqb-true _ _ (a5 .0);
+      six = size;
       relation = leb-true _ _ (r1 .0);
       first = ltb-true _ _ (r2 .0);
       second = λ h. ltb-true y p (ap (λ (t : Bool). cond t (leb y k) (ltb y p)) (sym (ne-eqb r 2 h)) ∙ r2 .1);
       literal = λ h. leb-true y k (ap (λ (t : Bool). cond t (leb y k) (ltb y p)) (sym (eq-eqb r 2 h)) ∙ r2 .1);
     }
+
+-- an extended constraint of m bytes: function f and operands x and y, over p string and q integer variables
+pub record ExtendedConstraint (p q m f x y : ℕ) : Type 0 where
+  pub six : m ≡ 6
+  pub function : f ≤ 4
+  pub first : x < cond (eqb f 2) q p
+  pub second : y < cond (eqb f 3) q p
+
+pub extended-constraint-formed : (b : List ℕ) (p q at m : ℕ) → extendedFault b p q at m ≡ 0
+    → ExtendedConstraint p q m (u16 b at) (u16 b (at + 2)) (u16 b (at + 4))
+extended-constraint-formed b p q at m e =
+    let f : ℕ = u16 b at in
+    let x : ℕ = u16 b (at + 2) in
+    let y : ℕ = u16 b (at + 4) in
+    let (size, range) = three-formed (extendedRange p q) b at m e in
+    let r1 = and-both (leb f 4) (ltb x (cond (eqb f 2) q p) && ltb y (cond (eqb f 3) q p)) range in
+    let r2 = and-both (ltb x (cond (eqb f 2) q p)) (ltb y (cond (eqb f 3) q p)) (r1 .1) in
+    record { six = size; function = leb-true _ _ (r1 .0); first = ltb-true _ _ (r2 .0); second = ltb-true _ _ (r2 .1) }
 
 -- an arithmetic constraint of m bytes at a position, over c columns
 pub record ArithmeticConstraint (b : List ℕ) (c at m : ℕ) : Type 0 where
@@ -205,24 +273,24 @@ arithmetic-constraint-formed b c at m e =
       in-range = r1 .1;
     }
 
--- a constraint of kind k and what it says
-pub data Constraint (b : List ℕ) (p l c k at m : ℕ) : Type 0 where
+-- a body of kind k and the fact that it states
+pub data FactBody (b : List ℕ) (p l c k at m : ℕ) : Type 0 where
   on-strings : k ≡ stringKind
       → StringConstraint p l m (u16 b at) (u16 b (at + 2)) (u16 b (at + 4))
-      → constraintOf b k at m ≡ stringFact (u16 b at) (u16 b (at + 2)) (u16 b (at + 4))
-      → Constraint b p l c k at m
-  on-columns : k ≡ arithmeticKind → ArithmeticConstraint b c at m → constraintOf b k at m ≡ arithmetic (relationOf (u16 b at)) (formOf b (at + 2) (m / 6 - 1))
-      → Constraint b p l c k at m
+      → bodyFact b k at m ≡ stringFact (u16 b at) (u16 b (at + 2)) (u16 b (at + 4))
+      → FactBody b p l c k at m
+  on-columns : k ≡ arithmeticKind → ArithmeticConstraint b c at m → bodyFact b k at m ≡ arithmetic (relationOf (u16 b at)) (formOf b (at + 2) (m / 6 - 1))
+      → FactBody b p l c k at m
 
-pub constraint-formed : (b : List ℕ) (p l c k at m : ℕ) → constraintFault b p l c k at m ≡ 0 → Constraint b p l c k at m
-unfolding constraintFault
-constraint-formed b p l c k at m e = go (eqb k stringKind) (eqb k arithmeticKind) refl refl e
+pub fact-formed : (b : List ℕ) (p l c k at m : ℕ) → factFault b p l c k at m ≡ 0 → FactBody b p l c k at m
+unfolding factFault
+fact-formed b p l c k at m e = go (eqb k stringKind) (eqb k arithmeticKind) refl refl e
   where
     go : (x y : Bool)
         → eqb k stringKind ≡ x
         → eqb k arithmeticKind ≡ y
         → cond x (stringFault b p l at m) (cond y (arithmeticFault b c at m) 4) ≡ 0
-        → Constraint b p l c k at m
+        → FactBody b p l c k at m
     go true y ex ey f = on-strings (eqb-true _ _ ex) (string-constraint-formed b p l at m f) (rw ex)
     go false true ex ey f = on-columns (eqb-true _ _ ey) (arithmetic-constraint-formed b c at m f) (rw ex)
     go false false ex ey f = absurd (omega arith)

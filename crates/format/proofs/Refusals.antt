@@ -17,8 +17,8 @@ use Rattle.calculus.specs.Steps.{Step}
 use Rattle.calculus.specs.Walk.{Waiting, working, closed}
 use Rattle.format.specs.Fields.{u16, allWithin}
 use Rattle.format.specs.Records.{kind, size, next, whole, records, need}
-use Rattle.format.specs.Question.{stringKind, arithmeticKind, headRank, literalRank, rankOf, isConstraint, headRange, textOf, stringRange, formRange}
-use Rattle.format.specs.Question.{constraintFault, inPlace, Progress, unread, headRead, Manner, formFault, orCrowded, questionFault}
+use Rattle.format.specs.Question.{stringKind, arithmeticKind, headRank, literalRank, extendedRank, rankOf, isConstraint, headRange, textOf, stringRange, formRange}
+use Rattle.format.specs.Question.{factFault, extendedRange, inPlace, Progress, unread, constraintCount, headRead, Manner, formFault, orCrowded, questionFault}
 use Rattle.format.specs.Question.{questionAdvanced, Reading, Stopped, Ended, ending, readFrom, readBy, readIn}
 use Rattle.format.specs.StepForms.{rule, childField, lengthFits, operandsInRange, stepAt, childInRange}
 use Rattle.format.specs.Reading.{State, proving, taking, modelled, Method, stepFault, modelAt, bodyFault, fault, advanced}
@@ -75,8 +75,8 @@ module _ (P : ℕ → Type 0) (formal : (c : ℕ) → 2 ≤ c → c ≤ 7 → P 
 
   -- ---- the question
 
-  constraint-number : (p l c k at m : ℕ) → Holds P (constraintFault b p l c k at m)
-  unfolding constraintFault
+  constraint-number : (p l c k at m : ℕ) → Holds P (factFault b p l c k at m)
+  unfolding factFault
   constraint-number p l c k at m =
       either P (eqb k stringKind) (body (eqb m 6) (stringRange p l (u16 b at) (u16 b (at + 2)) (u16 b (at + 4))) (none P))
       (either P (eqb k arithmeticKind)
@@ -93,7 +93,9 @@ module _ (P : ℕ → Type 0) (formal : (c : ℕ) → 2 ≤ c → c ≤ 7 → P 
       (either P (eqb (rankOf (kind b at)) literalRank)
       (body (leb 4 m && (leb m (4 * lengthLimit) && eqb (m % 4) 0)) (allCharacters (u .n) (textOf b (at + 6) m))
       (form 7 (not (given (textOf b (at + 6) m) (u .literals))) refl (none P)))
-      (constraint-number (u .p) (length (u .literals)) (columnCount u) (kind b at) (at + 6) m))))
+      (either P (eqb (rankOf (kind b at)) extendedRank)
+      (body (eqb m 6) (extendedRange (u .p) (u .q) (u16 b (at + 6)) (u16 b (at + 6 + 2)) (u16 b (at + 6 + 4))) (none P))
+      (constraint-number (u .p) (length (u .literals)) (columnCount u) (kind b at) (at + 6) m)))))
 
   crowded-number : (limited room : Bool) (f : ℕ) → (limited ≡ true → P 10) → Holds P f → Holds P (orCrowded f (not limited || room))
   crowded-number true room zero ten p = unless P 10 room (ten refl) (none P)
@@ -104,7 +106,7 @@ module _ (P : ℕ → Type 0) (formal : (c : ℕ) → 2 ≤ c → c ≤ 7 → P 
     number : (s : Progress) (at : ℕ) → Holds P (questionFault m b s at)
     unfolding questionFault
     number s at =
-        crowded-number (m .limited) (not (isConstraint (rankOf (kind b at))) || ltb (length (s .question .constraints)) factLimit)
+        crowded-number (m .limited) (not (isConstraint (rankOf (kind b at))) || ltb (constraintCount s) factLimit)
         (formFault (m .greatest) b s at) ten (form-number (m .greatest) s at)
 
     from-number : (s : Progress) (r : ℕ) (ats : List ℕ) → InQuestion P (readFrom (questionFault m) b s r ats)

@@ -1,31 +1,39 @@
--- TH-L1: the part that judging shows lies within its side, and is the record concerned.
-use Prim.Native.Nat.{ℕ, suc, _+_, _≤_}
+-- TH-L1: the part that judging shows lies within its side, and is the record concerned. TH-L3-counted: every constraint is a record of its number.
+use Prim.Native.Nat.{ℕ, zero, suc, _+_, _<_, _≤_}
 use native.Mathlib.Omega.{arith}
 use mathlib.Core.Path.{_≡_, refl, sym, _∙_, ap, ap₂, subst}
-use mathlib.Core.Bool.{Bool, true, false, _&&_}
+use mathlib.Core.Bool.{Bool, true, false, cond, _&&_}
 use mathlib.Core.Option.{Option, none, some}
-use mathlib.Core.List.{List}
-use lib.ListN.{length, getElem?}
-use lib.Dec.{leb}
+use mathlib.Core.List.{List, map}
+use lib.ListN.{length, getElem?, length-append, length-map}
+use lib.Dec.{leb, eqb}
 use borrow.Author.Tests.{le-leb, leb-true, ne-eqb}
+use Rattle.lists.specs.Lists.{All}
+use Rattle.lists.proofs.Lists.{all-valuesAlong}
 use Rattle.calculus.specs.Facts.{Question}
-use Rattle.calculus.specs.Meaning.{Assignment, Meets}
-use Rattle.calculus.proofs.Searches.{FirstWithout}
-use Rattle.format.specs.Records.{next}
+use Rattle.calculus.specs.Meaning.{Assignment}
+use Rattle.calculus.specs.Extended.{Extended, Names, Constraint, basic, extended, constraintsOf, MeetsConstraint}
+use Rattle.lists.proofs.Searches.{FirstWithout}
+use Rattle.format.specs.Fields.{u16}
+use Rattle.format.specs.Records.{size, next, records}
+use Rattle.format.specs.Question.{extendedBy}
 use Rattle.format.specs.Question.{headRank, Progress, Reading, Stopped, Ended, judgingManner, judgedQuestion}
-use Rattle.format.specs.Places.{skip, literalsFrom, constraintsFrom, constraintAt, Numbers, readTo}
+use Rattle.format.specs.Places.{skip, extendedAt, constraintAt, extendedsAt, literalsFrom, constraintsFrom, extendedFrom, Numbers, readTo}
 use Rattle.format.specs.Standing.{StandsTo}
 use Rattle.format.specs.Answer.{answerForm, assignmentOf, outside}
-use Rattle.format.specs.Judging.{Judging, Refused, Judged, judgeAnswer, judgeBehind, judging, firstUnmet, saidOf}
+use Rattle.format.specs.Judging.{Judging, Refused, Judged, byForm, byHead, judgeBehind, judging, firstUnmet, saidOf}
 use Rattle.format.specs.Judging.{Side, ofQuestion, ofAnswer, recordShown, nothingShown, refusalShown, unmetShown, shownBy}
-use Rattle.format.specs.Demands.{ShowsRecord, Shows, TH-L1}
+use Rattle.format.specs.Demands.{ShowsRecord, Shows, TH-L1, TH-L3-counted}
 use Rattle.format.proofs.Faults.{clash}
 use Rattle.format.proofs.Records.{record-numbered}
 use Rattle.format.proofs.Places.{skip-add, length-texts, constraint-at}
 use Rattle.format.proofs.Refusals.{refusal-up-to}
-use Rattle.format.proofs.Standing.{question-stood}
+use Rattle.format.proofs.Standing.{question-stood, all-constraints, constraint-whole}
 use Rattle.format.proofs.Answers.{record-whole, outside-place}
 use Rattle.format.proofs.Judged.{first-unmet}
+use Rattle.format.proofs.Asked.{read-few}
+use Rattle.format.proofs.RecordFaults.{extended-constraint-formed}
+use Rattle.format.proofs.Extended.{judged-counted}
 
 -- ---- parts
 
@@ -45,7 +53,7 @@ module _ (b v : List ℕ) where
   shows-nothing : (c r : ℕ) → c ≤ 10 → Shows b v (Refused c r) (refusalShown v c r)
   shows-nothing c r h = subst (Shows b v (Refused c r)) (sym (nothing-up-to v c r h)) (record {
     lies-within = within 0 0 (length b) (omega arith) (omega arith);
-    unmet = λ u a k e g. clash cc;
+    unmet = λ u es a k e g. clash cc;
     out-of-range = λ i e. let z : c ≡ 16 = cc in absurd (omega arith);
     unformed = λ i e. let z : c ≡ 15 = cc in absurd (omega arith);
     refused = λ d i e x y. refl;
@@ -55,7 +63,7 @@ module _ (b v : List ℕ) where
   shows-answer : Shows b v (Refused 15 0) (refusalShown v 15 0)
   shows-answer = record {
     lies-within = within 0 (length v) (length v) (omega arith) (omega arith);
-    unmet = λ u a k e g. clash cc;
+    unmet = λ u es a k e g. clash cc;
     out-of-range = λ i e. let z : _≡_ {A = ℕ} 15 16 = cc in absurd (omega arith);
     unformed = λ i e. refl;
     refused = λ d i e x y. let z : d ≡ 15 = cc in absurd (x z);
@@ -65,7 +73,7 @@ module _ (b v : List ℕ) where
   shows-record : (r : ℕ) → next v (skip v r 0) ≤ length v → Shows b v (Refused 16 r) (refusalShown v 16 r)
   shows-record r w = record {
     lies-within = within (skip v r 0) (next v (skip v r 0)) (length v) (omega arith) w;
-    unmet = λ u a k e g. clash cc;
+    unmet = λ u es a k e g. clash cc;
     out-of-range = λ i e. let z : r ≡ i = cc in subst (λ i. ShowsRecord ofAnswer v i (refusalShown v 16 r)) z (record-of ofAnswer v r w);
     unformed = λ i e. let z : _≡_ {A = ℕ} 15 16 = cc in absurd (omega arith);
     refused = λ d i e x y. let z : d ≡ 16 = cc in absurd (y z);
@@ -75,25 +83,41 @@ module _ (b v : List ℕ) where
 -- ---- constraints
 
 -- constraint k of a question that stands is the record behind the head, the literals and the constraints before it
-module _ (b : List ℕ) (t : Numbers) (to : ℕ) (stands : StandsTo (judgingManner .greatest) b t to) (head : headRank ≤ t .last) where
+module _ (b : List ℕ) (t : Numbers) (to : ℕ) (stands : StandsTo b t to) (head : headRank ≤ t .last) where
   abbrev asked : Question
   asked = readTo b t .question
+
+  abbrev also : List Extended
+  also = readTo b t .extended
 
   abbrev literals : ℕ
   literals = length (asked .literals)
 
+  -- its position, by its number and by the record's
   numbered : (k : ℕ) → skip b k (constraintsFrom b literals) ≡ skip b (1 + literals + k) 0
   unfolding skip
   numbered k =
       let one : suc literals ≡ 1 + literals = omega arith in
       ap (λ z. skip b k (skip b literals z)) (sym (stands .head-ends head)) ∙ ap (λ m. skip b k (skip b m 0)) one ∙ sym (skip-add b (1 + literals) k 0)
 
+  -- it is whole, and is read there
+  constraint-there : (k : ℕ) {c : Constraint} → getElem? (constraintsOf asked also) k ≡ some c
+      → (next b (skip b k (constraintsFrom b literals)) ≤ length b) × (c ≡ constraintAt b (skip b k (constraintsFrom b literals)))
+  constraint-there k {c} at =
+      let count : ℕ = t .constraints + t .extended in
+      let (few, reads) =
+      constraint-at b k count (constraintsFrom b (t .literals))
+      (subst (λ cs. getElem? cs k ≡ some c) (all-constraints b t to stands) at) in
+      let here : skip b k (constraintsFrom b (t .literals)) ≡ skip b k (constraintsFrom b literals) =
+      ap (λ l. skip b k (constraintsFrom b l)) (sym (length-texts b (t .literals) literalsFrom)) in
+      (subst (λ z. next b z ≤ length b) here (constraint-whole b t to stands head k few), sym reads ∙ ap (constraintAt b) here)
+
   module _ (v : List ℕ) (a : Assignment) where
-    shows-judged : (o : Option ℕ) → firstUnmet asked a ≡ o → FirstWithout (Meets asked a) (asked .constraints) o
-        → Shows b v (Judged asked a) (unmetShown b asked o)
+    shows-judged : (o : Option ℕ) → firstUnmet asked also a ≡ o → FirstWithout (MeetsConstraint asked a) (constraintsOf asked also) o
+        → Shows b v (Judged asked also a) (unmetShown b asked o)
     shows-judged none e h = record {
       lies-within = within 0 0 (length b) (omega arith) (omega arith);
-      unmet = λ u a' k p g. clash cc;
+      unmet = λ u es a' k p g. clash cc;
       out-of-range = λ i p. clash cc;
       unformed = λ i p. clash cc;
       refused = λ d i p x y. refl;
@@ -101,21 +125,20 @@ module _ (b : List ℕ) (t : Numbers) (to : ℕ) (stands : StandsTo (judgingMann
     }
     shows-judged (some k) e (f, at, not-met, before) =
         let from : ℕ = skip b k (constraintsFrom b literals) in
-        let (few, reads) = constraint-at b k (t .constraints) (constraintsFrom b (t .literals)) at in
-        let here : from ≡ skip b k (constraintsFrom b (t .literals)) = ap (λ l. skip b k (constraintsFrom b l)) (length-texts b (t .literals) literalsFrom) in
-        let whole : next b from ≤ length b = subst (λ z. next b z ≤ length b) (sym here) (stands .constraints-stand k few .whole) in
+        let (whole, reads) = constraint-there k at in
         let r : ℕ = 1 + literals + k in
         let whole-there : next b (skip b r 0) ≤ length b = subst (λ z. next b z ≤ length b) (numbered k) whole in
         record {
           lies-within = within from (next b from) (length b) (omega arith) whole;
-          unmet = λ u a' i p g.
+          unmet = λ u es a' i p g.
               let same : asked ≡ u = cc in
+              let same-also : also ≡ es = cc in
               let named : saidOf (some k) ≡ saidOf (some i) = ap saidOf (sym e) ∙ g in
               let m : k ≡ i = cc in (
                 subst (λ z. ShowsRecord ofQuestion b z (recordShown ofQuestion b from)) (ap₂ (λ (w : Question) z. 1 + length (w .literals) + z) same m)
                     (subst (λ z. ShowsRecord ofQuestion b r (recordShown ofQuestion b z)) (sym (numbered k)) (record-of ofQuestion b r whole-there)),
-                subst (λ (w : Question). getElem? (w .constraints) i ≡ some (constraintAt b from)) same
-                    (subst (λ z. getElem? (asked .constraints) z ≡ some (constraintAt b from)) m (at ∙ ap some (sym reads ∙ ap (constraintAt b) (sym here)))),
+                subst (λ cs. getElem? cs i ≡ some (constraintAt b from)) (ap₂ constraintsOf same same-also)
+                    (subst (λ z. getElem? (constraintsOf asked also) z ≡ some (constraintAt b from)) m (at ∙ ap some reads)),
               );
           out-of-range = λ i p. clash cc;
           unformed = λ i p. clash cc;
@@ -129,10 +152,10 @@ pub record-concerned : TH-L1
 unfolding judging
 record-concerned b v = behind (judgedQuestion b) refl
   where
-    answered : (t : Numbers) (to : ℕ) → StandsTo (judgingManner .greatest) b t to → headRank ≤ t .last →
+    answered : (t : Numbers) (to : ℕ) → StandsTo b t to → headRank ≤ t .last →
         let u : Question = readTo b t .question in
         (x : Bool) (o : Option ℕ) → answerForm v (u .p) (u .q) 0 ≡ x → outside v u (u .p) 0 0 ≡ o →
-        let j : Judging = elim x as (λ _. Judging) [ false ↦ Refused 15 0 | true ↦ elim o as (λ _. Judging) [ some r ↦ Refused 16 r | none ↦ Judged u (assignmentOf v u) ] ] in
+        let j : Judging = byForm u (readTo b t .extended) v x o in
         Shows b v j (shownBy b v j)
     answered t to stands head false o formed out = shows-answer b v
     answered t to stands head true (some r) formed out =
@@ -141,10 +164,11 @@ record-concerned b v = behind (judgedQuestion b) refl
     answered t to stands head true none formed out =
         let u : Question = readTo b t .question in
         let a : Assignment = assignmentOf v u in
-        shows-judged b t to stands head v a (firstUnmet u a) refl (first-unmet u a)
+        let es : List Extended = readTo b t .extended in
+        shows-judged b t to stands head v a (firstUnmet u es a) refl (first-unmet u es a)
 
-    headed : (t : Numbers) (to r : ℕ) → StandsTo (judgingManner .greatest) b t to → (x : Bool) → leb headRank (t .last) ≡ x →
-        let j : Judging = elim x as (λ _. Judging) [ false ↦ Refused 4 r | true ↦ judgeAnswer (readTo b t .question) v ] in
+    headed : (t : Numbers) (to r : ℕ) → StandsTo b t to → (x : Bool) → leb headRank (t .last) ≡ x →
+        let j : Judging = byHead (readTo b t) r v x in
         Shows b v j (shownBy b v j)
     headed t to r stands false e = shows-nothing b v 4 r (omega arith)
     headed t to r stands true e =
@@ -157,3 +181,65 @@ record-concerned b v = behind (judgedQuestion b) refl
         let (t, known, ends) = question-stood judgingManner b s at r e in
         subst (λ (s : Progress). Shows b v (judgeBehind (Ended s at r) v) (shownBy b v (judgeBehind (Ended s at r) v))) (sym known)
         (headed t at r (ends .0) (leb headRank (t .last)) refl)
+
+-- ---- every constraint is a record, and names variables of the question
+
+names-by : (u : Question) (g x y : ℕ) → g ≤ 4 → x < cond (eqb g 2) (u .q) (u .p) → y < cond (eqb g 3) (u .q) (u .p) → Names u (extendedBy g x y)
+names-by u zero x y h i j = (i, j)
+names-by u (suc zero) x y h i j = (i, j)
+names-by u (suc (suc zero)) x y h i j = (i, j)
+names-by u (suc (suc (suc zero))) x y h i j = (i, j)
+names-by u (suc (suc (suc (suc zero)))) x y h i j = (i, j)
+names-by u (suc (suc (suc (suc (suc g))))) x y h i j = absurd (omega arith)
+
+all-named : (b : List ℕ) (t : Numbers) (to : ℕ) → StandsTo b t to → All (Names (readTo b t .question)) (readTo b t .extended)
+unfolding extendedsAt skip
+all-named b t to stands = all-valuesAlong (next b) (extendedAt b) (Names u) (extendedFrom b (t .literals) (t .constraints)) (t .extended) names
+  where
+    u : Question
+    u = readTo b t .question
+
+    names : (j : ℕ) → j < t .extended → Names u (extendedAt b (skip b j (extendedFrom b (t .literals) (t .constraints))))
+    names j l =
+        let at : ℕ = skip b j (extendedFrom b (t .literals) (t .constraints)) in
+        let f = extended-constraint-formed b (t .p) (t .q) (at + 6) (size b at) (stands .extended-stand j l .formed) in
+        names-by u (u16 b (at + 6)) (u16 b (at + 6 + 2)) (u16 b (at + 6 + 4)) (f .function) (f .first) (f .second)
+
+pub constraints-counted : TH-L3-counted
+constraints-counted b s at r e headed =
+    let head : headRank ≤ s .last = leb-true headRank (s .last) headed in
+    let (t, known, ends) = question-stood judgingManner b s at r e in
+    let facts : List Constraint = map basic (s .question .constraints) in
+    record {
+      all-counted = omega (
+        arith,
+        judged-counted b e .behind-head head,
+        length-append facts (map extended (s .extended)),
+        length-map (s .question .constraints) basic,
+        length-map (s .extended) extended,
+      );
+      few = omega (
+        arith,
+        read-few judgingManner refl b e,
+        length-append facts (map extended (s .extended)),
+        length-map (s .question .constraints) basic,
+        length-map (s .extended) extended,
+      );
+      named = subst (λ (p : Progress). All (Names (p .question)) (p .extended)) (sym known) (all-named b t at (ends .0));
+      each-read =
+          subst (λ (p : Progress). (k : ℕ) (c : Constraint) → getElem? (constraintsOf (p .question) (p .extended)) k ≡ some c → There (p .question) k c) (sym known)
+          (each t (ends .0) (subst (λ (p : Progress). headRank ≤ p .last) known head));
+    }
+  where
+    There : Question → ℕ → Constraint → Type 0
+    There u k c = (i : ℕ) × (getElem? (records b 0) (1 + length (u .literals) + k) ≡ some i) × (next b i ≤ length b) × (c ≡ constraintAt b i)
+
+    each : (t : Numbers) → StandsTo b t at → headRank ≤ t .last → (k : ℕ) (c : Constraint)
+        → getElem? (constraintsOf (readTo b t .question) (readTo b t .extended)) k ≡ some c
+        → There (readTo b t .question) k c
+    each t stands head k c there =
+        let u : Question = readTo b t .question in
+        let (whole, reads) = constraint-there b t at stands head k there in
+        let here = numbered b t at stands head k in
+        let whole-there : next b (skip b (1 + length (u .literals) + k) 0) ≤ length b = subst (λ z. next b z ≤ length b) here whole in
+        (skip b (1 + length (u .literals) + k) 0, record-numbered b (1 + length (u .literals) + k) 0 (omega arith), whole-there, reads ∙ ap (constraintAt b) here)

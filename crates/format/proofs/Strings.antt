@@ -31,6 +31,7 @@ use Rattle.format.proofs.Tickets.{childFits, Holding, steps-in-range, R
 use Rattle.format.proofs.Checker.{proved→walked, taken→reached, followed→taken}
 use Rattle.format.proofs.Leaves.{unfaulted→accepted, accepted→unfaulted, accepted-answers, short-strings}
 use Rattle.format.proofs.Encoded.{encode-short}
+use Rattle.format.proofs.Extended.{plain-judged}
 use Rattle.format.proofs.ReadBack.{answers-judged}
 use Rattle.format.proofs.Limits.{within→}
 
@@ -122,7 +123,7 @@ strings-hold work answer t out e =
         bytes = k .bytes;
         read-back =
             ap (judging t) (k .bytes)
-            ∙ answers-judged t u given (claimed-asked (form→claimed (k .few) (k .held .claimed))) (a .for-question) short
+            ∙ answers-judged t u [] given (plain-judged t (claimed-asked (form→claimed (k .few) (k .held .claimed)))) (a .for-question) short
             (within→ valueLimit (given .ints) (integers-within (k .held)));
         room =
             subst (λ o. length o ≤ answerBytes) (sym (k .bytes)) (encode-short given (omega (arith, a .for-question .strings, q .head .strings)) short

@@ -1,4 +1,4 @@
--- The starred cases on file, as entries of one table.
+-- The starred cases on file, as entries of one table, and the functions of extended constraints, each met and not met.
 use Prim.Native.Nat.{ℕ}
 use mathlib.Core.Path.{_≡_}
 use mathlib.Core.Option.{some}
@@ -12,6 +12,7 @@ use Rattle.calculus.specs.Rules.{children}
 use Rattle.format.specs.Fields.{bytesOf, unsigned}
 use Rattle.format.specs.Answer.{recordBytes, characterBytes, integerBytes, encode}
 use Rattle.format.specs.Checking.{Outcome, Refused, NoSolution, Strings, verdict}
+use Rattle.format.specs.Judging.{judging, Judgement, Refusal, AllMet, Unmet, said}
 
 -- ---- records as bytes
 
@@ -34,6 +35,10 @@ stringRecord r x y = recordBytes 3 (shortBytes (r ∷ x ∷ y ∷ []))
 -- an arithmetic constraint: relation, constant, pairs
 abbrev pub arithmeticRecord : ℕ → ℤ → List (ℕ × ℤ) → List ℕ
 arithmeticRecord r c ts = recordBytes 4 (shortBytes (r ∷ []) ++ (bytesOf 4 (unsigned c) ++ pairBytes ts))
+
+-- an extended constraint: function, a, b
+abbrev pub extendedRecord : ℕ → ℕ → ℕ → List ℕ
+extendedRecord f x y = recordBytes 11 (shortBytes (f ∷ x ∷ y ∷ []))
 
 abbrev pub claimRecord : ℕ → List ℕ
 claimRecord k = recordBytes 5 (shortBytes (k ∷ []))
@@ -60,14 +65,17 @@ stringsGiven ss zs = Strings (encode (record { strs = ss; ints = zs }))
 
 -- ---- the table
 
--- checking: a ticket's records and the outcome. adding: a step on a branch and the one fact that it adds.
+-- checking: a ticket's records and the outcome. adding: a step on a branch and the one fact that it adds. judged: a question's records, an answer's strings
+-- and integers, and what judging says.
 pub data Case : Type 0 where
   checking : List (List ℕ) → Outcome → Case
   adding : Question → Branch → Step → Fact → Case
+  judged : List (List ℕ) → List (List ℕ) → List ℤ → Judgement → Case
 
 abbrev pub CaseHolds : Case → Type 0
 CaseHolds (checking rs o) = verdict workNumbers answerBytes (ticket rs) ≡ o
 CaseHolds (adding u b st f) = children u b st ≡ some ((f ∷ []) ∷ [])
+CaseHolds (judged rs ss zs j) = said (judging (ticket rs) (encode (record { strs = ss; ints = zs }))) ≡ j
 
 -- one integer variable a, in column 0
 abbrev pub oneInteger : Question
@@ -134,4 +142,54 @@ starred =
     -- 2a−1 ≥ 0 over divisor 2 is a−1 ≥ 0
     ∷ adding oneInteger (arithmetic ge (minus (scale (pos 2) (column 0)) (number (pos 1))) ∷ []) (Sum 2 ((0, pos 1) ∷ []))
     (arithmetic ge (minus (column 0) (number (pos 1))))
+    ∷ []
+
+-- ---- extended constraints (02, L3)
+
+-- a question of extended constraints alone over five strings and two integers, then its end
+abbrev pub extendedQuestion : List (List ℕ) → List (List ℕ)
+extendedQuestion cs = (headRecord 128 5 2 ∷ cs) ++ (endRecord ∷ [])
+
+-- behind a constraint that is met: s is t in upper case, w is s in lower case, a is x read in decimal, y is c in decimal, x is equal to or before y; over the
+-- strings s, t, w, x, y and the integers a, c
+abbrev pub allFunctions : List (List ℕ)
+allFunctions =
+    extendedQuestion (arithmeticRecord 0 (pos 0) [] ∷ extendedRecord 0 0 1 ∷ extendedRecord 1 2 0 ∷ extendedRecord 2 0 3 ∷ extendedRecord 3 4 1 ∷ extendedRecord 4 3 4 ∷ [])
+
+-- letters at both ends of the alphabet, and the characters beside them
+abbrev pub capitals : List ℕ
+capitals = 65 ∷ 90 ∷ 64 ∷ 91 ∷ 96 ∷ 123 ∷ []
+
+abbrev pub smallLetters : List ℕ
+smallLetters = 97 ∷ 122 ∷ 64 ∷ 91 ∷ 96 ∷ 123 ∷ []
+
+-- "105" stands before "30"
+abbrev pub extendedCases : List Case
+extendedCases =
+    judged allFunctions (capitals ∷ smallLetters ∷ smallLetters ∷ (49 ∷ 48 ∷ 53 ∷ []) ∷ (51 ∷ 48 ∷ []) ∷ []) (pos 105 ∷ pos 30 ∷ []) AllMet
+    -- small letters are not upper case
+    ∷ judged allFunctions (smallLetters ∷ smallLetters ∷ smallLetters ∷ (49 ∷ 48 ∷ 53 ∷ []) ∷ (51 ∷ 48 ∷ []) ∷ []) (pos 105 ∷ pos 30 ∷ []) (Unmet 1)
+    -- capitals are not lower case
+    ∷ judged allFunctions (capitals ∷ smallLetters ∷ capitals ∷ (49 ∷ 48 ∷ 53 ∷ []) ∷ (51 ∷ 48 ∷ []) ∷ []) (pos 105 ∷ pos 30 ∷ []) (Unmet 2)
+    -- "0105" is not numeric
+    ∷ judged allFunctions (capitals ∷ smallLetters ∷ smallLetters ∷ (48 ∷ 49 ∷ 48 ∷ 53 ∷ []) ∷ (51 ∷ 48 ∷ []) ∷ []) (pos 105 ∷ pos 30 ∷ []) (Unmet 3)
+    -- it is −1
+    ∷ judged allFunctions (capitals ∷ smallLetters ∷ smallLetters ∷ (48 ∷ 49 ∷ 48 ∷ 53 ∷ []) ∷ (51 ∷ 48 ∷ []) ∷ []) (negsuc 0 ∷ pos 30 ∷ []) AllMet
+    -- −30 is written empty
+    ∷ judged allFunctions (capitals ∷ smallLetters ∷ smallLetters ∷ (49 ∷ 48 ∷ 53 ∷ []) ∷ (51 ∷ 48 ∷ []) ∷ []) (pos 105 ∷ negsuc 29 ∷ []) (Unmet 4)
+    -- and "105" does not stand before the empty string
+    ∷ judged allFunctions (capitals ∷ smallLetters ∷ smallLetters ∷ (49 ∷ 48 ∷ 53 ∷ []) ∷ [] ∷ []) (pos 105 ∷ negsuc 29 ∷ []) (Unmet 5)
+    -- equal strings are in order, and a proper prefix comes first; without kind 4, and behind kind 3
+    ∷ judged (extendedQuestion (extendedRecord 4 1 2 ∷ extendedRecord 4 4 3 ∷ extendedRecord 4 3 4 ∷ []))
+    (capitals ∷ smallLetters ∷ smallLetters ∷ (49 ∷ 48 ∷ 53 ∷ []) ∷ (49 ∷ 48 ∷ []) ∷ []) (pos 0 ∷ pos 0 ∷ []) (Unmet 2)
+    ∷ judged (extendedQuestion (stringRecord 0 1 2 ∷ extendedRecord 0 1 2 ∷ [])) (capitals ∷ smallLetters ∷ smallLetters ∷ [] ∷ [] ∷ []) (pos 0 ∷ pos 0 ∷ [])
+    (Unmet 1)
+    -- integer a is not one of two, string a not one of five, integer b not one of two; no function 5; no other length
+    ∷ judged (extendedQuestion (extendedRecord 2 2 0 ∷ [])) [] [] (Refusal 6 1)
+    ∷ judged (extendedQuestion (extendedRecord 3 5 0 ∷ [])) [] [] (Refusal 6 1)
+    ∷ judged (extendedQuestion (extendedRecord 3 0 2 ∷ [])) [] [] (Refusal 6 1)
+    ∷ judged (extendedQuestion (extendedRecord 5 0 0 ∷ [])) [] [] (Refusal 6 1)
+    ∷ judged (extendedQuestion (recordBytes 11 (shortBytes (0 ∷ 0 ∷ [])) ∷ [])) [] [] (Refusal 5 1)
+    -- a constraint of kind 4 does not stand behind
+    ∷ judged (extendedQuestion (extendedRecord 0 0 0 ∷ arithmeticRecord 0 (pos 0) [] ∷ [])) [] [] (Refusal 4 2)
     ∷ []

@@ -1,6 +1,6 @@
 -- The demands as statements about bytes. TH-1, `Checked`, is what checking promises of its result and the lent buffers; TH-2 to TH-6 and those of the
 -- change requests (02), TH-L1 and on, are theorems about the definitions, for every byte list.
-use Prim.Native.Nat.{ℕ, _+_, _<_, _≤_}
+use Prim.Native.Nat.{ℕ, _+_, _*_, _<_, _≤_}
 use mathlib.Core.Path.{_≡_}
 use mathlib.Core.Bool.{true, cond}
 use mathlib.Core.Logic.{_≢_, _⊎_}
@@ -8,18 +8,20 @@ use mathlib.Core.Option.{some}
 use mathlib.Core.List.{List, [], _∷_, _++_}
 use lib.ListN.{length, take, drop, replicate, getElem?}
 use lib.Dec.{eqb}
-use lib.IntN.{ℤ, pos}
+use lib.IntN.{ℤ, pos, negsuc}
 use Rattle.lists.specs.Lists.{All}
-use Rattle.calculus.specs.Limits.{Small, lengthLimit, valueLimit, answerBytes, factLimit, pendingLimit}
+use Rattle.calculus.specs.Limits.{Small, ticketBytes, lengthLimit, valueLimit, answerBytes, factLimit, pendingLimit}
 use Rattle.calculus.specs.Facts.{Question, Fact, Branch}
 use Rattle.calculus.specs.Steps.{Step}
 use Rattle.calculus.specs.Walk.{Waiting, working, closed}
 use Rattle.calculus.specs.Chains.{OneClass}
 use Rattle.calculus.specs.Derivations.{Closes, WithinLimits, Path, PathWithinLimits}
 use Rattle.calculus.specs.Saturation.{AcceptedLeaf}
-use Rattle.calculus.specs.Meaning.{Assignment, str, For, Meets, Met}
-use Rattle.format.specs.Question.{judgedQuestion, questionIn, questionOf}
-use Rattle.format.specs.Records.{next, records}
+use Rattle.calculus.specs.Meaning.{Assignment, str, For, Met}
+use Rattle.calculus.specs.Extended.{upper, lower, toInt, fromInt, Extended, Names, Constraint, constraintsOf, MeetsConstraint}
+use Rattle.format.specs.Question.{extendedKind, Progress, Stopped, Ended, question, judgedQuestion, questionForm, headRead, judgedIn}
+use Rattle.format.specs.Question.{questionOf}
+use Rattle.format.specs.Records.{kind, next, records}
 use Rattle.format.specs.Places.{constraintAt}
 use Rattle.format.specs.Answer.{encode, assignmentOf}
 use Rattle.format.specs.Checking.{Outcome, Refused, NoSolution, Strings, largeEnough, checker, verdict}
@@ -68,23 +70,29 @@ TH-2-asks = (work answer : ℕ) (t : List ℕ) → verdict work answer t ≡ NoS
 
 -- ---- TH-3, demand 2: judging says what the theory says
 
+-- an assignment meets all of some constraints, of the question and extended
+abbrev pub MetAll : Question → Assignment → List Constraint → Type 0
+MetAll u a cs = All (MeetsConstraint u a) cs
+
 -- the values judged are an assignment of the question; all met is said exactly when it meets every constraint, and a constraint is named exactly when it is
 -- the first that it does not meet
-pub record Judges (b v : List ℕ) (j : Judgement) (u : Question) (a : Assignment) : Type 0 where
-  pub asked : questionOf b ≡ some u
+pub record Judges (b v : List ℕ) (j : Judgement) (u : Question) (es : List Extended) (a : Assignment) : Type 0 where
+  pub asked : judgedIn (judgedQuestion b) ≡ some (u, es)
+  -- without extended constraints it is the question that the bytes put
+  pub put : es ≡ [] → questionOf b ≡ some u
   pub values : a ≡ assignmentOf v u
   pub for-question : For u a
-  pub all-met : Iff (j ≡ AllMet) (Met u a (u .constraints))
+  pub all-met : Iff (j ≡ AllMet) (MetAll u a (constraintsOf u es))
   pub unmet : (k : ℕ) → Iff (j ≡ Unmet k)
-      ((f : Fact) × (getElem? (u .constraints) k ≡ some f) × (Meets u a f → ⊥) × Met u a (take k (u .constraints)))
+      ((c : Constraint) × (getElem? (constraintsOf u es) k ≡ some c) × (MeetsConstraint u a c → ⊥) × MetAll u a (take k (constraintsOf u es)))
 
 abbrev pub TH-3 : Type 0
-TH-3 = (b v : List ℕ) (u : Question) (a : Assignment) → judging b v ≡ Judged u a → Judges b v (said (judging b v)) u a
+TH-3 = (b v : List ℕ) (u : Question) (es : List Extended) (a : Assignment) → judging b v ≡ Judged u es a → Judges b v (said (judging b v)) u es a
 
 -- and it judges every assignment that an answer can hold: no 15 or 16 for the bytes of one with strings of at most 64 characters and integers in range
 abbrev pub TH-3-all : Type 0
-TH-3-all = (b : List ℕ) (u : Question) (a : Assignment) → questionIn (judgedQuestion b) ≡ some u → For u a → All (λ s. length s ≤ lengthLimit) (a .strs)
-    → All (Small valueLimit) (a .ints) → judging b (encode a) ≡ Judged u a
+TH-3-all = (b : List ℕ) (u : Question) (es : List Extended) (a : Assignment) → judgedIn (judgedQuestion b) ≡ some (u, es) → For u a
+    → All (λ s. length s ≤ lengthLimit) (a .strs) → All (Small valueLimit) (a .ints) → judging b (encode a) ≡ Judged u es a
 
 -- ---- TH-L1: judging shows the record concerned
 
@@ -99,8 +107,8 @@ pub record ShowsRecord (side : Side) (bytes : List ℕ) (r : ℕ) (s : Shown) : 
 -- every other outcome the empty part at the question's first byte
 pub record Shows (b v : List ℕ) (g : Judging) (s : Shown) : Type 0 where
   pub lies-within : partWithin (length b) (length v) s ≡ true
-  pub unmet : (u : Question) (a : Assignment) (k : ℕ) → g ≡ Judged u a → said g ≡ Unmet k
-      → ShowsRecord ofQuestion b (1 + length (u .literals) + k) s × (getElem? (u .constraints) k ≡ some (constraintAt b (s .from)))
+  pub unmet : (u : Question) (es : List Extended) (a : Assignment) (k : ℕ) → g ≡ Judged u es a → said g ≡ Unmet k
+      → ShowsRecord ofQuestion b (1 + length (u .literals) + k) s × (getElem? (constraintsOf u es) k ≡ some (constraintAt b (s .from)))
   pub out-of-range : (r : ℕ) → said g ≡ Refusal 16 r → ShowsRecord ofAnswer v r s
   pub unformed : (r : ℕ) → said g ≡ Refusal 15 r → s ≡ record { side = ofAnswer; from = 0; to = length v }
   pub refused : (c r : ℕ) → said g ≡ Refusal c r → c ≢ 15 → c ≢ 16 → s ≡ record { side = ofQuestion; from = 0; to = 0 }
@@ -164,6 +172,67 @@ TH-L2-limits = (work answer claim : ℕ) (t : List ℕ) (r : Report) → Accepte
 abbrev pub TH-L2-numbers : Type 0
 TH-L2-numbers = (t : List ℕ) (c r : ℕ) → needed t ≡ needs.Refused c r → ((2 ≤ c) × (c ≤ 7)) ⊎ (c ≡ 11)
 
+-- ---- TH-L3: extended constraints are judged, and are judging's alone
+
+-- "counted as constraints": where judging's reading ended behind a head, every record between the literals and that place is a constraint, by its number, and
+-- there are at most 128
+pub record Counts (b : List ℕ) (u : Question) (es : List Extended) (r : ℕ) : Type 0 where
+  pub all-counted : r ≡ 1 + length (u .literals) + length (constraintsOf u es)
+  pub each-read : (k : ℕ) (c : Constraint) → getElem? (constraintsOf u es) k ≡ some c
+      → (at : ℕ) × (getElem? (records b 0) (1 + length (u .literals) + k) ≡ some at) × (next b at ≤ length b) × (c ≡ constraintAt b at)
+  pub few : length (constraintsOf u es) ≤ factLimit
+  pub named : All (Names u) es
+
+abbrev pub TH-L3-counted : Type 0
+TH-L3-counted = (b : List ℕ) (s : Progress) (at r : ℕ) → judgedQuestion b ≡ Ended s at r → headRead s ≡ true → Counts b (s .question) (s .extended) r
+
+-- record r is a whole one of kind 11
+abbrev pub WholeExtended : List ℕ → ℕ → Type 0
+WholeExtended b r = (at : ℕ) × (getElem? (records b 0) r ≡ some at) × (kind b at ≡ extendedKind) × (next b at ≤ length b)
+
+-- a question without them is read alike by judging and by checking, its refusals included; "Checking and the operation of L2 still refuse kind 11 with 4"
+pub record ReadsAlike (b : List ℕ) : Type 0 where
+  pub taken : (s : Progress) (at r : ℕ) → Iff (question b ≡ Ended s at r) ((judgedQuestion b ≡ Ended s at r) × (s .extended ≡ []))
+  pub refused : (c r : ℕ) → question b ≡ Stopped c r → (judgedQuestion b ≡ Stopped c r) ⊎ ((c ≡ 4) × WholeExtended b r)
+  pub four : (c r : ℕ) → (question b ≡ Stopped c r) ⊎ (questionForm b ≡ Stopped c r) → length b ≤ ticketBytes → WholeExtended b r → c ≡ 4
+
+abbrev pub TH-L3 : Type 0
+TH-L3 = (b : List ℕ) → ReadsAlike b
+
+-- a ticket whose question judging takes, with extended constraints, is refused at the first of them, behind the head, the literals and the other constraints
+abbrev pub TH-L3-refused : Type 0
+TH-L3-refused = (work answer : ℕ) (t : List ℕ) (u : Question) (e : Extended) (es : List Extended) → largeEnough work answer ≡ true
+    → judgedIn (judgedQuestion t) ≡ some (u, e ∷ es)
+    → let r : ℕ = 1 + length (u .literals) + length (u .constraints) in
+    (verdict work answer t ≡ Refused 4 r) × (needed t ≡ needs.Refused 4 r)
+
+-- and no record of kind 11 stands anywhere in a ticket that is accepted, or whose need is reported
+abbrev pub TH-L3-absent : Type 0
+TH-L3-absent = (t : List ℕ) (r : ℕ) → WholeExtended t r
+    → ((work answer claim : ℕ) → AcceptedAs claim (verdict work answer t) → ⊥) × ((n : Report) → needed t ≡ Needs n → ⊥)
+
+-- case, character by character: "97 to 122 become 65 to 90" and all others stay, and the other way for lower case
+pub record Turns (f : List ℕ → List ℕ) (first to : ℕ) : Type 0 where
+  pub letter : (d : ℕ) → d < 26 → f ((first + d) ∷ []) ≡ (to + d) ∷ []
+  pub other : (c : ℕ) → (c < first) ⊎ (first + 25 < c) → f (c ∷ []) ≡ c ∷ []
+  pub each : (s t : List ℕ) → f (s ++ t) ≡ f s ++ f t
+  pub empty : f [] ≡ []
+
+abbrev pub TH-L3-case : Type 0
+TH-L3-case = Turns upper 97 65 × Turns lower 65 97
+
+-- "in decimal": a number below 10 is its digit, and every other one has a last digit behind the rest; "empty for negatives". A string is read as the number
+-- that it is the decimal of, "−1 if .. not numeric".
+pub record Decimals : Type 0 where
+  pub one-digit : (d : ℕ) → d < 10 → fromInt (pos d) ≡ (48 + d) ∷ []
+  pub last-digit : (v d : ℕ) → 1 ≤ v → d < 10 → fromInt (pos (10 * v + d)) ≡ fromInt (pos v) ++ ((48 + d) ∷ [])
+  pub negative : (k : ℕ) → fromInt (negsuc k) ≡ []
+  pub read : (s : List ℕ) (k : ℕ) → Iff (toInt s ≡ pos k) (s ≡ fromInt (pos k))
+  pub not-numeric : (s : List ℕ) → ((k : ℕ) → s ≢ fromInt (pos k)) → toInt s ≡ negsuc 0
+
+abbrev pub TH-L3-decimals : Type 0
+TH-L3-decimals = Decimals
+
 -- ---- TH-4, demand 3: whatever the bytes, where checking says "no solution", no assignment meets all constraints
 
 abbrev pub NoAssignment : Question → Type 0
@@ -181,7 +250,7 @@ pub record Answered (t : List ℕ) (u : Question) (out : List ℕ) : Type 0 wher
   pub for-question : For u assignment
   pub bytes : out ≡ encode assignment
   -- judging reads these very values from the bytes
-  pub read-back : judging t out ≡ Judged u assignment
+  pub read-back : judging t out ≡ Judged u [] assignment
   -- "at most 4,268 bytes"
   pub room : length out ≤ answerBytes
   pub meets-all : Met u assignment (u .constraints)
@@ -221,6 +290,12 @@ pub record Demands : Type 0 where
   pub th-l2-met : TH-L2-met
   pub th-l2-limits : TH-L2-limits
   pub th-l2-numbers : TH-L2-numbers
+  pub th-l3 : TH-L3
+  pub th-l3-counted : TH-L3-counted
+  pub th-l3-refused : TH-L3-refused
+  pub th-l3-absent : TH-L3-absent
+  pub th-l3-case : TH-L3-case
+  pub th-l3-decimals : TH-L3-decimals
   pub th-4 : TH-4
   pub th-5 : TH-5
   pub th-6 : TH-6

@@ -6,30 +6,39 @@ use mathlib.Core.Option.{Option, none, some}
 use mathlib.Core.List.{List}
 use lib.ListN.{length}
 use lib.Dec.{leb, eqb}
-use Rattle.calculus.specs.Facts.{Question, Fact, same, notSame, isLiteral, arithmetic, holds, literal, lowestFact}
+use Rattle.lists.specs.Lists.{lowest}
+use Rattle.calculus.specs.Facts.{Question, Fact, same, notSame, isLiteral, arithmetic, holds, literal}
 use Rattle.calculus.specs.Meaning.{Assignment, str, value}
 use Rattle.calculus.specs.Strings.{eqString}
+use Rattle.calculus.specs.Extended.{Extended, meetsExtended, Constraint, basic, extended, constraintsOf}
 use Rattle.format.specs.Records.{next}
-use Rattle.format.specs.Question.{Reading, Stopped, Ended, judgedQuestion, headRead}
+use Rattle.format.specs.Question.{Progress, Reading, Stopped, Ended, judgedQuestion, headRead}
 use Rattle.format.specs.Places.{skip, constraintsFrom}
 use Rattle.format.specs.Answer.{answerForm, outside, assignmentOf}
 
--- Refused: the number and the record. Judged: the question, and the strings and integers of the answer.
+-- Refused: the number and the record. Judged: the question with its extended constraints, and the strings and integers of the answer.
 pub data Judging : Type 0 where
   Refused : ℕ → ℕ → Judging
-  Judged : Question → Assignment → Judging
+  Judged : Question → List Extended → Assignment → Judging
 
--- "15 (record 0) when the answer is not exactly of its form"
-abbrev pub judgeAnswer : Question → List ℕ → Judging
-judgeAnswer u v = elim (answerForm v (u .p) (u .q) 0) [
-  | false ↦ Refused 15 0
-  | true ↦ elim (outside v u (u .p) 0 0) [ some r ↦ Refused 16 r | none ↦ Judged u (assignmentOf v u) ]
-]
+-- "15 (record 0) when the answer is not exactly of its form, 16 (the answer's first such record) ..": by whether it is of its form, and by its first record
+-- out of range
+abbrev pub byForm : Question → List Extended → List ℕ → Bool → Option ℕ → Judging
+byForm u es v false o = Refused 15 0
+byForm u es v true (some r) = Refused 16 r
+byForm u es v true none = Judged u es (assignmentOf v u)
 
--- "one with no head before it gives 4"
+abbrev pub judgeAnswer : Question → List Extended → List ℕ → Judging
+judgeAnswer u es v = byForm u es v (answerForm v (u .p) (u .q) 0) (outside v u (u .p) 0 0)
+
+-- "one with no head before it gives 4": by whether there is one
+abbrev pub byHead : Progress → ℕ → List ℕ → Bool → Judging
+byHead s r v false = Refused 4 r
+byHead s r v true = judgeAnswer (s .question) (s .extended) v
+
 abbrev pub judgeBehind : Reading → List ℕ → Judging
 judgeBehind (Stopped c r) v = Refused c r
-judgeBehind (Ended s at r) v = elim (headRead s) [ false ↦ Refused 4 r | true ↦ judgeAnswer (s .question) v ]
+judgeBehind (Ended s at r) v = byHead s r v (headRead s)
 
 unfoldable pub judging : List ℕ → List ℕ → Judging
 judging b v = judgeBehind (judgedQuestion b) v
@@ -43,6 +52,10 @@ meets u a (notSame x y) = not (eqString (str a x) (str a y))
 meets u a (isLiteral x l) = eqString (str a x) (literal u l)
 meets u a (arithmetic r e) = holds r (value a e)
 
+abbrev pub meetsConstraint : Question → Assignment → Constraint → Bool
+meetsConstraint u a (basic f) = meets u a f
+meetsConstraint u a (extended e) = meetsExtended a e
+
 -- ---- what judging says
 
 pub data Judgement : Type 0 where
@@ -52,8 +65,8 @@ pub data Judgement : Type 0 where
   Unmet : ℕ → Judgement
 
 -- "the lowest-numbered constraint that is not met", if there is one
-abbrev pub firstUnmet : Question → Assignment → Option ℕ
-firstUnmet u a = lowestFact (λ f. not (meets u a f)) (u .constraints)
+abbrev pub firstUnmet : Question → List Extended → Assignment → Option ℕ
+firstUnmet u es a = lowest (λ c. not (meetsConstraint u a c)) (constraintsOf u es)
 
 abbrev pub saidOf : Option ℕ → Judgement
 saidOf none = AllMet
@@ -61,7 +74,7 @@ saidOf (some k) = Unmet k
 
 abbrev pub said : Judging → Judgement
 said (Refused c r) = Refusal c r
-said (Judged u a) = saidOf (firstUnmet u a)
+said (Judged u es a) = saidOf (firstUnmet u es a)
 
 -- ---- what judging shows
 
@@ -99,7 +112,7 @@ unmetShown b u (some k) = recordShown ofQuestion b (skip b k (constraintsFrom b 
 -- what is shown of the question b and the answer v
 abbrev pub shownBy : List ℕ → List ℕ → Judging → Shown
 shownBy b v (Refused c r) = refusalShown v c r
-shownBy b v (Judged u a) = unmetShown b u (firstUnmet u a)
+shownBy b v (Judged u es a) = unmetShown b u (firstUnmet u es a)
 
 -- by a part's side: what holds for the question, and for the answer
 abbrev pub bySide : {A : Type 0} → Side → A → A → A

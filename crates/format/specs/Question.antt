@@ -1,4 +1,4 @@
--- The question: "Kinds 1 to 4 are the question". It is read until the six leading bytes of the first claim or end record.
+-- The question: "Kinds 1 to 4 are the question"; judging takes kind 11 besides (02, L3). It is read until the six leading bytes of the first claim or end record.
 use Prim.Native.Nat.{ℕ, zero, suc, _+_, _*_, _-_, _/_, _%_}
 use mathlib.Core.Bool.{Bool, true, false, cond, not, _&&_, _||_}
 use mathlib.Core.Option.{Option, none, some}
@@ -10,6 +10,7 @@ use Rattle.calculus.specs.LinearForms.{zeros}
 use Rattle.calculus.specs.Facts.{Question, Fact, same, notSame, isLiteral, arithmetic, Relation, ge, eq, ne, blank, columnCount}
 use Rattle.calculus.specs.Alphabet.{allCharacters}
 use Rattle.calculus.specs.Strings.{given}
+use Rattle.calculus.specs.Extended.{Extended, isUpper, isLower, isValue, isDecimal, inOrder}
 use Rattle.calculus.specs.Limits.{ticketBytes, alphabetLimit, variableLimit, literalLimit, lengthLimit, columnLimit, numberLimit, factLimit}
 use Rattle.format.specs.Fields.{u16, u32, i32, u32s, pairsAt, within}
 use Rattle.format.specs.Records.{size, kind, whole, records, need}
@@ -29,6 +30,9 @@ stringKind = 3
 abbrev pub arithmeticKind : ℕ
 arithmeticKind = 4
 
+abbrev pub extendedKind : ℕ
+extendedKind = 11
+
 -- "They stand in order of kind": the ranks of the records in this order; 0 stands before the head
 abbrev pub headRank : ℕ
 headRank = 1
@@ -42,6 +46,10 @@ stringRank = 3
 abbrev pub arithmeticRank : ℕ
 arithmeticRank = 4
 
+-- "kind 11 after kind 4"
+abbrev pub extendedRank : ℕ
+extendedRank = 5
+
 -- the rank of a kind, 0 for a kind that has no place in a question
 unfoldable pub rankOf : ℕ → ℕ
 rankOf k =
@@ -49,23 +57,29 @@ rankOf k =
     (cond (eqb k literalKind) literalRank
     (cond (eqb k stringKind) stringRank
     (cond (eqb k arithmeticKind) arithmeticRank
-    0)))
+    (cond (eqb k extendedKind) extendedRank
+    0))))
 
--- constraints stand behind the literals
+-- constraints stand behind the literals, extended ones too
 abbrev pub isConstraint : ℕ → Bool
 isConstraint r = ltb literalRank r
 
--- by a record's rank: what holds for a head, for a literal, and for a constraint, and for a rank that has no place, which is refused before
-abbrev pub byRank : {A : Type 0} → ℕ → A → A → A → A
-byRank r head literal constraint = cond (eqb r headRank) head (cond (eqb r literalRank) literal constraint)
+-- by a record's rank: what holds for a head, for a literal, for a constraint of kind 3 or 4, and for an extended one; a rank without a place is refused before
+abbrev pub byRank : {A : Type 0} → ℕ → A → A → A → A → A
+byRank r head literal constraint extended = cond (eqb r headRank) head (cond (eqb r literalRank) literal (cond (eqb r extendedRank) extended constraint))
 
--- what was read so far: the rank of the last record, 0 before the head, and the question
+-- what was read so far: the rank of the last record, 0 before the head, the question, and the extended constraints
 pub record Progress : Type 0 where
   pub last : ℕ
   pub question : Question
+  pub extended : List Extended
 
 abbrev pub unread : Progress
-unread = record { last = 0; question = blank 0 0 0 }
+unread = record { last = 0; question = blank 0 0 0; extended = [] }
+
+-- how many constraints of all kinds: extended ones are "counted as constraints"
+abbrev pub constraintCount : Progress → ℕ
+constraintCount s = length (s .question .constraints) + length (s .extended)
 
 abbrev pub withLiteral : Question → List ℕ → Question
 withLiteral u s = record { n = u .n; p = u .p; q = u .q; literals = u .literals ++ (s ∷ []); constraints = u .constraints }
@@ -95,6 +109,10 @@ literalFault b n ls at m =
     (need 6 (allCharacters n (textOf b at m))
     (need 7 (not (given (textOf b at m) ls)) 0))
 
+-- a body of three u16 fields that are to be in a range
+abbrev pub threeFault : (ℕ → ℕ → ℕ → Bool) → List ℕ → ℕ → ℕ → ℕ
+threeFault range b at m = need 5 (eqb m 6) (need 6 (range (u16 b at) (u16 b (at + 2)) (u16 b (at + 4))) 0)
+
 -- "3 string constraint: u16 relation, u16 a, u16 b. Relation 0 is variable a ≈ variable b, 1 is a ≉ b, 2 is variable a ≈ literal b":
 -- over p string variables and k literals besides the empty one
 abbrev pub stringRange : ℕ → ℕ → ℕ → ℕ → ℕ → Bool
@@ -107,7 +125,7 @@ stringFact (suc zero) x y = notSame x y
 stringFact (suc (suc r)) x y = isLiteral x y
 
 abbrev pub stringFault : List ℕ → ℕ → ℕ → ℕ → ℕ → ℕ
-stringFault b p k at m = need 5 (eqb m 6) (need 6 (stringRange p k (u16 b at) (u16 b (at + 2)) (u16 b (at + 4))) 0)
+stringFault b p k at m = threeFault (stringRange p k) b at m
 
 -- "pairs of u16 column and nonzero i32 coefficient, columns rising strictly": the first column at least low, all below c
 abbrev pub coefficientInRange : ℤ → Bool
@@ -143,19 +161,39 @@ arithmeticFault b c at m =
     need 5 (leb 6 m && (eqb (m % 6) 0 && leb (m / 6) (suc columnLimit)))
     (need 6 (leb (u16 b at) 2 && formRange b c (at + 2) (m / 6 - 1)) 0)
 
--- ---- constraints by kind: a kind has one row in each of the two
+-- "u16 function, u16 a, u16 b": function 2 takes an integer variable for a, function 3 for b, and all others string variables; over p string and q integer
+-- variables
+abbrev pub extendedRange : ℕ → ℕ → ℕ → ℕ → ℕ → Bool
+extendedRange p q f x y = leb f 4 && (ltb x (cond (eqb f 2) q p) && ltb y (cond (eqb f 3) q p))
 
--- the first of 5 and 6 that applies to the body of a constraint of kind k, over p string variables, l literals besides the empty one and c columns; 4 for a
--- kind that is no constraint's
-unfoldable pub constraintFault : List ℕ → ℕ → ℕ → ℕ → ℕ → ℕ → ℕ → ℕ
-constraintFault b p l c k at m =
+abbrev pub extendedFault : List ℕ → ℕ → ℕ → ℕ → ℕ → ℕ
+extendedFault b p q at m = threeFault (extendedRange p q) b at m
+
+-- "0, string a is b in upper case ..; 1, string a is b in lower case; 2, integer a is b read in decimal ..; 3, string a is integer b in decimal ..; 4, string a
+-- is equal to or before string b"; any function past 4 is out of range
+abbrev pub extendedBy : ℕ → ℕ → ℕ → Extended
+extendedBy zero x y = isUpper x y
+extendedBy (suc zero) x y = isLower x y
+extendedBy (suc (suc zero)) x y = isValue x y
+extendedBy (suc (suc (suc zero))) x y = isDecimal x y
+extendedBy (suc (suc (suc (suc f)))) x y = inOrder x y
+
+abbrev pub extendedOf : List ℕ → ℕ → Extended
+extendedOf b at = extendedBy (u16 b at) (u16 b (at + 2)) (u16 b (at + 4))
+
+-- ---- the constraints of kinds 3 and 4: a kind has one row in each of the two
+
+-- the first of 5 and 6 that applies to the body of a constraint of kind k, over p string variables, l literals besides the empty one and c columns; 4 for every
+-- other kind
+unfoldable pub factFault : List ℕ → ℕ → ℕ → ℕ → ℕ → ℕ → ℕ → ℕ
+factFault b p l c k at m =
     cond (eqb k stringKind) (stringFault b p l at m)
     (cond (eqb k arithmeticKind) (arithmeticFault b c at m)
     4)
 
--- what the body says where it has no fault; every kind without a row here is read as arithmetic, and those that are no constraint's have a fault
-abbrev pub constraintOf : List ℕ → ℕ → ℕ → ℕ → Fact
-constraintOf b k at m =
+-- what the body says where it has no fault; a kind without a row here is read as arithmetic, and kinds other than 3 and 4 have a fault
+abbrev pub bodyFact : List ℕ → ℕ → ℕ → ℕ → Fact
+bodyFact b k at m =
     cond (eqb k stringKind) (stringFact (u16 b at) (u16 b (at + 2)) (u16 b (at + 4)))
     (arithmetic (relationOf (u16 b at)) (formOf b (at + 2) (m / 6 - 1)))
 
@@ -171,9 +209,9 @@ pub record Manner : Type 0 where
 abbrev pub checkingManner : Manner
 checkingManner = record { limited = true; greatest = arithmeticRank }
 
--- "2 to 7 and 10 for the question"
+-- "2 to 7 and 10 for the question"; "Checking and the operation of L2 still refuse kind 11 with 4" (02, L3), so judging alone takes it
 abbrev pub judgingManner : Manner
-judgingManner = record { limited = true; greatest = arithmeticRank }
+judgingManner = record { limited = true; greatest = extendedRank }
 
 -- proper form asks for "none of 2 to 7", of the kinds that checking takes; so does what a ticket will need: "It never gives 10" (02, L2)
 abbrev pub formManner : Manner
@@ -197,18 +235,19 @@ questionBodyFault b u k at m =
     byRank (rankOf k)
     (headFault b at m)
     (literalFault b (u .n) (u .literals) at m)
-    (constraintFault b (u .p) (length (u .literals)) (columnCount u) k at m)
+    (factFault b (u .p) (length (u .literals)) (columnCount u) k at m)
+    (extendedFault b (u .p) (u .q) at m)
 
 -- the first of 3 to 7 that applies to the record at a position, 0 for none
 unfoldable pub formFault : ℕ → List ℕ → Progress → ℕ → ℕ
 formFault greatest b s at = need 3 (whole b at) (need 4 (inPlace greatest s (kind b at)) (questionBodyFault b (s .question) (kind b at) (at + 6) (size b at)))
 
--- "At most 128 facts stand on a branch": where 10 is looked for, a constraint must find room behind those before it
+-- "At most 128 facts stand on a branch": where 10 is looked for, a constraint of any kind must find room behind those before it
 abbrev pub roomFor : Bool → ℕ → ℕ → Bool
 roomFor limited r constraints = not limited || (not (isConstraint r) || ltb constraints factLimit)
 
 abbrev pub findsRoom : Manner → Progress → ℕ → Bool
-findsRoom m s k = roomFor (m .limited) (rankOf k) (length (s .question .constraints))
+findsRoom m s k = roomFor (m .limited) (rankOf k) (constraintCount s)
 
 -- 10 behind the numbers of the form
 abbrev pub orCrowded : ℕ → Bool → ℕ
@@ -219,12 +258,19 @@ orCrowded (suc c) room = suc c
 unfoldable pub questionFault : Manner → List ℕ → Progress → ℕ → ℕ
 questionFault m b s at = orCrowded (formFault (m .greatest) b s at) (findsRoom m s (kind b at))
 
--- the question after a record of kind k that has no fault
-abbrev pub extended : List ℕ → Question → ℕ → ℕ → ℕ → Question
-extended b u k at m = byRank (rankOf k) (headOf b at) (withLiteral u (textOf b at m)) (withFact u (constraintOf b k at m))
+-- the question and the extended constraints after a record of kind k that has no fault
+abbrev pub questionAfter : List ℕ → Question → ℕ → ℕ → ℕ → Question
+questionAfter b u k at m = byRank (rankOf k) (headOf b at) (withLiteral u (textOf b at m)) (withFact u (bodyFact b k at m)) u
+
+abbrev pub extendedAfter : List ℕ → List Extended → ℕ → ℕ → List Extended
+extendedAfter b es k at = byRank (rankOf k) [] es es (es ++ (extendedOf b at ∷ []))
 
 unfoldable pub questionAdvanced : List ℕ → Progress → ℕ → Progress
-questionAdvanced b s at = record { last = rankOf (kind b at); question = extended b (s .question) (kind b at) (at + 6) (size b at) }
+questionAdvanced b s at = record {
+  last = rankOf (kind b at);
+  question = questionAfter b (s .question) (kind b at) (at + 6) (size b at);
+  extended = extendedAfter b (s .extended) (kind b at) (at + 6);
+}
 
 -- ---- the whole question
 
@@ -269,9 +315,17 @@ questionForm b = readIn formManner b
 abbrev pub headRead : Progress → Bool
 headRead s = leb headRank (s .last)
 
+-- what f gives of what was read behind a head
+abbrev pub headedIn : {A : Type 0} → (Progress → A) → Reading → Option A
+headedIn f (Stopped c r) = none
+headedIn f (Ended s at r) = cond (headRead s) (some (f s)) none
+
 abbrev pub questionIn : Reading → Option Question
-questionIn (Stopped c r) = none
-questionIn (Ended s at r) = cond (headRead s) (some (s .question)) none
+questionIn g = headedIn (λ s. s .question) g
+
+-- the question with its extended constraints, as judging takes it
+abbrev pub judgedIn : Reading → Option (Question × List Extended)
+judgedIn g = headedIn (λ s. (s .question, s .extended)) g
 
 -- the question that bytes put: none without a head
 abbrev pub questionOf : List ℕ → Option Question

@@ -3,7 +3,7 @@ use Prim.Native.Nat.{ℕ, zero, suc, _-_, _/_, _^_, _≤_, _<_, _*_}
 use native.Mathlib.Omega.{arith}
 use native.Mathlib.Nat.{div-le-self, div-mul-le-self, mul-div-cancel-left, mul-pos}
 use mathlib.Core.Path.{_≡_, refl, sym, _∙_, ap, subst}
-use mathlib.Core.Bool.{Bool, true, false, not, true≢false}
+use mathlib.Core.Bool.{Bool, true, false, not, true≢false, false≢true}
 use lib.Dec.{T, leb→le, lt→ltb, nleb→lt}
 use lib.IntN.{ℤ, pos, negsuc, negℤ, natAbs, _-ℤ_, _*ℤ_, +ℤ-idl}
 use lib.Signed.{mag, _≤ℤ_, _<ℤ_, leZ, ltZ, quotZ, leZ-yes, ltZ-yes, ltZ-no}
@@ -11,7 +11,7 @@ use mir.Syntax.{Width, w32, w64}
 use mir.Val.{SFits, hbits, bits, toZ, ofZ}
 use mir.Facts.{toZ-ofZ}
 use mir.ValLaws.{sfits-le}
-use borrow.Author.Tests.{lt-ltb, le-ltb, ltb-true}
+use borrow.Author.Tests.{lt-ltb, le-ltb, ltb-true, ltb-false}
 use Rattle.integers.specs.Division.{floorDiv}
 use Rattle.integers.proofs.Ring.{v, _⊖_, ring, lt-up}
 use Rattle.integers.proofs.Laws.{abs-neg, sfits-abs}
@@ -147,3 +147,22 @@ module _ (z : ℤ) (f : SFits w64 z) where
       go : (z : ℤ) → SFits w64 z → ltZ z (pos 0) ≡ true → (k : ℕ) × (k < 9223372036854775808) × (z ≡ negsuc k) × (z ≡ negsuc k)
       go (pos k) f h = absurd (let l : k < 0 = ltb-true k 0 h in omega arith)
       go (negsuc k) f h = (k, omega (arith, f .sfits), refl, refl)
+
+-- ---- machine integers below −1, and −1
+
+module _ (z : ℤ) (f : SFits w64 z) where
+  pub below-minus-one : ltZ (toZ w64 (ofZ w64 z)) (negsuc 0) ≡ true → (k : ℕ) × (z ≡ negsuc (suc k))
+  below-minus-one e = go z (rw (toZ-ofZ f) at e)
+    where
+      go : (z : ℤ) → ltZ z (negsuc 0) ≡ true → (k : ℕ) × (z ≡ negsuc (suc k))
+      go (pos n) h = absurd (false≢true h)
+      go (negsuc zero) h = absurd (false≢true h)
+      go (negsuc (suc k)) h = (k, refl)
+
+  pub minus-one : ltZ (toZ w64 (ofZ w64 z)) (negsuc 0) ≡ false → ltZ (toZ w64 (ofZ w64 z)) (pos 0) ≡ true → z ≡ negsuc 0
+  minus-one d e = go z (rw (toZ-ofZ f) at d) (rw (toZ-ofZ f) at e)
+    where
+      go : (z : ℤ) → ltZ z (negsuc 0) ≡ false → ltZ z (pos 0) ≡ true → z ≡ negsuc 0
+      go (pos n) g h = absurd (let l : n < 0 = ltb-true n 0 h in omega arith)
+      go (negsuc zero) g h = refl
+      go (negsuc (suc k)) g h = absurd (let l : suc k ≤ 0 = ltb-false 0 (suc k) g in omega arith)

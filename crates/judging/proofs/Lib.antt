@@ -1,5 +1,6 @@
 pub mod Constraints
 pub mod Tested
+pub mod Functions
 pub mod Unmet
 pub mod Summing
 pub mod Outcomes

@@ -9,12 +9,13 @@ use lib.Dec.{leb}
 use borrow.Author.Tests.{le-leb, lt-leb}
 use native.Mathlib.Omega.{arith}
 use Rattle.calculus.specs.Facts.{Question}
+use Rattle.calculus.specs.Extended.{Extended}
 use Rattle.format.specs.Records.{next}
 use Rattle.format.specs.Question.{Progress, Reading, Stopped, Ended, judgingManner, judgedQuestion}
 use Rattle.format.specs.Places.{skip}
 use Rattle.format.specs.Answer.{answerForm, assignmentOf, outside}
 use Rattle.format.specs.Judging as format
-use Rattle.format.specs.Judging.{Judging, Judged, judgeAnswer, judgeBehind, judging, ofAnswer, recordShown}
+use Rattle.format.specs.Judging.{Judging, Judged, byForm, judgeAnswer, byHead, judgeBehind, judging, ofAnswer, recordShown}
 use Rattle.format.proofs.Refusals.{refusal-up-to}
 use Rattle.format.proofs.Shown.{nothing-up-to}
 use Rattle.judging.specs.declared.Judgement.the-variants.{Refused}
@@ -24,23 +25,16 @@ use Rattle.judging.specs.Judgements.{Finds}
 
 -- ---- the answer
 
-module _ (b v : List ℕ) (u : Question) where
-  abbrev byForm : Bool → Option ℕ → Judging
-  byForm t o =
-      elim t as (λ _. Judging) [
-        | false ↦ format.Refused 15 0
-        | true ↦ elim o as (λ _. Judging) [ some r ↦ format.Refused 16 r | none ↦ Judged u (assignmentOf v u) ]
-      ]
-
+module _ (b v : List ℕ) (u : Question) (es : List Extended) where
   by : {t : Bool} {o : Option ℕ} {r : Finding}
       → answerForm v (u .p) (u .q) 0 ≡ t
       → outside v u (u .p) 0 0 ≡ o
-      → Finds b v (byForm t o) r
-      → Finds b v (judgeAnswer u v) r
-  by {r = r} e f h = subst (λ (g : Judging). Finds b v g r) (sym (ap₂ byForm e f)) h
+      → Finds b v (byForm u es v t o) r
+      → Finds b v (judgeAnswer u es v) r
+  by {r = r} e f h = subst (λ (g : Judging). Finds b v g r) (sym (ap₂ (byForm u es v) e f)) h
 
   pub unformed : answerForm v (u .p) (u .q) 0 ≡ false
-      → Finds b v (judgeAnswer u v) (record { said = Refused 15 0; shown = record { side = side.Answer; from = 0; to = length v } })
+      → Finds b v (judgeAnswer u es v) (record { said = Refused 15 0; shown = record { side = side.Answer; from = 0; to = length v } })
   unformed e = by e refl (record { says = refl; shows = refl })
 
   pub out-of-range : {r at to : ℕ}
@@ -48,14 +42,14 @@ module _ (b v : List ℕ) (u : Question) where
       → outside v u (u .p) 0 0 ≡ some r
       → at ≡ skip v r 0
       → to ≡ next v at
-      → Finds b v (judgeAnswer u v) (record { said = Refused 16 r; shown = record { side = side.Answer; from = at; to = to } })
+      → Finds b v (judgeAnswer u es v) (record { said = Refused 16 r; shown = record { side = side.Answer; from = at; to = to } })
   out-of-range e f here end = by e f (record { says = refl; shows = rw end (ap (recordShown ofAnswer v) here) })
 
   pub judged : {r : Finding}
       → answerForm v (u .p) (u .q) 0 ≡ true
       → outside v u (u .p) 0 0 ≡ none
-      → Finds b v (Judged u (assignmentOf v u)) r
-      → Finds b v (judgeAnswer u v) r
+      → Finds b v (Judged u es (assignmentOf v u)) r
+      → Finds b v (judgeAnswer u es v) r
   judged e f h = by e f h
 
 -- ---- the question
@@ -73,17 +67,14 @@ module _ (b v : List ℕ) where
       subst (λ (g : Reading). Finds b v (judgeBehind g v) (record { said = Refused c r; shown = record { side = side.Question; from = 0; to = 0 } })) (sym e)
       (refused c r (refusal-up-to judgingManner b e))
 
-  abbrev byHead : Progress → ℕ → Bool → Judging
-  byHead s r t = elim t as (λ _. Judging) [ false ↦ format.Refused 4 r | true ↦ judgeAnswer (s .question) v ]
-
   ended : {s : Progress} {at r : ℕ} {t : Bool} {o : Finding}
       → judgedQuestion b ≡ Ended s at r
       → leb 1 (s .last) ≡ t
-      → Finds b v (byHead s r t) o
+      → Finds b v (byHead s r v t) o
       → Finds b v (judging b v) o
   unfolding judging
   ended {s} {at} {r} {o = o} e f h =
-      subst (λ (g : Reading). Finds b v (judgeBehind g v) o) (sym e) (subst (λ (x : Bool). Finds b v (byHead s r x) o) (sym f) h)
+      subst (λ (g : Reading). Finds b v (judgeBehind g v) o) (sym e) (subst (λ (x : Bool). Finds b v (byHead s r v x) o) (sym f) h)
 
   -- "one with no head before it gives 4"
   pub headless : {s : Progress} {at r : ℕ}
@@ -95,6 +86,6 @@ module _ (b v : List ℕ) where
   pub headed : {s : Progress} {at r : ℕ} {o : Finding}
       → judgedQuestion b ≡ Ended s at r
       → 1 ≤ s .last
-      → Finds b v (judgeAnswer (s .question) v) o
+      → Finds b v (judgeAnswer (s .question) (s .extended) v) o
       → Finds b v (judging b v) o
   headed {s} e f h = ended e (le-leb 1 (s .last) f) h

@@ -5,6 +5,7 @@ use Prim.Native.Nat.{ℕ}
 use denote.Ref.{RefT}
 use Rattle.calculus.specs.Facts.{Question}
 use Rattle.calculus.specs.Meaning.{Assignment}
+use Rattle.calculus.specs.Extended.{Extended}
 use Rattle.format.specs.Judging.{Judged, judging, shownBy, Shown, bySide}
 use Rattle.format.specs.Demands.{Judges, Shows}
 use Rattle.format.proofs.Demands.{demands}
@@ -21,8 +22,8 @@ module _ (question answer : RefT (List ℕ)) (r : Finding) (h : Finds (question 
   abbrev v : List ℕ
   v = answer .now
 
-  pub judges : (u : Question) (a : Assignment) → judging b v ≡ Judged u a → Judges b v (judgementOf (r .said)) u a
-  judges u a e = subst (λ j. Judges b v j u a) (sym (h .says)) (demands .th-3 b v u a e)
+  pub judges : (u : Question) (es : List Extended) (a : Assignment) → judging b v ≡ Judged u es a → Judges b v (judgementOf (r .said)) u es a
+  judges u es a e = subst (λ j. Judges b v j u es a) (sym (h .says)) (demands .th-3 b v u es a e)
 
   pub shows : Shows b v (judging b v) (shownOf (r .shown))
   shows = subst (Shows b v (judging b v)) (sym (h .shows)) (demands .th-l1 b v)

@@ -10,7 +10,7 @@ use Rattle.calculus.specs.Meaning.{Assignment}
 use Rattle.format.specs.Question.{formRange}
 use Rattle.format.specs.Answer.{answerForm, assignmentOf}
 use Rattle.question.specs.declared.Progress.{Progress}
-use Rattle.question.specs.Posed.{asked, PosedToJudge}
+use Rattle.question.specs.Posed.{asked, Posed}
 use Rattle.rows.specs.Work.{Within}
 use Rattle.records.specs.Placed.{Placed}
 use Rattle.assignment.specs.Form.{columnsAt}
@@ -21,7 +21,7 @@ valuesOf b v s = assignmentOf v (asked b s)
 
 -- a question that was read, and an answer of its form, with its strings' places
 pub record Texts (b v : List ℕ) (s : Progress) (places : List ℕ) : Type 0 where
-  pub posed : PosedToJudge b s
+  pub posed : Posed b s
   pub formed : answerForm v (s .p) (s .q) 0 ≡ true
   pub placed : Placed v 0 (s .p) places
   pub enough : s .p < length places

@@ -10,26 +10,37 @@ ghost use lib.IntN.{pos, natAbs};
 ghost use Rattle.calculus.specs.LinearForms.{dot};
 ghost use Rattle.calculus.specs.Facts.{holds};
 ghost use Rattle.calculus.specs.Strings.{eqString};
+ghost use Rattle.calculus.specs.Extended.{meetsExtended};
 ghost use Rattle.format.specs.Fields.{u16, i32};
-ghost use Rattle.format.specs.Records.{size as sizeAt, kind as kindAt, next};
-ghost use Rattle.format.specs.Question.{judgingManner, stringFault, stringFact, formOf, relationOf, constraintOf};
-ghost use Rattle.format.specs.Places.{skip, texts, literalsFrom, textAt};
+ghost use Rattle.format.specs.Records.{next};
+ghost use Rattle.format.specs.Question.{stringFault, stringFact, formOf, relationOf, extendedFault, extendedOf};
+ghost use Rattle.format.specs.Places.{skip, textAt, constraintAt, texts, literalsFrom};
 ghost use Rattle.format.specs.Answer.{answerForm, outside};
-ghost use Rattle.format.specs.Judging.{meets, Judged, judgeAnswer, judging, partWithin};
+ghost use Rattle.format.specs.Judging.{meets, meetsConstraint, Judged, judgeAnswer, judging, partWithin};
 ghost use Rattle.format.specs.Standing.{ConstraintAt};
-ghost use Rattle.question.specs.Posed.{asked, PosedToJudge};
+ghost use Rattle.question.specs.Posed.{asked, extendedAsked, Posed};
 ghost use Rattle.judging.specs.Ready.{valuesOf, FormIn, Texts, Judgeable};
 ghost use Rattle.judging.specs.Judgements.{shownOf, Finds};
 ghost use Rattle.judging.specs.Parts.{Part, PartShown};
 use assignment::Outside;
 use assignment::answer_formed;
-use assignment::column_values;
+use assignment::fill_columns;
 use assignment::first_outside;
+use encoding::IS_DECIMAL;
 use encoding::IS_LITERAL;
+use encoding::IS_LOWER;
+use encoding::IS_UPPER;
+use encoding::IS_VALUE;
 use encoding::KIND_ARITHMETIC;
+use encoding::KIND_EXTENDED;
 use encoding::KIND_STRING;
 use encoding::RECORD_HEAD;
 use encoding::SAME;
+use extended::cased;
+use extended::precedes;
+use extended::reads_as;
+use extended::written_as;
+use limits::COLUMN_LIMIT;
 use question::HEAD_RANK;
 use question::JUDGING;
 use question::Progress;
@@ -120,9 +131,36 @@ fn arithmetic_met(b: &[u8], at: usize, size: usize, values: &[i64]) -> bool
     relation_holds(relation, z)
 }
 
+// ---- extended constraints
+
+// Whether the answer meets the extended constraint with its body at a position. The last arm is function 4's: no other is in its range.
+fn extended_met(
+    b: &[u8],
+    v: &[u8],
+    s: Progress,
+    places: &[usize],
+    values: &[i64],
+    at: usize,
+) -> bool
+    requires { ⌜ Judgeable (now b) (now v) s (now places) (now values) × (at + 6 ≤ length (now b)) × (extendedFault (now b) (s .p) (s .q) at 6 ≡ 0) ⌝ }
+    ensures { λ r. ⌜ r ≡ meetsExtended (valuesOf (now (b .entry)) (now (v .entry)) s) (extendedOf (now (b .entry)) at) ⌝ }
+{
+    let function = u16_at(b, at);
+    let x = u16_at(b, at + 2);
+    let y = u16_at(b, at + 4);
+    match function {
+        IS_UPPER => cased(v, places[x], places[y], true),
+        IS_LOWER => cased(v, places[x], places[y], false),
+        IS_VALUE => reads_as(v, places[y], values[x]),
+        IS_DECIMAL => written_as(v, places[x], values[y]),
+        _ => precedes(v, places[x], places[y]),
+    }
+}
+
 // ---- all constraints
 
-// "it meets a constraint when the relation holds for those values with their len and code". A kind that is no constraint's does not come here.
+// "it meets a constraint when the relation holds for those values with their len and code"; an extended one by its function. A kind that is no constraint's
+// does not come here.
 fn constraint_met(
     b: &[u8],
     v: &[u8],
@@ -131,15 +169,15 @@ fn constraint_met(
     values: &[i64],
     at: usize,
 ) -> bool
-    requires { ⌜ Judgeable (now b) (now v) s (now places) (now values) × ConstraintAt (judgingManner .greatest) (now b) (s .p) (s .q) (s .literals) at ⌝ }
-    ensures { λ r. ⌜ r ≡ meets (asked (now (b .entry)) s) (valuesOf (now (b .entry)) (now (v .entry)) s)
-        (constraintOf (now (b .entry)) (kindAt (now (b .entry)) at) (at + 6) (sizeAt (now (b .entry)) at)) ⌝ }
+    requires { ⌜ Judgeable (now b) (now v) s (now places) (now values) × ConstraintAt (now b) (s .p) (s .q) (s .literals) at ⌝ }
+    ensures { λ r. ⌜ r ≡ meetsConstraint (asked (now (b .entry)) s) (valuesOf (now (b .entry)) (now (v .entry)) s) (constraintAt (now (b .entry)) at) ⌝ }
 {
     let size = u32_at(b, at);
     let kind = u16_at(b, at + 4);
     match kind {
         KIND_STRING => string_met(b, v, s, places, at + RECORD_HEAD),
         KIND_ARITHMETIC => arithmetic_met(b, at + RECORD_HEAD, size, values),
+        KIND_EXTENDED => extended_met(b, v, s, places, values, at + RECORD_HEAD),
         _ => false,
     }
 }
@@ -234,9 +272,9 @@ fn record_end(b: &[u8], at: usize) -> usize
 // The first constraint that the answer does not meet, by its number and with its record.
 fn first_unmet(b: &[u8], v: &[u8], s: Progress, places: &[usize], values: &[i64]) -> Finding
     requires { ⌜ Judgeable (now b) (now v) s (now places) (now values) ⌝ }
-    ensures { λ r. ⌜ Finds (now (b .entry)) (now (v .entry)) (Judged (asked (now (b .entry)) s) (valuesOf (now (b .entry)) (now (v .entry)) s)) r ⌝ }
+    ensures { λ r. ⌜ Finds (now (b .entry)) (now (v .entry)) (Judged (asked (now (b .entry)) s) (extendedAsked (now (b .entry)) s) (valuesOf (now (b .entry)) (now (v .entry)) s)) r ⌝ }
 {
-    let count = s.constraints;
+    let count = s.constraints + s.extended;
     let mut at = behind_literals(b, s.literals);
     let mut k = 0;
     while k < count {
@@ -251,21 +289,22 @@ fn first_unmet(b: &[u8], v: &[u8], s: Progress, places: &[usize], values: &[i64]
 
 // An answer of its form and in its ranges: its strings' places and its columns' values are found once.
 fn judge_values(b: &[u8], v: &[u8], s: Progress) -> Finding
-    requires { ⌜ PosedToJudge (now b) s × (answerForm (now v) (s .p) (s .q) 0 ≡ true) × (outside (now v) (asked (now b) s) (s .p) 0 0 ≡ none) ⌝ }
-    ensures { λ r. ⌜ Finds (now (b .entry)) (now (v .entry)) (Judged (asked (now (b .entry)) s) (valuesOf (now (b .entry)) (now (v .entry)) s)) r ⌝ }
+    requires { ⌜ Posed (now b) s × (answerForm (now v) (s .p) (s .q) 0 ≡ true) × (outside (now v) (asked (now b) s) (s .p) 0 0 ≡ none) ⌝ }
+    ensures { λ r. ⌜ Finds (now (b .entry)) (now (v .entry)) (Judged (asked (now (b .entry)) s) (extendedAsked (now (b .entry)) s) (valuesOf (now (b .entry)) (now (v .entry)) s)) r ⌝ }
 {
     let p = s.p;
     let q = s.q;
     let places = record_places(v, 0, p);
-    let values = column_values(v, p, q, &places);
+    let mut values = [0i64; COLUMN_LIMIT];
+    fill_columns(&mut values, v, p, q, &places);
     let count = q + (p + p);
     first_unmet(b, v, s, &places, &values[..count])
 }
 
 // "then 15 (record 0) when the answer is not exactly of its form, 16 (the answer's first such record) .."
 fn judge_behind(b: &[u8], v: &[u8], s: Progress) -> Finding
-    requires { ⌜ PosedToJudge (now b) s ⌝ }
-    ensures { λ r. ⌜ Finds (now (b .entry)) (now (v .entry)) (judgeAnswer (asked (now (b .entry)) s) (now (v .entry))) r ⌝ }
+    requires { ⌜ Posed (now b) s ⌝ }
+    ensures { λ r. ⌜ Finds (now (b .entry)) (now (v .entry)) (judgeAnswer (asked (now (b .entry)) s) (extendedAsked (now (b .entry)) s) (now (v .entry))) r ⌝ }
 {
     if !answer_formed(v, s.p, s.q) {
         return found(Judgement::Refused(15, 0), Side::Answer, 0, v.len());

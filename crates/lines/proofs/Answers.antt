@@ -2,22 +2,17 @@
 use Prim.Native.Nat.{ℕ, zero, suc, _+_, _*_, _/_, _≤_, _<_}
 use native.Mathlib.Omega.{arith}
 use mathlib.Core.Path.{_≡_, refl, sym, _∙_, ap, ap₂}
-use mathlib.Core.Bool.{Bool, true, false}
-use mathlib.Core.Option.{Option, none, some}
-use mathlib.Core.List.{List, _∷_, _++_}
+use mathlib.Core.Bool.{true}
+use mathlib.Core.List.{List, [], _∷_, _++_}
 use lib.ListN.{length, getD, List·getD-append, length-append}
-use lib.Dec.{leb, eqb}
+use lib.Dec.{eqb}
 use borrow.Author.Tests.{leb-true, eqb-true}
 use Rattle.lists.proofs.Tests.{and-both}
-use Rattle.calculus.specs.Facts.{Question}
-use Rattle.calculus.specs.Meaning.{Assignment}
 use Rattle.format.specs.Fields.{u16, u32, u32s, i32s, signed}
 use Rattle.format.specs.Records.{size, kind, next, whole, records}
-use Rattle.format.specs.Question.{Reading, Stopped, Ended, question}
-use Rattle.format.specs.Answer.{recordIs, stringForm, answerForm, outside, assignmentOf}
-use Rattle.format.specs.Judging.{Judging, Refused, Judged, judgeAnswer, judgeBehind, judging}
+use Rattle.format.specs.Answer.{recordIs, stringForm, answerForm}
 use Rattle.format.specs.Checking.{Strings, verdict}
-use Rattle.format.proofs.Faults.{clash}
+use Rattle.format.proofs.Judged.{judged-taken}
 use Rattle.format.proofs.Demands.{demands}
 use Rattle.lines.specs.Lines.{stringLine, integerLines, endLine, recordLines}
 use Rattle.lines.proofs.Lines.{lines-string, lines-integers}
@@ -79,32 +74,9 @@ module _ (s t : List ℕ) where
 
 -- ---- what judging reads is of the answer's form
 
-answer-formed : (b v : List ℕ) (u : Question) (a : Assignment) → judging b v ≡ Judged u a → (p : ℕ) × (q : ℕ) × (answerForm v p q 0 ≡ true)
-unfolding judging
-answer-formed b v u a e = behind (question b) e
-  where
-    answered : (w : Question) (x : Bool) (o : Option ℕ) → answerForm v (w .p) (w .q) 0 ≡ x
-        →
-        (elim x as (λ _. Judging) [ false ↦ Refused 15 0 | true ↦ elim o as (λ _. Judging) [ some r ↦ Refused 16 r | none ↦ Judged w (assignmentOf v w) ] ])
-        ≡ Judged u a
-        → (p : ℕ) × (q : ℕ) × (answerForm v p q 0 ≡ true)
-    answered w false o f e = clash cc
-    answered w true o f e = (w .p, w .q, f)
-
-    behind : (g : Reading) → judgeBehind g v ≡ Judged u a → (p : ℕ) × (q : ℕ) × (answerForm v p q 0 ≡ true)
-    behind (Stopped c r) e = clash cc
-    behind (Ended s at r) e = go (leb 1 (s .last)) e
-      where
-        go : (x : Bool)
-            → (elim x as (λ _. Judging) [ false ↦ Refused 4 r | true ↦ judgeAnswer (s .question) v ]) ≡ Judged u a
-            → (p : ℕ) × (q : ℕ) × (answerForm v p q 0 ≡ true)
-        go false e = clash cc
-        go true e = answered (s .question) (answerForm v (s .question .p) (s .question .q) 0) (outside v (s .question) (s .question .p) 0 0) refl e
-
 pub answer-lines : (work answer : ℕ) (b s t : List ℕ)
     → verdict work answer b ≡ Strings s
     → recordLines (s ++ t) 0 (records (s ++ t) 0) ≡ recordLines s 0 (records s 0)
 answer-lines work answer b s t e =
     let (u, k) = demands .th-5 work answer b s e in
-    let (p, q, form) = answer-formed b s u (k .assignment) (k .read-back) in
-    lines-kept s t p q 0 0 form
+    lines-kept s t (u .p) (u .q) 0 0 (judged-taken b s u [] (k .assignment) (k .read-back) .formed)

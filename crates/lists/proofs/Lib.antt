@@ -5,3 +5,4 @@ pub mod Filled
 pub mod Every
 pub mod Stores
 pub mod Below
+pub mod Searches

@@ -287,6 +287,21 @@ module _ {A B : Type 0} (go : A → A) (f : A → B) where
   valuesAlong-snoc a zero = refl
   valuesAlong-snoc a (suc k) = ap (λ xs. f a ∷ xs) (valuesAlong-snoc (go a) k)
 
+  pub valuesAlong-add : (a : A) (j k : ℕ) → valuesAlong go f a j ++ valuesAlong go f (placeAfter go a j) k ≡ valuesAlong go f a (j + k)
+  valuesAlong-add a zero k = ap (valuesAlong go f a) (let z : k ≡ 0 + k = omega arith in z)
+  valuesAlong-add a (suc j) k =
+      ap (λ xs. f a ∷ xs) (valuesAlong-add (go a) j k) ∙ ap (valuesAlong go f a) (let z : suc (j + k) ≡ suc j + k = omega arith in z)
+
+  pub all-valuesAlong : (P : B → Type 0) (a : A) (k : ℕ) → ((j : ℕ) → j < k → P (f (placeAfter go a j))) → All P (valuesAlong go f a k)
+  all-valuesAlong P a zero h = tt
+  all-valuesAlong P a (suc k) h = (h 0 (omega arith), all-valuesAlong P (go a) k (λ j l. h (suc j) (omega arith)))
+
+  -- what h makes of each is what g gives at its place
+  pub map-valuesAlong : {C : Type 0} (h : B → C) (g : A → C) (a : A) (k : ℕ) → ((j : ℕ) → j < k → h (f (placeAfter go a j)) ≡ g (placeAfter go a j))
+      → map h (valuesAlong go f a k) ≡ valuesAlong go g a k
+  map-valuesAlong h g a zero e = refl
+  map-valuesAlong h g a (suc k) e = ap₂ _∷_ (e 0 (omega arith)) (map-valuesAlong h g (go a) k (λ j l. e (suc j) (omega arith)))
+
 -- ---- what is given of each element, one after another
 
 module _ {A B : Type 0} (f : A → List B) where

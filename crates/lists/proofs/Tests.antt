@@ -2,7 +2,9 @@
 use mathlib.Core.Path.{_≡_, refl, sym, subst}
 use mathlib.Core.Logic.{_⊎_, inl, inr}
 use mathlib.Core.Bool.{Bool, true, false, not, _&&_, _||_, false≢true}
-use lib.Dec.{T}
+use Prim.Native.Nat.{ℕ}
+use lib.Dec.{T, eqb, eqb→eq}
+use borrow.Author.Tests.{eq-eqb}
 
 pub →true : (a : Bool) → T a → a ≡ true
 →true true t = refl
@@ -50,3 +52,8 @@ equal-tests true true f g = refl
 equal-tests true false f g = absurd (f tt)
 equal-tests false true f g = absurd (g tt)
 equal-tests false false f g = refl
+
+-- equality of numbers is the same from both sides
+pub eqb-turned : (m n : ℕ) → eqb m n ≡ eqb n m
+eqb-turned m n =
+    equal-tests (eqb m n) (eqb n m) (λ h. true→ (eq-eqb n m (sym (eqb→eq m n h)))) (λ h. true→ (eq-eqb m n (sym (eqb→eq n m h))))

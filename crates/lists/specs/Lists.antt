@@ -1,8 +1,9 @@
--- Lists: every element has a property, or some element, is not among others, differs from the rest; tests of all or some elements; the
--- greatest of numbers; lists read place by place.
+-- Lists: every element has a property, or some element, is not among others, differs from the rest; tests of all or some elements, and the first
+-- that passes; the greatest of numbers; lists read place by place.
 use Prim.Native.Nat.{ℕ, zero, suc, max}
 use mathlib.Core.Logic.{_≢_, _⊎_}
 use mathlib.Core.Bool.{Bool, true, false, _&&_, _||_}
+use mathlib.Core.Option.{Option, none, some}
 use mathlib.Core.List.{List, [], _∷_, _++_}
 
 abbrev pub All : {A : Type 0} → (A → Type 0) → List A → Type 0
@@ -30,6 +31,11 @@ all t (x ∷ xs) = t x && all t xs
 abbrev pub any : {A : Type 0} → (A → Bool) → List A → Bool
 any t [] = false
 any t (x ∷ xs) = t x || any t xs
+
+-- the place of the first element that passes the test
+unfoldable pub lowest : {A : Type 0} → (A → Bool) → List A → Option ℕ
+lowest t [] = none
+lowest t (x ∷ xs) = elim (t x) [ true ↦ some 0 | false ↦ elim (lowest t xs) [ none ↦ none | some k ↦ some (suc k) ] ]
 
 -- two lists are equal, by a test of two elements
 abbrev pub eqList : {A : Type 0} → (A → A → Bool) → List A → List A → Bool

@@ -18,7 +18,7 @@ use Rattle.format.specs.Needs.{factsIn, pendingIn, needing, Refused}
 use Rattle.format.specs.Places.{constraintsFrom}
 use Rattle.format.proofs.Decoded.{at-least}
 use Rattle.format.proofs.Faults.{not-both}
-use Rattle.format.proofs.Places.{length-constraints}
+use Rattle.format.proofs.Places.{length-facts}
 use Rattle.question.specs.declared.Progress.{Progress}
 use Rattle.question.specs.Posed.{asked}
 use Rattle.delimiters.specs.declared.Claim.{Claim}
@@ -88,7 +88,7 @@ module _ (b : List ℕ) (s : Progress) where
     depth-is = first-depth claim (s .constraints);
     few = low-first claim at (s .constraints) (h .counted);
     rest = ap (λ f. needFrom b (asked b s) (openUnder claim f []) nothingMet r at)
-        (sym (length-constraints b (s .constraints) (constraintsFrom b (s .literals))));
+        (sym (length-facts b (s .constraints) (constraintsFrom b (s .literals))));
   }
 
   -- ---- a state is met

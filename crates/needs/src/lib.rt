@@ -12,7 +12,6 @@ ghost use Rattle.calculus.specs.Walk as calculus;
 ghost use Rattle.format.specs.Needs.{needed};
 ghost use Rattle.format.specs.Reading.{proving, taking};
 ghost use Rattle.format.specs.StepForms.{formFor, fitsForm, isChild};
-ghost use Rattle.format.specs.Question.{formManner};
 ghost use Rattle.question.specs.Posed.{asked, ReadTo};
 ghost use Rattle.steps.specs.Rules.{ruleNamed, shapeOf};
 ghost use Rattle.question.specs.declared.Progress.{Progress};
@@ -312,7 +311,7 @@ fn behind_claim(ticket: &[u8], s: Progress, claim: Claim, at: usize, r: usize) -
 
 // The claim and what stands behind it, where reading of the question ended. Record r stands there.
 fn behind_question(ticket: &[u8], s: Progress, at: usize, r: usize) -> Need
-    requires { ⌜ ReadTo (formManner .greatest) (now ticket) s at r ⌝ }
+    requires { ⌜ ReadTo (now ticket) s at r ⌝ }
     ensures { λ o. ⌜ needOf o ≡ needClaimed (now (ticket .entry)) s at r ⌝ }
 {
     let c = claim_fault(ticket, s, at);

@@ -19,7 +19,7 @@ use Rattle.format.proofs.Places.{text-at, length-texts}
 use Rattle.format.proofs.Standing.{literals-within, question-stands, question-short, question-few}
 use Rattle.question.specs.declared.Progress.{Progress}
 use Rattle.question.specs.Progress.{numbersOf, progressOf}
-use Rattle.question.specs.Posed.{asked, PosedTo}
+use Rattle.question.specs.Posed.{asked, Posed}
 use Rattle.question.proofs.Texts.{code-small}
 
 pub question-posed : (m : format.Manner)
@@ -27,7 +27,7 @@ pub question-posed : (m : format.Manner)
     → (b : List ℕ) (t : Progress) (to q : ℕ)
     → readIn m b ≡ format.Ended (progressOf b t) to q
     → headRank ≤ t .last
-    → PosedTo (m .greatest) b t
+    → Posed b t
 question-posed m l b t to q e h = record {
   to = to;
   stands = question-stands m b (numbersOf t) to q e .0;
@@ -45,7 +45,7 @@ literal-count b s = length-texts b (s .literals) literalsFrom
 pub literal-in : (b : List ℕ) (s : Progress) (ls : List ℕ) (x : ℕ) → literalIn (asked b s) ls x ≡ lowestLiteral ls x 0 (s .literals + 1)
 literal-in b s ls x = ap (λ (m : ℕ). lowestLiteral ls x 0 m) (ap suc (literal-count b s) ∙ sym (add-one (s .literals)))
 
-module _ {greatest : ℕ} {b : List ℕ} {s : Progress} (h : PosedTo greatest b s) where
+module _ {b : List ℕ} {s : Progress} (h : Posed b s) where
   pub some-character : 1 ≤ s .n
   some-character = h .stands .some-character (h .head)
 

@@ -12,7 +12,7 @@ abbrev pub mannerOf : Manner → format.Manner
 mannerOf m = record { limited = m .limited; greatest = m .greatest }
 
 abbrev pub numbersOf : Progress → Numbers
-numbersOf s = record { last = s .last; n = s .n; p = s .p; q = s .q; literals = s .literals; constraints = s .constraints }
+numbersOf s = record { last = s .last; n = s .n; p = s .p; q = s .q; literals = s .literals; constraints = s .constraints; extended = s .extended }
 
 abbrev pub progressOf : List ℕ → Progress → format.Progress
 progressOf b s = readTo b (numbersOf s)

@@ -1,30 +1,34 @@
-// The question: "Kinds 1 to 4 are the question". Checking and judging read it with this one reader, each in its manner, by position: what is kept of it is
-// numbers, and its literals and constraints stay where they stand in the bytes.
+// The question: "Kinds 1 to 4 are the question"; judging takes kind 11 besides (02, L3). Checking and judging read it with this one reader, each in its manner,
+// by position: what is kept of it is numbers, and its literals and constraints stay where they stand in the bytes.
 ghost use mathlib.Core.Path.{_≡_};
+ghost use mathlib.Core.Bool.{cond};
 ghost use Prim.Native.Nat.{_+_, _*_, _-_, _<_, _≤_};
 ghost use lib.ListN.{length};
+ghost use lib.Dec.{eqb};
 ghost use lib.IntN.{natAbs};
 ghost use Rattle.calculus.specs.Limits.{variableLimit, columnLimit};
 ghost use Rattle.calculus.specs.Alphabet.{allCharacters};
 ghost use Rattle.calculus.specs.Facts.{codeOf};
 ghost use Rattle.calculus.specs.Strings.{eqString, given};
-ghost use Rattle.format.specs.Fields.{u32s, signed, pairsAt};
+ghost use Rattle.format.specs.Fields.{u16, u32, u32s, signed, pairsAt};
 ghost use Rattle.format.specs.Records.{kind as kindAt, size as sizeAt};
-ghost use Rattle.format.specs.Question.{literalRank, rankOf, headFault, textOf, literalFault, stringRange, stringFault, coefficientInRange, pairInRange};
-ghost use Rattle.format.specs.Question.{rising, formRange, arithmeticFault, constraintFault, rankInPlace, questionBodyFault, roomFor, questionFault};
-ghost use Rattle.format.specs.Question.{questionAdvanced, ending, readBy};
+ghost use Rattle.format.specs.Question.{headRank, literalRank, rankOf, headFault, textOf, literalFault, stringRange, stringFault, coefficientInRange, pairInRange};
+ghost use Rattle.format.specs.Question.{rising, formRange, arithmeticFault, factFault, extendedRange, extendedFault, rankInPlace, questionBodyFault};
+ghost use Rattle.format.specs.Question.{roomFor, questionFault, questionAdvanced, ending, readBy};
 ghost use Rattle.format.specs.Places.{skip, texts, literalsFrom};
 ghost use Rattle.records.specs.Placed.{Placed};
 ghost use Rattle.question.specs.Progress.{mannerOf, progressOf, readingOf};
 ghost use Rattle.question.specs.Standing.{StandsTo, NextAt};
 ghost use Rattle.question.specs.Columns.{columnAt};
 ghost use Rattle.question.specs.Texts.{LiteralText};
+use encoding::IN_ORDER;
+use encoding::IS_DECIMAL;
 use encoding::IS_LITERAL;
+use encoding::IS_VALUE;
 use encoding::KIND_ARITHMETIC;
 use encoding::KIND_CLAIM;
 use encoding::KIND_END;
-use encoding::KIND_HEAD;
-use encoding::KIND_LITERAL;
+use encoding::KIND_EXTENDED;
 use encoding::KIND_STRING;
 use encoding::LEN;
 use encoding::NE;
@@ -287,22 +291,52 @@ fn arithmetic_fault(b: &[u8], c: usize, at: usize, size: usize) -> usize
 
 // The first of 5 and 6 that applies to the body of a constraint, over p string variables, k literals besides the empty one and c columns; 4 for a kind that is
 // no constraint's.
-fn constraint_fault(
-    b: &[u8],
-    p: usize,
-    k: usize,
-    c: usize,
-    kind: usize,
-    at: usize,
-    size: usize,
-) -> usize
+fn fact_fault(b: &[u8], p: usize, k: usize, c: usize, kind: usize, at: usize, size: usize) -> usize
     requires { ⌜ at + size ≤ length (now b) ⌝ }
-    ensures { λ r. ⌜ r ≡ constraintFault (now (b .entry)) p k c kind at size ⌝ }
+    ensures { λ r. ⌜ r ≡ factFault (now (b .entry)) p k c kind at size ⌝ }
 {
     match kind {
         KIND_STRING => string_fault(b, p, k, at, size),
         KIND_ARITHMETIC => arithmetic_fault(b, c, at, size),
         _ => 4,
+    }
+}
+
+// How many variables an operand of an extended constraint is one of: it is an integer variable in one function, and in the others a string variable.
+fn operand_limit(p: usize, q: usize, function: usize, integer: usize) -> usize
+    ensures { λ r. ⌜ r ≡ cond (eqb function integer) q p ⌝ }
+{
+    if function == integer { q } else { p }
+}
+
+// Whether an extended constraint's fields are in their ranges, over p string and q integer variables.
+fn extended_in_range(p: usize, q: usize, function: usize, x: usize, y: usize) -> bool
+    ensures { λ r. ⌜ r ≡ extendedRange p q function x y ⌝ }
+{
+    if IN_ORDER < function {
+        return false;
+    }
+    if operand_limit(p, q, function, IS_VALUE) <= x {
+        return false;
+    }
+    y < operand_limit(p, q, function, IS_DECIMAL)
+}
+
+// "kind 11 ..: u16 function, u16 a, u16 b"
+fn extended_fault(b: &[u8], p: usize, q: usize, at: usize, size: usize) -> usize
+    requires { ⌜ at + size ≤ length (now b) ⌝ }
+    ensures { λ r. ⌜ r ≡ extendedFault (now (b .entry)) p q at size ⌝ }
+{
+    if size != 6 {
+        return 5;
+    }
+    let function = u16_at(b, at);
+    let x = u16_at(b, at + 2);
+    let y = u16_at(b, at + 4);
+    if extended_in_range(p, q, function, x, y) {
+        0
+    } else {
+        6
     }
 }
 
@@ -313,21 +347,21 @@ pub const HEAD_RANK: usize = 1;
 
 const LITERAL_RANK: usize = 2;
 
-const STRING_RANK: usize = 3;
-
 const ARITHMETIC_RANK: usize = 4;
 
-// The rank of a kind, 0 for a kind that has no place in a question.
+const EXTENDED_RANK: usize = 5;
+
+// The rank of a kind, 0 for a kind that has no place in a question. Kinds 1 to 4 are their own ranks: a table of all kinds would cost each record a jump.
 fn rank_of(kind: usize) -> usize
     ensures { λ r. ⌜ r ≡ rankOf kind ⌝ }
 {
-    match kind {
-        KIND_HEAD => HEAD_RANK,
-        KIND_LITERAL => LITERAL_RANK,
-        KIND_STRING => STRING_RANK,
-        KIND_ARITHMETIC => ARITHMETIC_RANK,
-        _ => 0,
+    if kind <= KIND_ARITHMETIC {
+        return kind;
     }
+    if kind == KIND_EXTENDED {
+        return EXTENDED_RANK;
+    }
+    0
 }
 
 // How a question is read.
@@ -338,7 +372,7 @@ pub struct Manner {
     pub greatest: usize,
 }
 
-// Checking looks for 10, and judging: "2 to 7 and 10 for the question".
+// Checking looks for 10, and judging: "2 to 7 and 10 for the question". Judging alone takes kind 11.
 pub const CHECKING: Manner = Manner {
     limited: true,
     greatest: ARITHMETIC_RANK,
@@ -346,7 +380,7 @@ pub const CHECKING: Manner = Manner {
 
 pub const JUDGING: Manner = Manner {
     limited: true,
-    greatest: ARITHMETIC_RANK,
+    greatest: EXTENDED_RANK,
 };
 
 // What a ticket will need: "It never gives 10" (02, L2).
@@ -365,6 +399,7 @@ pub struct Progress {
     pub q: usize,
     pub literals: usize,
     pub constraints: usize,
+    pub extended: usize,
 }
 
 // "They stand in order of kind"; "4 when a kind is unknown or out of its place (a 16th literal .. included)": a record of a rank behind the rank last and so many
@@ -401,7 +436,8 @@ fn body_fault(b: &[u8], s: Progress, kind: usize, at: usize, size: usize) -> usi
     match rank_of(kind) {
         HEAD_RANK => head_fault(b, at, size),
         LITERAL_RANK => literal_fault(b, s.n, s.literals, at, size),
-        _ => constraint_fault(b, s.p, s.literals, s.q + (s.p + s.p), kind, at, size),
+        EXTENDED_RANK => extended_fault(b, s.p, s.q, at, size),
+        _ => fact_fault(b, s.p, s.literals, s.q + (s.p + s.p), kind, at, size),
     }
 }
 
@@ -420,7 +456,7 @@ fn has_room(limited: bool, rank: usize, constraints: usize) -> bool
 
 // The first number that applies to a whole record, 10 behind the others.
 fn record_fault(m: Manner, b: &[u8], s: Progress, kind: usize, at: usize, size: usize) -> usize
-    requires { ⌜ StandsTo (m .greatest) (now b) s at ⌝ }
+    requires { ⌜ StandsTo (now b) s at ⌝ }
     requires { ⌜ (kind ≡ kindAt (now b) at) × (size ≡ sizeAt (now b) at) × (at + 6 + size ≤ length (now b)) ⌝ }
     ensures { λ r. ⌜ r ≡ questionFault (mannerOf m) (now (b .entry)) (progressOf (now (b .entry)) s) at ⌝ }
 {
@@ -432,10 +468,37 @@ fn record_fault(m: Manner, b: &[u8], s: Progress, kind: usize, at: usize, size: 
     if f != 0 {
         return f;
     }
-    if has_room(m.limited, rank, s.constraints) {
+    if has_room(m.limited, rank, s.constraints + s.extended) {
         0
     } else {
         10
+    }
+}
+
+// What was read after the head with its body at a position.
+fn read_head(b: &[u8], body: usize) -> Progress
+    requires { ⌜ body + 8 ≤ length (now b) ⌝ }
+    ensures { λ r. ⌜ r ≡ record {
+      last = headRank;
+      n = u32 (now (b .entry)) body;
+      p = u16 (now (b .entry)) (body + 4);
+      q = u16 (now (b .entry)) (body + 6);
+      literals = 0;
+      constraints = 0;
+      extended = 0;
+    } ⌝ }
+{
+    let n = u32_at(b, body);
+    let p = u16_at(b, body + 4);
+    let q = u16_at(b, body + 6);
+    Progress {
+        last: HEAD_RANK,
+        n: n,
+        p: p,
+        q: q,
+        literals: 0,
+        constraints: 0,
+        extended: 0,
     }
 }
 
@@ -446,18 +509,7 @@ fn advance(b: &[u8], s: Progress, kind: usize, at: usize) -> Progress
 {
     let rank = rank_of(kind);
     if rank == HEAD_RANK {
-        let body = at + RECORD_HEAD;
-        let n = u32_at(b, body);
-        let p = u16_at(b, body + 4);
-        let q = u16_at(b, body + 6);
-        return Progress {
-            last: HEAD_RANK,
-            n: n,
-            p: p,
-            q: q,
-            literals: 0,
-            constraints: 0,
-        };
+        return read_head(b, at + RECORD_HEAD);
     }
     if rank == LITERAL_RANK {
         return Progress {
@@ -467,6 +519,18 @@ fn advance(b: &[u8], s: Progress, kind: usize, at: usize) -> Progress
             q: s.q,
             literals: s.literals + 1,
             constraints: s.constraints,
+            extended: s.extended,
+        };
+    }
+    if rank == EXTENDED_RANK {
+        return Progress {
+            last: EXTENDED_RANK,
+            n: s.n,
+            p: s.p,
+            q: s.q,
+            literals: s.literals,
+            constraints: s.constraints,
+            extended: s.extended + 1,
         };
     }
     Progress {
@@ -476,6 +540,7 @@ fn advance(b: &[u8], s: Progress, kind: usize, at: usize) -> Progress
         q: s.q,
         literals: s.literals,
         constraints: s.constraints + 1,
+        extended: s.extended,
     }
 }
 
@@ -512,6 +577,7 @@ pub fn read_question(m: Manner, b: &[u8]) -> Reading
         q: 0,
         literals: 0,
         constraints: 0,
+        extended: 0,
     };
     let mut at = 0;
     let mut r = 0;

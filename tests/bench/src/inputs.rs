@@ -3,8 +3,11 @@
 use compare::{proofs, writer};
 use nuldwich_reference::answer::{write_answer, Answer};
 use nuldwich_reference::derivation::Derivation;
+use nuldwich_reference::extended::Extended::{self, Before, Lower, Read, Upper, Written};
+use nuldwich_reference::extended::{decimal, lower, upper};
 use nuldwich_reference::facts::Relation::{AtLeast, Equal};
 use nuldwich_reference::facts::{Fact, Row};
+use nuldwich_reference::leaf::VALUE_LIMIT;
 use nuldwich_reference::question::{Question, MOST_FACTS};
 use nuldwich_reference::steps::{Rule, Step};
 
@@ -18,7 +21,10 @@ pub struct Kind {
 }
 
 const STEPS: &[u16] = &[6];
-const CONSTRAINTS: &[u16] = &[3, 4];
+const CONSTRAINTS: &[u16] = &[3, 4, 11];
+
+/// How many constraints of kind 11 a measured question has.
+const EXTENDED: &[usize] = &[32, 128];
 
 /// A kind whose size is a number of steps.
 const fn steps(name: &'static str, sizes: &'static [usize], make: fn(usize) -> Vec<Vec<u8>>) -> Kind {
@@ -53,8 +59,16 @@ pub const TO_CHECK: [Kind; 11] = [
 pub const TO_NEED: [Kind; 1] = [steps("L-Valids, all pending", &[185, 371, 743, 1_487], pending)];
 
 /// What is measured of judging.
-pub const TO_JUDGE: [Kind; 3] = [
+pub const TO_JUDGE: [Kind; 9] = [
     constraints("rows of 40 columns", &[16, 32, 64, 128], judged_rows),
+    constraints("upper case of 64 characters", EXTENDED, |count| judged_extended(count, |a, b| Upper { a, b })),
+    constraints("lower case of 64 characters", EXTENDED, |count| judged_extended(count, |a, b| Lower { a, b })),
+    constraints("9 digits read", EXTENDED, |count| judged_digits(count, |string, integer| Read { integer, string })),
+    constraints("64 characters read", EXTENDED, judged_long_numerals),
+    constraints("9 digits written", EXTENDED, |count| {
+        judged_digits(count, |string, integer| Written { string, integer })
+    }),
+    constraints("order of 64 characters", EXTENDED, |count| judged_extended(count, |a, b| Before { a, b })),
     SMALLEST_REFUSAL,
     constraints("smallest acceptance", &[0], smallest_judged),
 ];
@@ -295,6 +309,38 @@ fn judged(question: &Question, strings: Vec<Vec<u32>>, integers: Vec<i128>) -> V
 /// Rows of 40 columns and an answer of 16 strings of 64 characters.
 fn judged_rows(constraints: usize) -> Vec<Vec<u8>> {
     judged(&rows_of_40(constraints), vec![vec![5; 64]; 16], vec![7; 16])
+}
+
+/// A question of so many constraints of kind 11.
+fn extended(count: usize, constraint: impl Fn(usize) -> Extended) -> Question {
+    Question { extended: (0..count).map(constraint).collect(), ..frame(128, 16, 16) }
+}
+
+/// Constraints of one function between eight strings of 64 characters and the eight of both cases that they are made of, all met; in
+/// the order they are equal, so that every character is looked at.
+fn judged_extended(count: usize, constraint: fn(usize, usize) -> Extended) -> Vec<Vec<u8>> {
+    let question = extended(count, |number| constraint(number % 8, 8 + number % 8));
+    let turned = match question.extended[0] {
+        Upper { .. } => upper,
+        Lower { .. } => lower,
+        _ => <[u32]>::to_vec,
+    };
+    let mixed = |x: u32| (0..64).map(|place| 65 + 32 * (place % 2) + (place + x) % 26).collect::<Vec<u32>>();
+    let strings = (0..16).map(|x| if x < 8 { turned(&mixed(x)) } else { mixed(x - 8) }).collect();
+    judged(&question, strings, vec![0; 16])
+}
+
+/// Constraints of one function between 16 numerals of nine digits and their values; the greatest value is the only one of nine.
+fn judged_digits(count: usize, constraint: fn(usize, usize) -> Extended) -> Vec<Vec<u8>> {
+    let question = extended(count, |number| constraint(number % 16, number % 16));
+    judged(&question, vec![decimal(VALUE_LIMIT); 16], vec![VALUE_LIMIT; 16])
+}
+
+/// Texts of 64 characters that are not numeric by their last.
+fn judged_long_numerals(count: usize) -> Vec<Vec<u8>> {
+    let question = extended(count, |number| Read { integer: number % 16, string: number % 16 });
+    let text: Vec<u32> = (0..64).map(|place| if place < 63 { 57 } else { 58 }).collect();
+    judged(&question, vec![text; 16], vec![-1; 16])
 }
 
 /// No variables, no constraints, an answer without values.

@@ -32,9 +32,14 @@ impl Grown {
         values
     }
 
+    /// The assignment by itself.
+    pub fn assignment(&self) -> Answer {
+        Answer { strings: self.strings.clone(), integers: self.integers.clone() }
+    }
+
     /// The assignment as an answer.
     pub fn answer(&self) -> Vec<u8> {
-        write_answer(&Answer { strings: self.strings.clone(), integers: self.integers.clone() })
+        write_answer(&self.assignment())
     }
 
     /// Whether a fact holds for the assignment.
@@ -51,10 +56,16 @@ impl Grown {
 /// A question with its assignment.
 pub fn grow(random: &mut Random, wish: &Wish) -> Grown {
     let mut grown = grow_variables(random, wish.longest);
+    grow_constraints(random, &mut grown, wish);
+    grown
+}
+
+/// Adds constraints of kinds 3 and 4 to a question.
+pub fn grow_constraints(random: &mut Random, grown: &mut Grown, wish: &Wish) {
     let strings = if grown.question.p > 0 { random.below(wish.constraints + 1) } else { 0 };
     for _ in 0..strings {
         let truth = random.chance(wish.true_percent);
-        let fact = string_fact(random, &grown, truth);
+        let fact = string_fact(random, grown, truth);
         grown.question.constraints.extend(fact);
     }
     for _ in strings..wish.constraints {
@@ -62,7 +73,6 @@ pub fn grow(random: &mut Random, wish: &Wish) -> Grown {
         let fact = arithmetic_fact(random, &grown.values(), truth);
         grown.question.constraints.push(fact);
     }
-    grown
 }
 
 /// A question without constraints, with its assignment.

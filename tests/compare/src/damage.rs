@@ -29,7 +29,7 @@ fn damage_once(random: &mut Random, bytes: &[u8]) -> Vec<u8> {
         return damage_bytes(random, bytes);
     }
     let at = random_part(random, &parts);
-    match random.below(16) {
+    match random.below(17) {
         0..=7 => change_field(random, &mut parts[at].body),
         8 => drop(parts.remove(at)),
         9 => parts.insert(at, parts[at].clone()),
@@ -47,6 +47,7 @@ fn damage_once(random: &mut Random, bytes: &[u8]) -> Vec<u8> {
             let other = random.below(parts.len());
             parts[at].body = parts[other].body.clone();
         }
+        15 => insert_extended(random, &mut parts),
         _ => {
             let other = random.below(parts.len());
             let moved = parts.remove(at);
@@ -54,6 +55,16 @@ fn damage_once(random: &mut Random, bytes: &[u8]) -> Vec<u8> {
         }
     }
     parts.iter().flat_map(|part| record(part.kind, &part.body)).collect()
+}
+
+/// Puts a record of kind 11 behind the question, or anywhere; judging alone may take it.
+fn insert_extended(random: &mut Random, parts: &mut Vec<Part>) {
+    let question = parts.iter().take_while(|part| (1..=4).contains(&part.kind)).count();
+    let at = if random.chance(70) { question } else { random.below(parts.len() + 1) };
+    let fields = [random.below(6), random.below(3), random.below(3)];
+    let mut body: Vec<u8> = fields.iter().flat_map(|field| (*field as u16).to_le_bytes()).collect();
+    body.resize(random.pick(&[6, 6, 6, 6, 6, 0, 4, 5, 7, 12]), 255);
+    parts.insert(at, Part { kind: 11, body });
 }
 
 /// A record, a step or model more often than not.

@@ -1,17 +1,21 @@
 //! Judging: questions and answers, grown and damaged.
 
-use crate::assignments::{grow, small_or_edge, Grown, Wish};
+use crate::assignments::{grow_constraints, grow_variables, small_or_edge, Grown, Wish};
 use crate::damage::damage;
+use crate::extended;
 use crate::operation::{Buffers, Entry, Input, Operation, Reply, Sizes};
 use crate::random::Random;
 use crate::report::{hex, refused, Report};
 use crate::writer;
 use nuldwich_reference::judging::unmet;
-use nuldwich_reference::records::record;
+use nuldwich_reference::records::{record, u16_at, whole_records};
 use nuldwich_reference::{judge as reference, Judgement, Side};
 
 /// How many questions with answers are grown.
 const GROWN: u64 = 60_000;
+
+/// For how many of a hundred questions constraints of kind 11 are grown; a third has some, as they need variables.
+const WITH_EXTENDED: usize = 45;
 
 /// How many of a hundred inputs have several unmet constraints at the least; there the lowest one is not the only choice.
 const LEAST_SEVERAL: usize = 20;
@@ -66,14 +70,16 @@ impl Operation for Judge {
         }
     }
 
+    /// The outcome; where the constraint named, or the last one of those met, is of kind 11, with its function.
     fn label(&self, parts: &[Vec<u8>], due: &Reply) -> String {
-        match due {
-            [0, ..] => "all met".to_string(),
-            [UNMET, ..] => match unmet(&parts[0], &parts[1]).as_deref() {
-                Ok([_]) => "unmet one".to_string(),
-                _ => "unmet several".to_string(),
-            },
-            [number, ..] => refused(*number),
+        match *due {
+            [0, ..] => format!("all met{}", with_function(last_constraint(&parts[0]))),
+            [UNMET, _, _, offset, _] => {
+                let several = unmet(&parts[0], &parts[1]).is_ok_and(|numbers| numbers.len() > 1);
+                let function = with_function(&parts[0][offset as usize..]);
+                format!("unmet {}{function}", if several { "several" } else { "one" })
+            }
+            [number, ..] => refused(number),
         }
     }
 
@@ -90,7 +96,10 @@ impl Operation for Judge {
         if 100 * report.counted("unmet several") < LEAST_SEVERAL * report.total() {
             report.fail("too few inputs with several unmet constraints");
         }
-        report.demand_met(&["all met", "unmet one", "unmet several"].map(str::to_string));
+        for outcome in ["all met", "unmet one", "unmet several"] {
+            report.demand_met(&[outcome.to_string()]);
+            report.demand_met(&[0, 1, 2, 3, 4].map(|function| format!("{outcome}, function {function}")));
+        }
         report.demand_met(&[2, 3, 4, 5, 6, 7, 10, 15, 16].map(refused));
     }
 }
@@ -110,6 +119,21 @@ fn judge(parts: &[Vec<u8>], _: &mut Buffers) -> Reply {
     [number, record as u64, side, part.offset as u64, part.length as u64]
 }
 
+/// The function of a record of kind 11, as words behind an outcome; nothing for other bytes.
+fn with_function(record: &[u8]) -> String {
+    if record.len() >= 12 && u16_at(record, 4) == 11 {
+        format!(", function {}", u16_at(record, 6))
+    } else {
+        String::new()
+    }
+}
+
+/// The last record of a question before its claim or end.
+fn last_constraint(question: &[u8]) -> &[u8] {
+    let records = whole_records(question).into_iter().take_while(|record| ![5, 8].contains(&record.kind));
+    records.last().map_or(&[], |record| &question[record.end - 6 - record.body.len()..record.end])
+}
+
 /// A question and an answer, right or wrong in one of many ways.
 fn grow_case(random: &mut Random) -> (Vec<u8>, Vec<u8>) {
     let constraints = match random.below(40) {
@@ -119,7 +143,7 @@ fn grow_case(random: &mut Random) -> (Vec<u8>, Vec<u8>) {
         _ => random.below(8),
     };
     let true_percent = random.pick(&[100, 100, 95, 80, 50]);
-    let mut grown = grow(random, &Wish { constraints, true_percent, longest: 64 });
+    let mut grown = grow_values(random, &Wish { constraints, true_percent, longest: 64 });
     let mut question = writer::question(&grown.question);
     end_question(random, &mut question);
     let mut answer = grown.answer();
@@ -133,6 +157,24 @@ fn grow_case(random: &mut Random) -> (Vec<u8>, Vec<u8>) {
         _ => question = damage(random, &question),
     }
     (question, answer)
+}
+
+/// A question with its assignment. Constraints of kind 11 come first, as values are changed for them; they are the lowest that are
+/// not met only where all others are.
+fn grow_values(random: &mut Random, wish: &Wish) -> Grown {
+    let mut grown = grow_variables(random, wish.longest);
+    if !random.chance(WITH_EXTENDED) {
+        grow_constraints(random, &mut grown, wish);
+        return grown;
+    }
+    let many = 1 + random.below(wish.constraints + 1);
+    let count = random.pick(&[1, 2, 3, 4, many]);
+    let extended_true = random.pick(&[100, 100, 70, 0]);
+    extended::grow(random, &mut grown, count, extended_true);
+    let constraints = wish.constraints.saturating_sub(grown.question.extended.len());
+    let true_percent = if random.chance(40) { 100 } else { wish.true_percent };
+    grow_constraints(random, &mut grown, &Wish { constraints, true_percent, ..*wish });
+    grown
 }
 
 /// Ends a question at a claim or an end record, whole or not, with or without bytes behind it.
@@ -160,10 +202,11 @@ fn other_values(random: &mut Random, grown: &mut Grown) -> Vec<u8> {
     let (p, q) = (grown.question.p, grown.question.q);
     if p > 0 && (q == 0 || random.chance(60)) {
         let x = random.below(p);
-        match random.below(4) {
+        match random.below(5) {
             0 => grown.strings[x] = grown.strings[random.below(p)].clone(),
             1 => grown.strings[x] = grown.question.literals[random.below(grown.question.literals.len())].clone(),
             2 => drop(grown.strings[x].pop()),
+            3 => turn_character(random, &mut grown.strings[x], grown.question.n),
             _ => {
                 grown.strings[x].truncate(63);
                 grown.strings[x].push(random.below(grown.question.n as usize) as u32);
@@ -175,6 +218,14 @@ fn other_values(random: &mut Random, grown: &mut Grown) -> Vec<u8> {
         grown.integers[i] = (grown.integers[i] + step).clamp(-100_000_000, 100_000_000);
     }
     grown.answer()
+}
+
+/// Changes a character by one, or by what is between a letter's cases.
+fn turn_character(random: &mut Random, text: &mut [u32], n: u32) {
+    if !text.is_empty() {
+        let character = &mut text[random.below(text.len())];
+        *character = character.saturating_add_signed(random.pick(&[1, -1, 32, -32])).min(n - 1);
+    }
 }
 
 /// No answer at all, or one with many bytes behind it.

@@ -56,7 +56,7 @@ impl Report {
         println!("{title}: {} inputs", self.total());
         for (label, count) in &self.outcomes {
             let share = 100.0 * *count as f64 / self.total() as f64;
-            println!("  {label:<18} {count:>7}  {share:5.1} %");
+            println!("  {label:<26} {count:>7}  {share:5.1} %");
         }
     }
 }

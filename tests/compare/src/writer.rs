@@ -1,5 +1,6 @@
 //! Writes the records of tickets and questions from decoded values.
 
+use nuldwich_reference::extended::Extended;
 use nuldwich_reference::facts::{Fact, Relation, Row};
 use nuldwich_reference::question::Question;
 use nuldwich_reference::records::record;
@@ -69,11 +70,24 @@ pub fn constraint(fact: &Fact) -> Vec<u8> {
     }
 }
 
-/// The records of a question: head, literals, constraints.
+/// A record of kind 11.
+pub fn extended(extended: &Extended) -> Vec<u8> {
+    let (function, a, b) = match *extended {
+        Extended::Upper { a, b } => (0, a, b),
+        Extended::Lower { a, b } => (1, a, b),
+        Extended::Read { integer, string } => (2, integer, string),
+        Extended::Written { string, integer } => (3, string, integer),
+        Extended::Before { a, b } => (4, a, b),
+    };
+    Body::default().u16(function).u16(a).u16(b).record(11)
+}
+
+/// The records of a question: head, literals, constraints, those of kind 11 last.
 pub fn question(question: &Question) -> Vec<u8> {
     let mut bytes = head(question.n, question.p, question.q);
     question.literals.iter().skip(1).for_each(|text| bytes.extend(literal(text)));
     question.constraints.iter().for_each(|fact| bytes.extend(constraint(fact)));
+    question.extended.iter().for_each(|constraint| bytes.extend(extended(constraint)));
     bytes
 }
 

@@ -63,8 +63,9 @@ pub fn unmet(question: &[u8], answer: &[u8]) -> Result<Vec<usize>, (Refusal, usi
     let question = read_question(question)?;
     let answer = read_answer(&question, answer)?;
     let values = column_values(&answer);
-    let constraints = question.constraints.iter().enumerate();
-    Ok(constraints.filter(|(_, fact)| !meets(&question, &answer, &values, fact)).map(|(number, _)| number).collect())
+    let facts = question.constraints.iter().map(|fact| meets(&question, &answer, &values, fact));
+    let met = facts.chain(question.extended.iter().map(|extended| extended.holds(&answer)));
+    Ok(met.enumerate().filter(|(_, met)| !met).map(|(number, _)| number).collect())
 }
 
 /// "the record concerned, taken from the question for an unmet constraint or from the answer for 15 and 16. For 15 that part
@@ -78,9 +79,10 @@ fn shown(question: &[u8], answer: &[u8], judgement: Judgement) -> Part {
     }
 }
 
-/// "3 string constraint", "4 arithmetic constraint": their records in order; any behind the question's end come last.
+/// "3 string constraint", "4 arithmetic constraint", "kind 11 .., counted as constraints": their records in order; any behind
+/// the question's end come last.
 fn constraint_records(question: &[u8]) -> Vec<Record<'_>> {
-    whole_records(question).into_iter().filter(|record| [3, 4].contains(&record.kind)).collect()
+    whole_records(question).into_iter().filter(|record| [3, 4, 11].contains(&record.kind)).collect()
 }
 
 /// "reading ends at the six leading bytes of the first claim or end record; one with no head before it gives 4"
@@ -97,7 +99,7 @@ pub fn read_question(bytes: &[u8]) -> Result<Question, (Refusal, usize)> {
             return Ok(question);
         }
         let record = record_at(bytes, start).ok_or(refused(3))?;
-        question.take(kind, record.body).map_err(refused)?;
+        question.take_judged(kind, record.body).map_err(refused)?;
         start = record.end;
         number += 1;
     }
@@ -176,5 +178,57 @@ mod tests {
         let cut = question()[..70].to_vec();
         let nothing = Part { side: Side::Question, offset: 0, length: 0 };
         assert_eq!(judge(&cut, &[]), (Judgement::Refused { number: 3, record: 5 }, nothing));
+    }
+    /// The front, x0 ≈ literal 1, the records given and an end.
+    fn ended(records: &[Vec<u8>]) -> Vec<u8> {
+        [front(), record(3, &[2, 0, 0, 0, 1, 0]), records.concat(), record(8, &[])].concat()
+    }
+
+    /// Kind 11: function, a and b.
+    fn extended(function: u8, a: u8, b: u8) -> Vec<u8> {
+        record(11, &[function, 0, a, 0, b, 0])
+    }
+
+    #[test]
+    fn kind_11_is_counted_behind_the_other_constraints() {
+        let equal = record(4, &[1, 0, 0, 0, 0, 0]);
+        let question = ended(&[equal, extended(4, 1, 0), extended(4, 0, 1), extended(2, 0, 0)]);
+        let part = |offset| Part { side: Side::Question, offset, length: 12 };
+        assert_eq!(judge(&question, &answer(97, 0, -1)), (Judgement::Unmet(3), part(60)));
+        assert_eq!(unmet(&question, &answer(97, 0, 5)), Ok(vec![3, 4]));
+        let only = [front(), extended(0, 0, 0), record(5, &[1, 0])].concat();
+        assert_eq!(judge(&only, &answer(97, 0, 5)), (Judgement::Unmet(0), part(24)));
+        assert_eq!(unmet(&only, &answer(65, 0, 5)), Ok(vec![]));
+    }
+
+    #[test]
+    fn kind_11_is_refused_by_its_place_length_and_ranges() {
+        let refusal = |records: &[Vec<u8>]| unmet(&ended(records), &answer(97, 0, 5));
+        let behind = [record(2, &[9, 0, 0, 0]), record(3, &[0; 6]), record(4, &[0; 6]), record(9, &[])];
+        for other in behind {
+            assert_eq!(refusal(&[extended(4, 0, 0), other]), Err((4, 4)));
+        }
+        for length in [0, 4, 5, 7, 12] {
+            assert_eq!(refusal(&[record(11, &vec![255; length])]), Err((5, 3)));
+        }
+        let outside = [
+            (0, 2, 0),
+            (0, 0, 2),
+            (1, 2, 0),
+            (1, 0, 2),
+            (2, 1, 0),
+            (2, 0, 2),
+            (3, 2, 0),
+            (3, 0, 1),
+            (4, 2, 0),
+            (4, 0, 2),
+            (5, 0, 0),
+        ];
+        for (function, a, b) in outside {
+            assert_eq!(refusal(&[extended(function, a, b)]), Err((6, 3)));
+        }
+        assert_eq!(judge(&[extended(4, 0, 0), front()].concat(), &[]).0, Judgement::Refused { number: 4, record: 0 });
+        assert!(refusal(&vec![extended(4, 0, 0); 127]).is_ok());
+        assert_eq!(refusal(&vec![extended(4, 0, 0); 128]), Err((10, 130)));
     }
 }

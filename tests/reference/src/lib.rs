@@ -6,6 +6,7 @@ pub mod answer;
 pub mod checking;
 pub mod classes;
 pub mod derivation;
+pub mod extended;
 pub mod facts;
 pub mod judging;
 pub mod leaf;

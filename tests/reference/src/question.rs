@@ -1,5 +1,6 @@
-//! The question: kinds 1 to 4 of a ticket.
+//! The question: kinds 1 to 4 of a ticket, and kind 11 where it is judged.
 
+use crate::extended::Extended;
 use crate::facts::{Fact, Relation, Row};
 use crate::records::{i32_at, u16_at, u32_at};
 use crate::{demand, Refusal};
@@ -15,6 +16,8 @@ pub struct Question {
     pub q: usize,
     pub literals: Vec<Vec<u32>>,
     pub constraints: Vec<Fact>,
+    /// "kind 11 after kind 4, counted as constraints": those that follow.
+    pub extended: Vec<Extended>,
     pub last_kind: u16,
 }
 
@@ -43,6 +46,17 @@ impl Question {
     pub fn take(&mut self, kind: u16, body: &[u8]) -> Result<(), Refusal> {
         self.read(kind, body)?;
         demand(self.constraints.len() <= MOST_FACTS, 10)
+    }
+
+    /// Takes one record of a question that is judged, where kind 11 may stand: 4 to 7 and 10, in this order. "Checking and the
+    /// operation of L2 still refuse kind 11 with 4."
+    pub fn take_judged(&mut self, kind: u16, body: &[u8]) -> Result<(), Refusal> {
+        if kind == 11 {
+            self.take_extended(body)?;
+        } else {
+            self.read(kind, body)?;
+        }
+        demand(self.constraints.len() + self.extended.len() <= MOST_FACTS, 10)
     }
 
     /// Takes one record of a question that may have any number of constraints: 4 to 7, in this order.
@@ -115,6 +129,26 @@ impl Question {
         };
         let row = self.read_form(&body[2..])?;
         self.constraints.push(Fact::Arithmetic(relation, row));
+        Ok(())
+    }
+
+    /// "kind 11 after kind 4 ..: u16 function, u16 a, u16 b". Kinds 3 and 4 may be missing, and none may follow.
+    fn take_extended(&mut self, body: &[u8]) -> Result<(), Refusal> {
+        demand(self.has_head(), 4)?;
+        self.last_kind = 11;
+        demand(body.len() == 6, 5)?;
+        let a = usize::from(u16_at(body, 2));
+        let b = usize::from(u16_at(body, 4));
+        let (extended, choices_of_a, choices_of_b) = match u16_at(body, 0) {
+            0 => (Extended::Upper { a, b }, self.p, self.p),
+            1 => (Extended::Lower { a, b }, self.p, self.p),
+            2 => (Extended::Read { integer: a, string: b }, self.q, self.p),
+            3 => (Extended::Written { string: a, integer: b }, self.p, self.q),
+            4 => (Extended::Before { a, b }, self.p, self.p),
+            _ => return Err(6),
+        };
+        demand(a < choices_of_a && b < choices_of_b, 6)?;
+        self.extended.push(extended);
         Ok(())
     }
 

@@ -51,7 +51,8 @@ pub fn out_of_place(scene: &Scene, record: &Record) -> (String, Vec<String>) {
     let after = scene.bytes.len() - record.end;
     let ticket = scene.ticket;
     let Some(name) = kind_name(record.kind) else {
-        let what = "the kinds of a ticket are 1 to 8".to_string();
+        let judged = if record.kind == 11 { "; kind 11, the extended constraint, is for judging alone" } else { "" };
+        let what = format!("the kinds of a ticket are 1 to 8{judged}");
         let kind = words::number(i128::from(record.kind));
         return (format!("kind {kind} is unknown"), vec![what, due(scene)]);
     };

@@ -10,13 +10,13 @@ use native.Mathlib.Numerals.{add-one}
 use native.Mathlib.Omega.{arith}
 use Rattle.calculus.specs.Facts.{Fact}
 use Rattle.format.proofs.Places.{skip-snoc}
-use Rattle.format.specs.Places.{constraintsAt, skip}
+use Rattle.format.specs.Places.{factsAt, skip}
 use Rattle.calculus.specs.Limits.{variableLimit, literalLimit, columnLimit}
-use Rattle.format.specs.Question.{checkingManner, constraintFault, constraintOf}
+use Rattle.format.specs.Question.{factFault, bodyFact}
 use Rattle.format.specs.Records.{kind, next, size}
 use Rattle.question.proofs.Posed.{literals-whole}
 use Rattle.question.specs.Posed.{asked}
-use Rattle.format.specs.Standing.{ConstraintAt}
+use Rattle.format.specs.Standing.{FactAt}
 use Rattle.rows.proofs.Small.{fine-put, fine-start}
 use Rattle.rows.specs.Rows.{branchOf}
 use Rattle.rows.specs.Work.{Fine}
@@ -28,7 +28,7 @@ use Rattle.constraints.proofs.load.Tie as tie
 abbrev Inv-loop : tie.InvT-loop
 Inv-loop ticket work₀ count at₀ k₀ work at k =
     (k ≤ count) × (at ≡ skip ticket k at₀) × (length work ≡ length work₀) × Fine work k
-    × (branchOf work k ++ constraintsAt ticket (count - k) at ≡ constraintsAt ticket count at₀)
+    × (branchOf work k ++ factsAt ticket (count - k) at ≡ factsAt ticket count at₀)
 
 abbrev μ-loop : tie.MeasureT-loop
 μ-loop ticket work₀ count at₀ k₀ work at k = count - k
@@ -46,7 +46,7 @@ loop-holds c =
 -- the record in turn
 stands : (c : tie.In-loop Inv-loop μ-loop) →
     let a = c .before .before .before .before .args in
-    ConstraintAt (checkingManner .greatest) (now (a .ticket)) (a .s .p) (a .s .q) (a .s .literals) (c .before .loop .at)
+    FactAt (now (a .ticket)) (a .s .p) (a .s .q) (a .s .literals) (c .before .loop .at)
 stands c =
     let s = c .before .before .before .before in
     rw (c .before .loop .inv .1, c .before .before .behind-literals .ensures) (s .pre .0 .stands .constraints-stand (c .before .loop .k) (omega arith))
@@ -54,7 +54,7 @@ stands c =
 formed : (c : tie.In-loop Inv-loop μ-loop) →
     let b = now (c .before .before .before .before .args .ticket) in
     let at' = c .before .loop .at in
-    constraintFault b variableLimit literalLimit columnLimit (kind b at') (at' + 6) (size b at') ≡ 0
+    factFault b variableLimit literalLimit columnLimit (kind b at') (at' + 6) (size b at') ≡ 0
 formed c =
     let h = c .before .before .before .before .pre .0 .stands in
     constraint-more _ _ _ _ _ _ _ (h .few-strings) (h .few-literals) (omega (arith, h .few-strings, h .few-integers)) (stands c .formed)
@@ -104,11 +104,11 @@ loop-again c =
     let b : List ℕ = now (s .args .ticket) in
     let from : ℕ = c .before .before .before .before .before .before .before .behind-literals .result in
     let v : List ℤ = c .before .put-constraint .last .0 in
-    let f : Fact = constraintOf b (kind b (l .at)) (l .at + 6) (size b (l .at)) in
+    let f : Fact = bodyFact b (kind b (l .at)) (l .at + 6) (size b (l .at)) in
     let size-is : c .before .before .before .before .u32-at .result ≡ size b (l .at) = c .before .before .before .before .u32-at .ensures .0 in
     let put : branchOf v (l .k + 1) ≡ branchOf (l .work) (l .k) ++ (f ∷ []) =
     c .before .put-constraint .ensures
-    ∙ ap₂ (λ (k m : ℕ). branchOf (l .work) (l .k) ++ (constraintOf b k (l .at + 6) m ∷ [])) (c .before .before .before .u16-at .ensures .0) size-is in
+    ∙ ap₂ (λ (k m : ℕ). branchOf (l .work) (l .k) ++ (bodyFact b k (l .at + 6) m ∷ [])) (c .before .before .before .u16-at .ensures .0) size-is in
     let kept : length v ≡ length (l .work) = c .before .put-constraint .kept .0 in
     let less : s .args .s .constraints - l .k - 1 ≡ s .args .s .constraints - (l .k + 1) = omega arith in
     let few = s .pre .0 .few-constraints in
@@ -130,9 +130,9 @@ returns c =
     let l = c .before .loop in
     let s = c .before .before .before .before .args in
     let e : l .k ≡ s .s .constraints = omega arith in
-    let all : branchOf (l .work) (l .k) ≡ constraintsAt (now (s .ticket)) (s .s .constraints) (c .before .before .behind-literals .result) =
+    let all : branchOf (l .work) (l .k) ≡ factsAt (now (s .ticket)) (s .s .constraints) (c .before .before .behind-literals .result) =
     sym (loaded-all (now (s .ticket)) (l .at) (s .s .constraints - l .k) (branchOf (l .work) (l .k)) (omega arith)) ∙ l .inv .4 in (
-      ap (branchOf (l .work)) (sym e) ∙ all ∙ ap (constraintsAt (now (s .ticket)) (s .s .constraints)) (c .before .before .behind-literals .ensures),
+      ap (branchOf (l .work)) (sym e) ∙ all ∙ ap (factsAt (now (s .ticket)) (s .s .constraints)) (c .before .before .behind-literals .ensures),
       subst (Fine (l .work)) e (l .inv .3),
     )
 

@@ -10,7 +10,7 @@ use Rattle.calculus.specs.Limits.{variableLimit, literalLimit, columnLimit}
 use Rattle.constraints.proofs.Ranges.{form-rises, second-small}
 use Rattle.question.proofs.Constraints.{of-strings, of-columns, of-none, six-bytes}
 use Rattle.format.specs.Fields.{u16}
-use Rattle.format.specs.Question.{constraintOf, formOf, relationOf, stringFact}
+use Rattle.format.specs.Question.{bodyFact, formOf, relationOf, stringFact}
 use Rattle.format.proofs.RecordFaults.{StringConstraint, ArithmeticConstraint}
 use Rattle.rows.specs.Rows.{branchOf}
 use Rattle.constraints.proofs.put_constraint.Statement.{statement}
@@ -21,14 +21,14 @@ text : (c : tie.At-match-keys1) →
     let s = c .before .before .before .args in
     let b = now (s .b) in
     StringConstraint variableLimit literalLimit (s .size) (u16 b (s .at)) (u16 b (s .at + 2)) (u16 b (s .at + 4))
-    × (constraintOf b (s .kind) (s .at) (s .size) ≡ stringFact (u16 b (s .at)) (u16 b (s .at + 2)) (u16 b (s .at + 4)))
+    × (bodyFact b (s .kind) (s .at) (s .size) ≡ stringFact (u16 b (s .at)) (u16 b (s .at + 2)) (u16 b (s .at + 4)))
 text c = let s = c .before .before .before in of-strings (now (s .args .b)) _ _ _ (s .args .kind) (s .args .at) (s .args .size) (s .pre .1 .1) (c .match .keys1)
 
 form : (c : tie.At-match-keys2) →
     let s = c .before .before .before .args in
     let b = now (s .b) in
     ArithmeticConstraint b columnLimit (s .at) (s .size)
-    × (constraintOf b (s .kind) (s .at) (s .size) ≡ arithmetic (relationOf (u16 b (s .at))) (formOf b (s .at + 2) (s .size / 6 - 1)))
+    × (bodyFact b (s .kind) (s .at) (s .size) ≡ arithmetic (relationOf (u16 b (s .at))) (formOf b (s .at + 2) (s .size / 6 - 1)))
 form c = let s = c .before .before .before in of-columns (now (s .args .b)) _ _ _ (s .args .kind) (s .args .at) (s .args .size) (s .pre .1 .1) (c .match .keys2)
 
 u16-at-requires : tie.Need-u16-at-requires

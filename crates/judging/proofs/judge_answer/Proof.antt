@@ -7,7 +7,7 @@ use Rattle.format.specs.Question.{judgingManner}
 use Rattle.question.proofs.Posed.{question-posed}
 use Rattle.judging.proofs.Outcomes.{headed, headless, stopped}
 use Rattle.question.specs.Progress.{readingOf}
-use Rattle.question.specs.Posed.{asked}
+use Rattle.question.specs.Posed.{asked, extendedAsked}
 use Rattle.judging.proofs.judge_answer.Statement.{statement}
 use Rattle.judging.proofs.judge_answer.Tie as tie
 
@@ -50,7 +50,7 @@ returns-2 c =
     (omega arith))
 
 returns-3 : tie.Need-returns-3
-unfolding readingOf asked
+unfolding readingOf asked extendedAsked
 returns-3 c =
     let read-question = c .before .before .before .before .before .read-question in
     let s = c .before .before .before .before .before .before .before .before .args in

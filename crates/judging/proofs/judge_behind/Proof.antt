@@ -5,15 +5,15 @@ use denote.Ref.{now}
 use lib.ListN.{length}
 use mathlib.Core.Bool.{true}
 use mathlib.Core.Option.{none, some}
-use mathlib.Core.Path.{_∙_, _≡_, ap, refl, subst, sym}
+use mathlib.Core.Path.{_∙_, _≡_, refl, subst, sym}
 use native.Mathlib.Omega.{arith}
-use Prim.Native.Nat.{ℕ, _+_, _≤_}
+use Prim.Native.Nat.{ℕ, _≤_}
 use Rattle.calculus.specs.Facts.{blank}
 use Rattle.format.proofs.Answers.{outside-place, record-whole}
 use Rattle.format.specs.Answer.{answerForm, outside}
 use Rattle.format.specs.Places.{skip}
 use Rattle.format.specs.Records.{next}
-use Rattle.question.specs.Posed.{asked}
+use Rattle.question.specs.Posed.{asked, extendedAsked}
 use Rattle.assignment.proofs.Bounds.{outside-same}
 use Rattle.assignment.proofs.Read.{found-nowhere, found-outside}
 use Rattle.judging.proofs.Outcomes.{judged, out-of-range, unformed}
@@ -30,7 +30,7 @@ returns : tie.Need-returns
 unfolding asked
 returns c =
     let s = c .before .before .before .before .before .args in
-    rw (c .found .ensures) (unformed (now (s .b)) (now (s .v)) (asked (now (s .b)) (s .s))
+    rw (c .found .ensures) (unformed (now (s .b)) (now (s .v)) (asked (now (s .b)) (s .s)) (extendedAsked (now (s .b)) (s .s))
     (sym (c .before .before .answer-formed .ensures) ∙ not-true _ (c .before .if1 .taken)))
 
 -- an answer of its form
@@ -81,7 +81,7 @@ returns-2 c =
     let t = c .before .before in
     let s = start t .args in
     let u = asked (now (s .b)) (s .s) in
-    rw (c .found2 .ensures) (out-of-range (now (s .b)) (now (s .v)) u (formed (t .before .before .before .before))
+    rw (c .found2 .ensures) (out-of-range (now (s .b)) (now (s .v)) u (extendedAsked (now (s .b)) (s .s)) (formed (t .before .before .before .before))
     (outside-same (now (s .v)) u (blank (u .n) (u .p) (u .q)) (u .p) 0 0 refl refl ∙ located t .0) (located t .1)
     (c .before .record-end .ensures))
 
@@ -109,7 +109,7 @@ returns-3 : tie.Need-returns-3
 unfolding asked
 returns-3 c =
     let s = c .before .before .before .before .before .before .before .before .args in
-    judged (now (s .b)) (now (s .v)) (asked (now (s .b)) (s .s)) (formed (c .before .before .before .before)) (nowhere (c .before)) (c .judge-values .ensures)
+    judged (now (s .b)) (now (s .v)) (asked (now (s .b)) (s .s)) (extendedAsked (now (s .b)) (s .s)) (formed (c .before .before .before .before)) (nowhere (c .before)) (c .judge-values .ensures)
 
 pub judge-behind-spec : {M : Type 1} → statement M
 judge-behind-spec =

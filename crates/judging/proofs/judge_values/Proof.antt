@@ -19,11 +19,19 @@ record-places-requires c κs =
     let s = c .before .before in
     (s .pre .0 .stands .few-strings, omega (arith, integers-there (now (s .args .v)) (s .args .s .p) (s .args .s .q) (s .pre .1)))
 
-slice-aggregate-column-values : tie.Need-slice-aggregate-column-values
-slice-aggregate-column-values c = search needs
+slice-aggregate-fill-columns : tie.Need-slice-aggregate-fill-columns
+slice-aggregate-fill-columns c = search needs
 
-column-values-requires : tie.Need-column-values-requires
-column-values-requires c κs = search needs
+slice-aggregate-fill-columns-2 : tie.Need-slice-aggregate-fill-columns-2
+slice-aggregate-fill-columns-2 c = search needs
+
+fill-columns-requires : tie.Need-fill-columns-requires
+fill-columns-requires c κs =
+    let s = c .before .before .before .before .before in
+    let stands = s .pre .0 .stands in (
+      omega (arith, stands .few-strings, stands .few-integers),
+      (s .pre .1, c .before .before .record-places .ensures, omega (arith, stands .few-strings), stands .few-strings, stands .few-integers),
+    )
 
 add-count : tie.Need-add-count
 add-count c = search needs
@@ -39,25 +47,28 @@ array-share-prefix-values c = search needs
 
 slice-aggregate-first-unmet-2 : tie.Need-slice-aggregate-first-unmet-2
 slice-aggregate-first-unmet-2 c =
-    let s = c .before .before .before .before .before .before .before .args in
-    sym (ap length (c .before .before .column-values .ensures) ∙ length-columns (now (s .v)) (s .s .p) (s .s .q))
+    let fill-columns = c .before .before .before .fill-columns in
+    let s = c .before .before .before .before .before .before .before .before .before .args in
+    sym (ap length (fill-columns .ensures) ∙ length-columns (now (s .v)) (s .s .p) (s .s .q))
 
 first-unmet-requires : tie.Need-first-unmet-requires
 unfolding asked
 first-unmet-requires c κs =
-    let s = c .before .before .before .before .before .before .before in
+    let fill-columns = c .before .before .before .fill-columns in
+    let record-places = c .before .before .before .before .before .before .record-places in
+    let s = c .before .before .before .before .before .before .before .before .before in
     let stands = s .pre .0 .stands in
     record {
       texts =
           record {
             posed = s .pre .0;
             formed = s .pre .1;
-            placed = c .before .before .before .before .record-places .ensures;
+            placed = record-places .ensures;
             enough = omega (arith, stands .few-strings);
           };
-      columns = c .before .before .column-values .ensures;
+      columns = fill-columns .ensures;
       small =
-          rw (c .before .before .column-values .ensures)
+          rw (fill-columns .ensures)
           (small-columns (now (s .args .v)) (asked (now (s .args .b)) (s .args .s)) (stands .few-characters) (s .pre .1) (s .pre .2));
     }
 
@@ -69,8 +80,9 @@ judge-values-spec =
     tie.close
     (tie.spec
     record-places-requires
-    slice-aggregate-column-values
-    column-values-requires
+    slice-aggregate-fill-columns
+    slice-aggregate-fill-columns-2
+    fill-columns-requires
     add-count
     add-count-2
     slice-aggregate-first-unmet

@@ -21,20 +21,31 @@ literal-fault-requires c κs = let s = c .before .before .before in (s .pre .0, 
 returns-2 : tie.Need-returns-2
 returns-2 c = rw (sym (c .before .before .rank-of .ensures) ∙ c .before .match .keys2) (c .literal-fault .ensures)
 
-add-constraint-fault : tie.Need-add-constraint-fault
-add-constraint-fault c = search needs
+extended-fault-requires : tie.Need-extended-fault-requires
+extended-fault-requires c κs = search needs
 
-add-constraint-fault-2 : tie.Need-add-constraint-fault-2
-add-constraint-fault-2 c = search needs
+add-fact-fault : tie.Need-add-fact-fault
+add-fact-fault c = search needs
 
-constraint-fault-requires : tie.Need-constraint-fault-requires
-constraint-fault-requires c κs = search needs
+add-fact-fault-2 : tie.Need-add-fact-fault-2
+add-fact-fault-2 c = search needs
+
+fact-fault-requires : tie.Need-fact-fault-requires
+fact-fault-requires c κs = search needs
 
 returns-3 : tie.Need-returns-3
-returns-3 c =
+returns-3 c = rw (sym (c .before .before .rank-of .ensures) ∙ c .before .match .keys3) (c .extended-fault .ensures)
+
+returns-4 : tie.Need-returns-4
+returns-4 c =
     let arm = c .before .before .before in
     let rank = arm .before .rank-of .ensures in
-    rw (ne-eqb _ _ (λ z. arm .match .rest .0 .1 (rank ∙ z)), ne-eqb _ _ (λ z. arm .match .rest .1 (rank ∙ z)), length-texts) (c .constraint-fault .ensures)
+    rw (
+      ne-eqb _ _ (λ z. arm .match .rest .0 .0 .1 (rank ∙ z)),
+      ne-eqb _ _ (λ z. arm .match .rest .0 .1 (rank ∙ z)),
+      ne-eqb _ _ (λ z. arm .match .rest .1 (rank ∙ z)),
+      length-texts,
+    ) (c .fact-fault .ensures)
 
 pub body-fault-spec : {M : Type 1} → statement M
 body-fault-spec =
@@ -43,9 +54,11 @@ body-fault-spec =
     rank-of-requires
     head-fault-requires
     literal-fault-requires
-    add-constraint-fault
-    add-constraint-fault-2
-    constraint-fault-requires
+    extended-fault-requires
+    add-fact-fault
+    add-fact-fault-2
+    fact-fault-requires
     returns
     returns-2
-    returns-3)
+    returns-3
+    returns-4)

@@ -1,29 +1,39 @@
 -- `question::rank_of` meets its contract.
 use borrow.Author.Tests.{ne-eqb}
+use mathlib.Core.Path.{_≡_, refl, sym, ap}
+use native.Mathlib.Omega.{arith}
+use Prim.Native.Nat.{ℕ, zero, suc, _≤_}
 use Rattle.format.specs.Question.{rankOf}
 use Rattle.question.proofs.rank_of.Statement.{statement}
 use Rattle.question.proofs.rank_of.Tie as tie
 
-returns : tie.Need-returns
+own-rank : (k : ℕ) → k ≤ 4 → k ≡ rankOf k
 unfolding rankOf
-returns c = rw (c .match .keys1)
+own-rank zero h = refl
+own-rank (suc zero) h = refl
+own-rank (suc (suc zero)) h = refl
+own-rank (suc (suc (suc zero))) h = refl
+own-rank (suc (suc (suc (suc zero)))) h = refl
+own-rank (suc (suc (suc (suc (suc k))))) h = absurd (omega arith)
+
+returns : tie.Need-returns
+returns c = own-rank (c .before .args .kind) (c .if1 .taken)
 
 returns-2 : tie.Need-returns-2
 unfolding rankOf
-returns-2 c = rw (c .match .keys2)
+returns-2 c = sym (ap rankOf (c .if2 .taken))
 
 returns-3 : tie.Need-returns-3
 unfolding rankOf
-returns-3 c = rw (c .match .keys3)
-
-returns-4 : tie.Need-returns-4
-unfolding rankOf
-returns-4 c = rw (c .match .keys4)
-
-returns-5 : tie.Need-returns-5
-unfolding rankOf
-returns-5 c =
-    rw (ne-eqb _ _ (c .match .rest .0 .0 .0 .1), ne-eqb _ _ (c .match .rest .0 .0 .1), ne-eqb _ _ (c .match .rest .0 .1), ne-eqb _ _ (c .match .rest .1))
+returns-3 c =
+    let kind = c .before .before .args .kind in
+    sym (rw (
+      ne-eqb kind 1 (λ e. omega arith),
+      ne-eqb kind 2 (λ e. omega arith),
+      ne-eqb kind 3 (λ e. omega arith),
+      ne-eqb kind 4 (λ e. omega arith),
+      ne-eqb kind 11 (c .if2 .left),
+    ))
 
 pub rank-of-spec : {M : Type 1} → statement M
-rank-of-spec = tie.close (tie.spec returns returns-2 returns-3 returns-4 returns-5)
+rank-of-spec = tie.close (tie.spec returns returns-2 returns-3)

@@ -59,8 +59,8 @@ module _ (m : Manner) (b : List ℕ) (s : Progress) (r at : ℕ) (short : length
 
   goes-on : (k n : ℕ) (t : Progress) → (k ≡ kind b at) × (n ≡ size b at) × (at + 6 + n ≤ length b) → ending k ≡ false → test b (progressOf b s) at ≡ 0
       → progressOf b t ≡ questionAdvanced b (progressOf b s) at
-      → StandsTo (m .greatest) b s at
-      → StandsTo (m .greatest) b t (at + 6 + n) × Left m b t (r + 1) (at + 6 + n)
+      → StandsTo b s at
+      → StandsTo b t (at + 6 + n) × Left m b t (r + 1) (at + 6 + n)
   goes-on k n t w g ef e h =
       rw (w .1) (
         advanced-stands b (numbersOf s) at (next-at (mannerOf m) h ef) (numbersOf t) e,
@@ -68,7 +68,7 @@ module _ (m : Manner) (b : List ℕ) (s : Progress) (r at : ℕ) (short : length
       )
 
 abbrev Inv-loop : tie.InvT-loop
-Inv-loop m b s₀ at₀ r₀ s at r = (r ≤ at) × StandsTo (m .greatest) b s at × Left m b s r at
+Inv-loop m b s₀ at₀ r₀ s at r = (r ≤ at) × StandsTo b s at × Left m b s r at
 
 abbrev μ-loop : tie.MeasureT-loop
 μ-loop m b s₀ at₀ r₀ s at r = length b - at
@@ -80,7 +80,7 @@ returns c = sym (read-long (questionFault (mannerOf (c .before .before .args .m)
 loop-holds : tie.Need-loop-holds Inv-loop μ-loop
 loop-holds c =
     let a = c .before .before .args in
-    (omega arith, begun-stands _ _, ap (λ (u : format.Progress). readOn (questionFault (mannerOf (a .m))) (now (a .b)) u 0 0) (begun-fresh (now (a .b))))
+    (omega arith, begun-stands _, ap (λ (u : format.Progress). readOn (questionFault (mannerOf (a .m))) (now (a .b)) u 0 0) (begun-fresh (now (a .b))))
 
 read-at-requires : tie.Need-read-at-requires Inv-loop μ-loop
 read-at-requires c κs = search needs

@@ -1,6 +1,6 @@
 -- `question::record_fault` meets its contract.
 use borrow.Author.Needs.{needs}
-use mathlib.Core.Path.{_≡_, _∙_, sym, ap}
+use mathlib.Core.Path.{_≡_, _∙_, sym, ap, ap₂}
 use mathlib.Core.Bool.{Bool, true, false}
 use mathlib.Core.List.{List}
 use Prim.Native.Nat.{ℕ, _+_, _≤_}
@@ -11,7 +11,7 @@ use borrow.Author.Tests.{not-true, not-false}
 use Rattle.format.specs.Records.{kind, size, need}
 use Rattle.format.specs.Question.{literalRank, rankOf, rankInPlace, inPlace, questionBodyFault, roomFor, questionFault}
 use Rattle.format.specs.Places.{skip, literalsFrom}
-use Rattle.format.proofs.Places.{length-texts, length-constraints}
+use Rattle.format.proofs.Places.{length-texts, length-facts, length-extended}
 use Rattle.question.specs.declared.Manner.{Manner}
 use Rattle.question.specs.declared.Progress.{Progress}
 use Rattle.question.specs.Progress.{mannerOf, numbersOf, progressOf}
@@ -33,7 +33,7 @@ module _ (m : Manner) (b : List ℕ) (s : Progress) (at k n : ℕ) (w : (k ≡ k
   misplaced e = out-of-place (mannerOf m) b (progressOf b s) at k n (w .0) (w .1) (w .2) (same-place false e)
 
   -- the literals are compared with a further one behind the head only
-  literals-there : StandsTo (m .greatest) b s at → t ≡ true → rankOf k ≡ literalRank → skip b (s .literals) literalsFrom ≤ length b
+  literals-there : StandsTo b s at → t ≡ true → rankOf k ≡ literalRank → skip b (s .literals) literalsFrom ≤ length b
   literals-there h e z =
       let rank : r ≡ literalRank = er ∙ z in
       literals-within b (numbersOf s) at (s .literals) h (behind-head (m .greatest) (s .last) (s .literals) r (sym et ∙ e) (λ y. absurd (omega arith)) .head-read)
@@ -45,12 +45,15 @@ module _ (m : Manner) (b : List ℕ) (s : Progress) (at k n : ℕ) (w : (k ≡ k
 
     by-rank : (room x : Bool)
         → f ≡ 0
-        → room ≡ roomFor (m .limited) r (s .constraints)
+        → room ≡ roomFor (m .limited) r (s .constraints + s .extended)
         → room ≡ x
         → need 10 x 0 ≡ questionFault (mannerOf m) b (progressOf b s) at
     by-rank room x z g h = by-room (mannerOf m) b (progressOf b s) at k n (w .0) (w .1) (w .2) f (same-place true e) ef x z
-        (ap (roomFor (m .limited) (rankOf k)) (length-constraints b (s .constraints) (skip b (s .literals) literalsFrom))
-        ∙ ap (λ y. roomFor (m .limited) y (s .constraints)) (sym er) ∙ sym g ∙ h)
+        (ap (roomFor (m .limited) (rankOf k)) (ap₂ _+_ (length-facts b (s .constraints) from) (length-extended b (s .extended) (skip b (s .constraints) from)))
+        ∙ ap (λ y. roomFor (m .limited) y (s .constraints + s .extended)) (sym er) ∙ sym g ∙ h)
+      where
+        from : ℕ
+        from = skip b (s .literals) literalsFrom
 
 rank-of-requires : tie.Need-rank-of-requires
 rank-of-requires c κs = search needs
@@ -85,19 +88,24 @@ returns-2 c =
     (not-false _ (c .before .before .if1 .left))
     _ (c .before .body-fault .ensures) (c .if2 .taken)
 
+add-has-room : tie.Need-add-has-room
+add-has-room c =
+    let start = c .before .before .before .before .before .before .before in
+    omega (arith, start .pre .0 .counted, start .pre .0 .within)
+
 has-room-requires : tie.Need-has-room-requires
 has-room-requires c κs = search needs
 
 -- a body without fault, by whether it finds room
 roomy : (c : tie.After-has-room) (x : Bool) → c .has-room .result ≡ x
-    → let s = c .before .before .before .before .before .before .before in
+    → let s = c .before .before .before .before .before .before .before .before in
     need 10 x 0 ≡ questionFault (mannerOf (s .args .m)) (now (s .args .b)) (progressOf (now (s .args .b)) (s .args .s)) (s .args .at)
 roomy c x e =
-    let place = c .before .before .before .before in
+    let place = c .before .before .before .before .before in
     let s = place .before .before .before in
     by-rank (s .args .m) (now (s .args .b)) (s .args .s) _ _ _ (s .pre .1) _ (place .before .rank-of .ensures) _ (place .in-place .ensures)
-    (not-false _ (c .before .before .before .if1 .left))
-    _ (c .before .before .body-fault .ensures) (c .has-room .result) x (c .before .if2 .left) (c .has-room .ensures) e
+    (not-false _ (c .before .before .before .before .if1 .left))
+    _ (c .before .before .before .body-fault .ensures) (c .has-room .result) x (c .before .before .if2 .left) (c .has-room .ensures) e
 
 returns-3 : tie.Need-returns-3
 returns-3 c = roomy (c .before) true (c .if3 .taken)
@@ -115,6 +123,7 @@ record-fault-spec =
     add-body-fault
     body-fault-requires
     returns-2
+    add-has-room
     has-room-requires
     returns-3
     returns-4)

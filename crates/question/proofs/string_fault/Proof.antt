@@ -1,13 +1,17 @@
 -- `question::string_fault` meets its contract.
 use borrow.Author.Needs.{needs}
 use native.Mathlib.Omega.{arith}
-use mathlib.Core.Path.{_≡_, _∙_, sym}
-use Rattle.question.proofs.Loops.{tests}
+use mathlib.Core.Bool.{true, false}
+use denote.Ref.{now}
+use Rattle.format.specs.Question.{stringRange}
+use Rattle.question.proofs.Fields.{by-range, other-size}
 use Rattle.question.proofs.string_fault.Statement.{statement}
 use Rattle.question.proofs.string_fault.Tie as tie
 
 returns : tie.Need-returns
-returns c = search (tests, arith)
+returns c =
+    let args = c .before .before .args in
+    other-size (stringRange (args .p) (args .k)) (now (args .b)) (args .at) (args .size) (c .if1 .taken)
 
 u16-at-requires : tie.Need-u16-at-requires
 u16-at-requires c κs = search needs
@@ -30,20 +34,14 @@ string-in-range-requires c κs = search needs
 returns-2 : tie.Need-returns-2
 returns-2 c =
     let args = c .before .before .before .before .before .before .before .args in
-    let h : args .size ≡ 6 = omega arith in
-    let e =
-    rw (c .before .before .before .before .u16-at .ensures .0, c .before .before .before .u16-at2 .ensures .0, c .before .before .u16-at3 .ensures .0) at
-    (sym (c .before .string-in-range .ensures) ∙ c .if2 .taken) in
-    simp (tests, e)
+    by-range (stringRange (args .p) (args .k)) (now (args .b)) (args .at) (args .size) true (omega arith) (c .before .before .before .before .u16-at .ensures .0)
+    (c .before .before .before .u16-at2 .ensures .0) (c .before .before .u16-at3 .ensures .0) (c .before .string-in-range .ensures) (c .if2 .taken)
 
 returns-3 : tie.Need-returns-3
 returns-3 c =
     let args = c .before .before .before .before .before .before .before .args in
-    let h : args .size ≡ 6 = omega arith in
-    let e =
-    rw (c .before .before .before .before .u16-at .ensures .0, c .before .before .before .u16-at2 .ensures .0, c .before .before .u16-at3 .ensures .0) at
-    (sym (c .before .string-in-range .ensures) ∙ c .if2 .left) in
-    simp (tests, e)
+    by-range (stringRange (args .p) (args .k)) (now (args .b)) (args .at) (args .size) false (omega arith) (c .before .before .before .before .u16-at .ensures .0)
+    (c .before .before .before .u16-at2 .ensures .0) (c .before .before .u16-at3 .ensures .0) (c .before .string-in-range .ensures) (c .if2 .left)
 
 pub string-fault-spec : {M : Type 1} → statement M
 string-fault-spec =

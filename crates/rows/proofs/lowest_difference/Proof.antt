@@ -9,10 +9,10 @@ use mathlib.Core.List.{List, _∷_}
 use mathlib.Core.Option.{none, some}
 use mathlib.Core.Path.{_∙_, _≡_, ap, ap₂, refl, sym}
 use native.Mathlib.Omega.{arith}
-use Rattle.calculus.specs.Facts.{lowestFact}
+use Rattle.lists.specs.Lists.{lowest}
 use Rattle.calculus.specs.LinearForms.{column, eqIntegers, minus}
 use Rattle.calculus.specs.Rules.{statesDifference, lowestDifference}
-use Rattle.calculus.proofs.Searches.{lowest-taken, lowest-behind, lowest-next}
+use Rattle.lists.proofs.Searches.{lowest-taken, lowest-behind, lowest-next}
 use Rattle.rows.specs.Rows.{branchOf, factOf, rowAt}
 use Rattle.rows.proofs.Branches.{branch-more, branch-take, length-branch, length-row}
 use Rattle.rows.proofs.Forms.{columns-difference}
@@ -78,7 +78,7 @@ fill-difference-requires-2 : tie.Need-fill-difference-requires-2 Inv-loop μ-loo
 fill-difference-requires-2 c κs = search needs
 
 loop-holds : tie.Need-loop-holds Inv-loop μ-loop
-unfolding branchOf lowestFact
+unfolding branchOf lowest
 loop-holds c = (omega arith, refl)
 
 row-at-requires : tie.Need-row-at-requires Inv-loop μ-loop
@@ -106,7 +106,7 @@ returns c =
     let t = statesDifference (s .i) (s .j) in
     let less : k + 1 ≤ s .count = omega (arith, loop-test .taken) in
     sym (lowest-taken t (branchOf w (s .count)) (k + 1) k
-    (ap (lowestFact t) (branch-take w (s .count) (k + 1) less ∙ branch-more w k)
+    (ap (lowest t) (branch-take w (s .count) (k + 1) less ∙ branch-more w k)
     ∙ lowest-next t (branchOf w k) (factOf (rowAt w k)) (loop .loop .inv .1) (sym (test (c .before)) ∙ c .if1 .taken)
     ∙ ap some (length-branch w k)))
 
@@ -124,7 +124,7 @@ loop-again c =
     let k = loop .loop .k in
     let t = statesDifference (s .i) (s .j) in (
       omega arith,
-      ap (lowestFact t) (branch-more w k) ∙ lowest-behind t (branchOf w k) (factOf (rowAt w k)) (loop .loop .inv .1) (sym (test (c .before)) ∙ c .if1 .left),
+      ap (lowest t) (branch-more w k) ∙ lowest-behind t (branchOf w k) (factOf (rowAt w k)) (loop .loop .inv .1) (sym (test (c .before)) ∙ c .if1 .left),
     )
 
 returns-2 : tie.Need-returns-2 Inv-loop μ-loop

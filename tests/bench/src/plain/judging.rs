@@ -112,6 +112,9 @@ fn read_form<'a>(question: &Question, bytes: &'a [u8]) -> Option<([&'a [u8]; 16]
 
 fn meets(question: &Question, answer: &Answer, &Constraint { kind, body, .. }: &Constraint) -> bool {
     let relation = index_at(body, 0);
+    if kind == 11 {
+        return meets_extended(answer, relation, index_at(body, 2), index_at(body, 4));
+    }
     if kind == 4 {
         let pairs = body[6..].as_chunks().0.iter().map(pair);
         let products = pairs.map(|(column, coefficient)| i64::from(coefficient) * i64::from(answer.values[column]));
@@ -123,4 +126,36 @@ fn meets(question: &Question, answer: &Answer, &Constraint { kind, body, .. }: &
         1 => text != answer.strings[b],
         _ => text == question.literals[b],
     }
+}
+
+/// Case, digits and order. A numeric text is the decimal of its own value alone, so both functions on digits read the text.
+fn meets_extended(answer: &Answer, function: usize, a: usize, b: usize) -> bool {
+    let text = |number: usize| answer.strings[number];
+    match function {
+        0 => same_turned(text(a), text(b), |character| character - 32 * u32::from((97..=122).contains(&character))),
+        1 => same_turned(text(a), text(b), |character| character + 32 * u32::from((65..=90).contains(&character))),
+        2 => answer.values[a] == number(text(b)).unwrap_or(-1),
+        3 if answer.values[b] < 0 => text(a).is_empty(),
+        3 => number(text(a)) == Some(answer.values[b]),
+        _ => words(text(a)).le(words(text(b))),
+    }
+}
+
+/// Whether a text is another one with its characters turned.
+fn same_turned(text: &[u8], other: &[u8], turned: impl Fn(u32) -> u32) -> bool {
+    let pairs = words(text).zip(words(other));
+    text.len() == other.len() && pairs.fold(true, |good, (mine, theirs)| good & (mine == turned(theirs)))
+}
+
+/// The value of a numeric text, or one that no answer has where it has more than nine digits; nothing for other texts.
+fn number(text: &[u8]) -> Option<i32> {
+    let leads_with_0 = text.len() > 4 && words(text).next() == Some(48);
+    let digits = words(text).fold(true, |good, character| good & (48..=57).contains(&character));
+    if text.is_empty() || leads_with_0 || !digits {
+        return None;
+    }
+    if text.len() > 4 * 9 {
+        return Some(i32::MAX);
+    }
+    Some(words(text).fold(0, |value, character| 10 * value + (character as i32 - 48)))
 }

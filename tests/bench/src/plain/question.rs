@@ -1,4 +1,4 @@
-//! The question: kinds 1 to 4, as every operation reads them.
+//! The question: kinds 1 to 4, as every operation reads them, and kind 11, which judging alone hands on.
 
 use super::records::{i32_at, index_at, pair, u32_at, words};
 use super::{demand, Checked};
@@ -55,7 +55,7 @@ impl<'a> Question<'a> {
         let in_place = match kind {
             1 => self.last_kind == 0,
             2 => (1..=2).contains(&self.last_kind) && self.literal_count < 16,
-            3 | 4 => (1..=kind).contains(&self.last_kind),
+            3 | 4 | 11 => (1..=kind).contains(&self.last_kind),
             _ => false,
         };
         demand(in_place, 4)?;
@@ -64,10 +64,10 @@ impl<'a> Question<'a> {
             1 => self.take_head(body),
             2 => self.take_literal(body),
             _ => {
-                if kind == 3 {
-                    self.string_constraint_in_range(body)?;
-                } else {
-                    self.arithmetic_constraint_in_range(body)?;
+                match kind {
+                    3 => self.string_constraint_in_range(body)?,
+                    4 => self.arithmetic_constraint_in_range(body)?,
+                    _ => self.extended_constraint_in_range(body)?,
                 }
                 self.constraint_count += 1;
                 Ok(())
@@ -96,6 +96,14 @@ impl<'a> Question<'a> {
         let (relation, a, b) = (index_at(body, 0), index_at(body, 2), index_at(body, 4));
         let choices = if relation == 2 { self.literal_count } else { self.p };
         demand(relation <= 2 && a < self.p && b < choices, 6)
+    }
+
+    fn extended_constraint_in_range(&self, body: &[u8]) -> Checked {
+        demand(body.len() == 6, 5)?;
+        let (function, a, b) = (index_at(body, 0), index_at(body, 2), index_at(body, 4));
+        let choices_of_a = if function == 2 { self.q } else { self.p };
+        let choices_of_b = if function == 3 { self.q } else { self.p };
+        demand(function <= 4 && a < choices_of_a && b < choices_of_b, 6)
     }
 
     fn arithmetic_constraint_in_range(&self, body: &[u8]) -> Checked {
