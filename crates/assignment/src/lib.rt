@@ -2,7 +2,7 @@
 ghost use mathlib.Core.Path.{_≡_};
 ghost use mathlib.Core.Bool.{true};
 ghost use Prim.Native.Nat.{_+_, _≤_, _<_};
-ghost use lib.ListN.{length, getD, take};
+ghost use lib.ListN.{length, getD};
 ghost use lib.IntN.{pos};
 ghost use Rattle.calculus.specs.Limits.{variableLimit};
 ghost use Rattle.calculus.specs.Facts.{codeOf, blank};
@@ -146,11 +146,11 @@ fn column_value(v: &[u8], p: usize, q: usize, places: &[usize], j: usize) -> i64
     string_code(v, places[x - p])
 }
 
-// The columns' values, at the front of a lent slice.
+// The columns' values, into a slice of as many numbers.
 pub fn fill_columns(values: &mut [i64], v: &[u8], p: usize, q: usize, places: &[usize])
-    requires { ⌜ q + (p + p) ≤ length (now values) ⌝ }
+    requires { ⌜ length (now values) ≡ q + (p + p) ⌝ }
     requires { ⌜ (answerForm (now v) p q 0 ≡ true) × Placed (now v) 0 p (now places) × (p < length (now places)) × (p ≤ variableLimit) × (q ≤ variableLimit) ⌝ }
-    ensures { λ _. ⌜ take (q + (p + p)) (now (values .exit)) ≡ columnsAt (now (v .entry)) p q ⌝ }
+    ensures { λ _. ⌜ now (values .exit) ≡ columnsAt (now (v .entry)) p q ⌝ }
 {
     let count = q + (p + p);
     let mut j = 0;

@@ -16,7 +16,7 @@ use Rattle.calculus.specs.Extended.{Extended, Names, Constraint, basic, extende
 use Rattle.lists.proofs.Searches.{FirstWithout}
 use Rattle.format.specs.Fields.{u16}
 use Rattle.format.specs.Records.{size, next, records}
-use Rattle.format.specs.Question.{extendedBy}
+use Rattle.format.specs.Question.{constraintCount, extendedBy}
 use Rattle.format.specs.Question.{headRank, Progress, Reading, Stopped, Ended, judgingManner, judgedQuestion}
 use Rattle.format.specs.Places.{skip, extendedAt, constraintAt, extendedsAt, literalsFrom, constraintsFrom, extendedFrom, Numbers, readTo}
 use Rattle.format.specs.Standing.{StandsTo}
@@ -205,26 +205,18 @@ all-named b t to stands = all-valuesAlong (next b) (extendedAt b) (Names u) (ext
         let f = extended-constraint-formed b (t .p) (t .q) (at + 6) (size b at) (stands .extended-stand j l .formed) in
         names-by u (u16 b (at + 6)) (u16 b (at + 6 + 2)) (u16 b (at + 6 + 4)) (f .function) (f .first) (f .second)
 
+length-constraintsOf : (u : Question) (es : List Extended) → length (constraintsOf u es) ≡ length (u .constraints) + length es
+length-constraintsOf u es =
+    length-append (map basic (u .constraints)) (map extended es) ∙ ap₂ _+_ (length-map (u .constraints) basic) (length-map es extended)
+
 pub constraints-counted : TH-L3-counted
 constraints-counted b s at r e headed =
     let head : headRank ≤ s .last = leb-true headRank (s .last) headed in
     let (t, known, ends) = question-stood judgingManner b s at r e in
-    let facts : List Constraint = map basic (s .question .constraints) in
+    let all-are : length (constraintsOf (s .question) (s .extended)) ≡ constraintCount s = length-constraintsOf (s .question) (s .extended) in
     record {
-      all-counted = omega (
-        arith,
-        judged-counted b e .behind-head head,
-        length-append facts (map extended (s .extended)),
-        length-map (s .question .constraints) basic,
-        length-map (s .extended) extended,
-      );
-      few = omega (
-        arith,
-        read-few judgingManner refl b e,
-        length-append facts (map extended (s .extended)),
-        length-map (s .question .constraints) basic,
-        length-map (s .extended) extended,
-      );
+      all-counted = omega (arith, judged-counted b e .behind-head head, all-are);
+      few = omega (arith, read-few judgingManner refl b e, all-are);
       named = subst (λ (p : Progress). All (Names (p .question)) (p .extended)) (sym known) (all-named b t at (ends .0));
       each-read =
           subst (λ (p : Progress). (k : ℕ) (c : Constraint) → getElem? (constraintsOf (p .question) (p .extended)) k ≡ some c → There (p .question) k c) (sym known)

@@ -20,7 +20,7 @@ pub record LiteralAt (b : List ℕ) (n at : ℕ) : Type 0 where
   pub characters-whole : size b at % 4 ≡ 0
   pub characters-over : allCharacters n (textOf b (at + 6) (size b at)) ≡ true
 
--- the record at a position is a constraint over p string and q integer variables and k literals besides the empty one
+-- the record at a position is a constraint of kind 3 or 4 over p string and q integer variables and k literals besides the empty one
 pub record FactAt (b : List ℕ) (p q k at : ℕ) : Type 0 where
   pub whole : next b at ≤ length b
   pub formed : factFault b p k (q + (p + p)) (kind b at) (at + 6) (size b at) ≡ 0

@@ -296,8 +296,8 @@ fn judge_values(b: &[u8], v: &[u8], s: Progress) -> Finding
     let q = s.q;
     let places = record_places(v, 0, p);
     let mut values = [0i64; COLUMN_LIMIT];
-    fill_columns(&mut values, v, p, q, &places);
     let count = q + (p + p);
+    fill_columns(&mut values[..count], v, p, q, &places);
     first_unmet(b, v, s, &places, &values[..count])
 }
 

@@ -29,6 +29,8 @@ use encoding::KIND_ARITHMETIC;
 use encoding::KIND_CLAIM;
 use encoding::KIND_END;
 use encoding::KIND_EXTENDED;
+use encoding::KIND_HEAD;
+use encoding::KIND_LITERAL;
 use encoding::KIND_STRING;
 use encoding::LEN;
 use encoding::NE;
@@ -342,16 +344,16 @@ fn extended_fault(b: &[u8], p: usize, q: usize, at: usize, size: usize) -> usize
 
 // ---- kinds and their order
 
-// "They stand in order of kind": the ranks of the records in this order; 0 stands before the head.
-pub const HEAD_RANK: usize = 1;
+// "They stand in order of kind": the ranks of the records in this order; 0 stands before the head. Kinds 1 to 4 are their own ranks, and kind 11 stands behind.
+pub const HEAD_RANK: usize = KIND_HEAD;
 
-const LITERAL_RANK: usize = 2;
+const LITERAL_RANK: usize = KIND_LITERAL;
 
-const ARITHMETIC_RANK: usize = 4;
+const ARITHMETIC_RANK: usize = KIND_ARITHMETIC;
 
 const EXTENDED_RANK: usize = 5;
 
-// The rank of a kind, 0 for a kind that has no place in a question. Kinds 1 to 4 are their own ranks: a table of all kinds would cost each record a jump.
+// The rank of a kind, 0 for a kind that has no place in a question. A table of all kinds would cost each record a jump.
 fn rank_of(kind: usize) -> usize
     ensures { λ r. ⌜ r ≡ rankOf kind ⌝ }
 {

@@ -4,12 +4,13 @@ use borrow.Author.Needs.{needs}
 use denote.Ref.{now}
 use lib.IntN.{pos, ℤ}
 use lib.ListN.{length, length-set, take}
-use lib.Seq.{take-all, take-suc, take-suc-set}
+use lib.Seq.{take-suc, take-suc-set}
 use mathlib.Core.List.{[], _++_, _∷_}
 use mathlib.Core.Path.{_∙_, _≡_, ap, refl}
 use mir.Facts.{toZ-ofZ}
 use native.Mathlib.Numerals.{add-one}
 use native.Mathlib.Omega.{arith}
+use Rattle.lists.proofs.Filled.{filled-all}
 use Rattle.assignment.proofs.Columns.{length-columns}
 use Rattle.assignment.specs.Form.{columnsAt}
 use Rattle.calculus.proofs.Shapes.{count}
@@ -66,10 +67,8 @@ same-length c = search needs
 returns : tie.Need-returns Inv-loop μ-loop
 returns c =
     let l = c .before .loop in
-    let s = c .before .before .before .before .args in
-    let cs = columnsAt (now (s .v)) (s .p) (s .q) in
-    let e : l .j ≡ s .q + (s .p + s .p) = omega arith in
-    rw (← e) (l .inv .2 ∙ take-all (l .j) cs (omega (arith, length-columns (now (s .v)) (s .p) (s .q))))
+    let s = c .before .before .before .before in
+    filled-all _ _ (l .j) (omega (arith, s .pre .0, l .inv .1)) (omega (arith, length-columns (now (s .args .v)) (s .args .p) (s .args .q))) (l .inv .2)
 
 pub fill-columns-spec : {M : Type 1} → statement M
 fill-columns-spec =
