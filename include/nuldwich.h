@@ -18,8 +18,8 @@ extern "C" {
  *                          What was accepted stays accepted, with the same answer; what was refused may be accepted, or get another number
  * at a new major version   structs may get further fields behind those they have, and what is accepted may change
  */
-#define NULDWICH_VERSION 2002
-#define NULDWICH_VERSION_STRING "2.2"
+#define NULDWICH_VERSION 2003
+#define NULDWICH_VERSION_STRING "2.3"
 
 /* The least size of the answer buffer that check is lent, in bytes. It holds every answer. */
 #define NULDWICH_ANSWER_BYTES 4268

@@ -1,6 +1,7 @@
 #!/usr/bin/env bash
 # Counts what must not become fewer and holds it against the numbers on file in tests/floors.tsv: the vectors of each operation (the lines of
-# expected.tsv at all levels), those of buffer sizes, the starred cases, those of extended constraints and the edits that must fail. The last line is 'N passed, M failed'.
+# expected.tsv at all levels), those of buffer sizes, the starred cases, those of Sums and Joins of equations, those of extended constraints and the edits that
+# must fail. The last line is 'N passed, M failed'.
 set -u
 cd "$(dirname "$0")/.."
 passed=0 failed=0
@@ -21,7 +22,7 @@ vectors() {
 # there is one for each entry. The smaller number counts.
 cases() {
     local entries proofs
-    entries=$(awk -v list="$1" '$0 == list " =" { inside = 1; next } !/^    / { inside = 0 } inside && /^    (∷ )?(checking|adding|judged)( |$)/ { n++ } END { print n + 0 }' crates/format/specs/Cases.antt)
+    entries=$(awk -v list="$1" '$0 == list " =" { inside = 1; next } !/^    / { inside = 0 } inside && /^    (∷ )?(checking|before|adding|judged)( |$)/ { n++ } END { print n + 0 }' crates/format/specs/Cases.antt)
     proofs=$(awk -v proof="$2" 'index($0, proof " =") == 1 { inside = 1 } /^$/ { inside = 0 } inside { n += gsub(/\(refl, /, "") } END { print n + 0 }' crates/*/proofs/Cases.antt)
     echo $((entries < proofs ? entries : proofs))
 }
@@ -30,6 +31,7 @@ while read -r name count; do found[$name]=$count; done < <(
     vectors
     echo "buffers $(grep -c '	' tests/vectors/base/buffers.tsv)"
     echo "starred $(cases starred starred-hold)"
+    echo "equations $(cases equationCases equations-hold)"
     echo "extended $(cases extendedCases extended-hold)"
     echo "must-fail $(find crates -path '*/must-fail/*.edit' | wc -l)"
 )

@@ -16,7 +16,8 @@ use Rattle.lists.proofs.Tests.{and→, →and}
 use Rattle.calculus.specs.Limits.{columnLimit}
 use Rattle.calculus.specs.LinearForms.{plus, scale, zeros, number, column, minus, above, below, isZero, eqIntegers, allZero, floorDivAll, dot}
 use Rattle.calculus.specs.Rules.{divided}
-use Rattle.calculus.specs.Instances.{entry, total}
+use Rattle.calculus.specs.Facts.{Fact, Branch}
+use Rattle.calculus.specs.Instances.{entry, total, IsSum}
 use Rattle.calculus.proofs.Tests.{guard→, →guard}
 use Rattle.calculus.proofs.LinearForms.{isZero→, →isZero, eqIntegers→, →eqIntegers}
 
@@ -136,34 +137,44 @@ div-entries [] (y ∷ q) d h l e = absurd (omega arith)
 div-entries (x ∷ a) [] d h l e = absurd (omega arith)
 div-entries (x ∷ a) (y ∷ q) d h l e = ap₂ _∷_ (ap (λ z. floorDiv z d) (sym (e 0)) ∙ floor-multiple y d h) (div-entries a q d h (omega arith) (λ j. e (suc j)))
 
--- the row r divided by d is e, in words
+-- the numbers of e are those of r divided by d, in words
 pub record Divided (d : ℕ) (r e : List ℤ) : Type 0 where
-  pub size : length e ≡ length r
+  pub divisor : 1 ≤ d
   pub columns : (j : ℕ) → pos d *ℤ entry e (suc j) ≡ entry r (suc j)
   pub floor-low : (pos d *ℤ entry e 0) ≤ℤ entry r 0
   pub floor-high : entry r 0 <ℤ (pos d *ℤ (entry e 0 +ℤ pos 1))
 
-pub divided→ : (d : ℕ) (r e : List ℤ) → divided d r ≡ some e → Divided d r e
+pub divided→ : (d : ℕ) (r e : List ℤ) → divided d r ≡ some e → Divided d r e × (length e ≡ length r)
 divided→ d [] e h = absurd (none-some h)
 divided→ d (c ∷ cs) e h =
     let (t, g) = guard→ (leb 1 d && eqIntegers (scale (pos d) (floorDivAll cs d)) cs) h in
     let (s, q) = and→ (leb 1 d) (eqIntegers (scale (pos d) (floorDivAll cs d)) cs) t in
-    let exact : scale (pos d) (floorDivAll cs d) ≡ cs = eqIntegers→ (scale (pos d) (floorDivAll cs d)) cs q in
-    subst (Divided d (c ∷ cs)) g (record {
-      size = ap suc (length-floorDivAll cs d);
-      columns = λ j. sym (entry-scale (pos d) (floorDivAll cs d) j) ∙ ap (λ a. entry a j) exact;
-      floor-low = floor-low c d (leb→le 1 d s);
-      floor-high = floor-high c d (leb→le 1 d s);
-    })
+    let exact : scale (pos d) (floorDivAll cs d) ≡ cs = eqIntegers→ (scale (pos d) (floorDivAll cs d)) cs q in (
+      subst (Divided d (c ∷ cs)) g (record {
+        divisor = leb→le 1 d s;
+        columns = λ j. sym (entry-scale (pos d) (floorDivAll cs d) j) ∙ ap (λ a. entry a j) exact;
+        floor-low = floor-low c d (leb→le 1 d s);
+        floor-high = floor-high c d (leb→le 1 d s);
+      }),
+      ap length (sym g) ∙ ap suc (length-floorDivAll cs d),
+    )
 
-pub →divided : (d : ℕ) (r e : List ℤ) → 1 ≤ d → 1 ≤ length r → Divided d r e → divided d r ≡ some e
-→divided d [] e h l w = absurd (omega arith)
-→divided d (c ∷ cs) [] h l w = absurd (let s : 0 ≡ suc (length cs) = w .size in omega arith)
-→divided d (c ∷ cs) (k ∷ ks) h l w =
-    let s : suc (length ks) ≡ suc (length cs) = w .size in
-    let q : floorDivAll cs d ≡ ks = div-entries cs ks d h (omega arith) (w .columns) in
-    let f : floorDiv c d ≡ k = floor-unique c d k h (w .floor-low) (w .floor-high) in
+pub →divided : (d : ℕ) (r e : List ℤ) → 1 ≤ length r → length e ≡ length r → Divided d r e → divided d r ≡ some e
+→divided d [] e l s w = absurd (omega arith)
+→divided d (c ∷ cs) [] l s w = absurd (omega arith)
+→divided d (c ∷ cs) (k ∷ ks) l s w =
+    let q : floorDivAll cs d ≡ ks = div-entries cs ks d (w .divisor) (omega arith) (w .columns) in
+    let f : floorDiv c d ≡ k = floor-unique c d k (w .divisor) (w .floor-low) (w .floor-high) in
     let exact : scale (pos d) (floorDivAll cs d) ≡ cs =
     ap (scale (pos d)) q ∙ by-entries (scale (pos d) ks) cs (length-scale (pos d) ks ∙ omega arith) (λ j. entry-scale (pos d) ks j ∙ w .columns j) in
     →guard (leb 1 d && eqIntegers (scale (pos d) (floorDivAll cs d)) cs)
-    (→and (leb 1 d) (eqIntegers (scale (pos d) (floorDivAll cs d)) cs) (le→leb 1 d h) (→eqIntegers exact)) (ap₂ _∷_ f q)
+    (→and (leb 1 d) (eqIntegers (scale (pos d) (floorDivAll cs d)) cs) (le→leb 1 d (w .divisor)) (→eqIntegers exact)) (ap₂ _∷_ f q)
+
+-- the form that a Sum adds is its sum divided
+pub sum-divided : {b : Branch} {d : ℕ} {ts : List (ℕ × ℤ)} {cs : List (List Fact)} → (i : IsSum b d ts cs) → Divided d (summed ts (i .forms)) (i .new)
+sum-divided {d = d} {ts = ts} i = record {
+  divisor = i .divisor;
+  columns = λ j. i .columns j ∙ sym (entry-summed ts (i .forms) (suc j));
+  floor-low = subst (λ z. (pos d *ℤ entry (i .new) 0) ≤ℤ z) (sym (entry-summed ts (i .forms) 0)) (i .floor-low);
+  floor-high = subst (λ z. z <ℤ (pos d *ℤ (entry (i .new) 0 +ℤ pos 1))) (sym (entry-summed ts (i .forms) 0)) (i .floor-high);
+}

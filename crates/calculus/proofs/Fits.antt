@@ -2,8 +2,8 @@
 use Prim.Native.Nat.{ℕ, suc, _≤_}
 use native.Mathlib.Omega.{arith}
 use mathlib.Core.Path.{_≡_, refl, sym, _∙_, ap, ap₂, subst}
-use mathlib.Core.Logic.{_⊎_, inl, inr}
-use mathlib.Core.Bool.{Bool, true, false, not, _&&_, _||_}
+use mathlib.Core.Logic.{_≢_, _⊎_, inl, inr}
+use mathlib.Core.Bool.{Bool, true, false, cond, not, _&&_, _||_}
 use mathlib.Core.Option.{Option, none, some}
 use mathlib.Core.List.{List, [], _∷_}
 use lib.ListN.{length, getElem?}
@@ -15,29 +15,30 @@ use Rattle.integers.proofs.Laws.{minus-one-*ℤ}
 use Rattle.lists.proofs.Every.{some-at}
 use Rattle.lists.specs.Lists.{any, lowest}
 use Rattle.lists.proofs.Options.{some-injective, none-some}
-use Rattle.lists.proofs.Lists.{all-at}
+use Rattle.lists.proofs.Lists.{all-at, all-true→, →all-true}
 use Rattle.lists.proofs.Tests.{→true, true→, and→, →and, or→, →or-left, →or-right}
 use Rattle.calculus.specs.Limits.{columnLimit}
 use Rattle.calculus.specs.Alphabet.{characterCount}
-use Rattle.calculus.specs.LinearForms.{plus, scale, minus, isZero, eqIntegers, allZero}
+use Rattle.calculus.specs.LinearForms.{plus, scale, minus, isZero, eqℤ, eqIntegers, allZero, floorDivAll}
 use Rattle.calculus.specs.Facts.{Question, Fact, same, notSame, isLiteral, arithmetic, Branch}
 use Rattle.calculus.specs.Facts.{Relation, ge, eq, ne, Function, len, code, holds, columnOf, apply, Holds}
 use Rattle.calculus.specs.Chains.{varNode}
 use Rattle.calculus.specs.Classes.{labels, sameClass, classLiteral, conflict}
 use Rattle.calculus.specs.Steps.{Step, Sum, BranchOn, Apart, AConf, SConf, SProp, LIntro, LValid, CCollapse, CValid, CInj, Card, Join}
-use Rattle.calculus.specs.Children.{sumChild, literalChild, pairChildren, boundChild}
-use Rattle.calculus.specs.Rules.{guard, then, summand, sumOf, divided, isFalse, joinOf, statesZero, statesDifference, found}
+use Rattle.calculus.specs.Children.{sumChild, literalChild, pairChildren, boundChild, joinChild}
+use Rattle.calculus.specs.Rules.{guard, then, summand, sumOf, divided, isEquation, allEquations, dividesExactly, sumRelation}
+use Rattle.calculus.specs.Rules.{isFalse, joinForm, joinOf, statesZero, statesDifference, found}
 use Rattle.calculus.specs.Rules.{sameLength, neighbours, distinct, leastPower, lastChild, cardChildren, children, apartOf, statesEqual}
-use Rattle.calculus.specs.Instances.{entry, FactAt, Multiplier, Summands, IsSum, IsApart, IsAConf}
+use Rattle.calculus.specs.Instances.{entry, FactAt, Multiplier, Summands, total, Exact, SumRelation, IsSum, IsApart, IsAConf}
 use Rattle.calculus.specs.Instances.{IsClassLiteral, LengthsStated, Neighbours, LastChild, IsJoin, Instance, StepInRange}
 use Rattle.calculus.proofs.Alphabet.{some-character}
 use Rattle.lists.proofs.Searches.{turn, lowest-passes}
 use Rattle.calculus.proofs.InRange.{HeadInRange, FactInRange, FactsInRange}
 use Rattle.calculus.proofs.Tests.{guard→, →guard, then→, →then, differ→, →differ, distinct→, →distinct}
-use Rattle.calculus.proofs.LinearForms.{eqIntegers→, →eqIntegers}
+use Rattle.calculus.proofs.LinearForms.{eqℤ→, →eqℤ, eqIntegers→, →eqIntegers}
 use Rattle.calculus.proofs.Relations.{nonzero→, →nonzero, fails→, →fails, positive→, →positive}
 use Rattle.calculus.proofs.Entries.{entry-scale, by-entries, allZero→, →allZero, summed, entry-summed, Whole}
-use Rattle.calculus.proofs.Entries.{length-plus, length-scale, whole-scale, Divided, divided→, →divided}
+use Rattle.calculus.proofs.Entries.{length-plus, length-scale, whole-scale, divided→, →divided, sum-divided}
 use Rattle.calculus.proofs.Classes.{class→chain, chain→class, literal→counts, counts→literal, conflict→, →conflict}
 use Rattle.calculus.proofs.Powers.{least-power, least-unique}
 
@@ -68,7 +69,7 @@ summand→ m (arithmetic ne g) e = absurd (none-some e)
 →summand m eq e h = →guard (not (isZero m)) (→nonzero m h) refl
 →summand m ne e h = absurd h
 
-sum→ : (b : Branch) (ts : List (ℕ × ℤ)) {r : List ℤ} → sumOf b ts ≡ some r → (es : List (List ℤ)) × Summands b ts es × (r ≡ summed ts es)
+pub sum→ : (b : Branch) (ts : List (ℕ × ℤ)) {r : List ℤ} → sumOf b ts ≡ some r → (es : List (List ℤ)) × Summands b ts es × (r ≡ summed ts es)
 sum→ b [] e = ([], tt, sym (some-injective e))
 sum→ b (t ∷ ts) e =
     let (f, ef, e1) = then→ (getElem? b (t .0)) (λ f. then (summand (t .1) f) (λ e. then (sumOf b ts) (λ r. some (plus e r)))) e in
@@ -88,7 +89,55 @@ sum→ b (t ∷ ts) e =
 →sum b (t ∷ ts) (e ∷ es) (h, hs) =
     →then _ (h .named) (→then _ (→summand (t .1) (h .relation) e (h .multiplier)) (→then (λ r. some (plus (scale (t .1) e) r)) (→sum b ts es hs) refl))
 
--- a sum of whole forms is a whole form
+-- the relation of a Sum's fact
+
+equation→ : (o : Option Fact) → isEquation o ≡ true → (e : List ℤ) × (o ≡ some (arithmetic eq e))
+equation→ none h = absurd (true→ h)
+equation→ (some (same x y)) h = absurd (true→ h)
+equation→ (some (notSame x y)) h = absurd (true→ h)
+equation→ (some (isLiteral x l)) h = absurd (true→ h)
+equation→ (some (arithmetic ge e)) h = absurd (true→ h)
+equation→ (some (arithmetic eq e)) h = (e, refl)
+equation→ (some (arithmetic ne e)) h = absurd (true→ h)
+
+-- the constant of a form that is divided
+constant-is : (d : ℕ) (r e : List ℤ) → divided d r ≡ some e → dividesExactly d r ≡ eqℤ (pos d *ℤ entry e 0) (entry r 0)
+unfolding dividesExactly
+constant-is d [] e h = absurd (none-some h)
+constant-is d (c ∷ cs) e h =
+    let (_, g) = guard→ (leb 1 d && eqIntegers (scale (pos d) (floorDivAll cs d)) cs) h in
+    ap (λ e. eqℤ (pos d *ℤ entry e 0) c) g
+
+pub sum-relation : (b : Branch) (d : ℕ) (ts : List (ℕ × ℤ)) (es : List (List ℤ)) {r e : List ℤ}
+    → r ≡ summed ts es
+    → divided d r ≡ some e
+    → SumRelation (Exact b d ts es e) (sumRelation b d ts r)
+unfolding allEquations
+sum-relation b d ts es {r} {e} p q = go (allEquations b ts && dividesExactly d r) refl
+  where
+    exact : T (allEquations b ts && dividesExactly d r) → Exact b d ts es e
+    exact t =
+        let (h, k) = and→ (allEquations b ts) (dividesExactly d r) t in
+        record {
+          equations = all-true→ (λ (t : ℕ × ℤ). isEquation (getElem? b (t .0))) ts (λ t. equation→ (getElem? b (t .0))) (→true (allEquations b ts) h);
+          constant = eqℤ→ (pos d *ℤ entry e 0) (entry r 0) (subst T (constant-is d r e q) k) ∙ ap (λ r. entry r 0) p ∙ entry-summed ts es 0;
+        }
+
+    exactly : Exact b d ts es e → T (allEquations b ts && dividesExactly d r)
+    exactly x = →and (allEquations b ts) (dividesExactly d r)
+        (true→ (→all-true (λ (t : ℕ × ℤ). isEquation (getElem? b (t .0))) ts (λ t (f, h). ap isEquation h) (x .equations)))
+        (subst T (sym (constant-is d r e q)) (→eqℤ (x .constant ∙ sym (ap (λ r. entry r 0) p ∙ entry-summed ts es 0))))
+
+    go : (t : Bool) → (allEquations b ts && dividesExactly d r) ≡ t → SumRelation (Exact b d ts es e) (cond t eq ge)
+    go true h = inl (exact (true→ h), refl)
+    go false h = inr ((λ x. subst T h (exactly x)), refl)
+
+relation-unique : {E : Type 0} {r s : Relation} → SumRelation E r → SumRelation E s → r ≡ s
+relation-unique (inl (e, p)) (inl (f, q)) = p ∙ sym q
+relation-unique (inl (e, p)) (inr (f, q)) = absurd (f e)
+relation-unique (inr (e, p)) (inl (f, q)) = absurd (e f)
+relation-unique (inr (e, p)) (inr (f, q)) = p ∙ sym q
+
 -- there is a lowest where some element passes
 found-any : {A : Type 0} (test : A → Bool) (b : List A) → found (lowest test b) ≡ any test b
 unfolding lowest
@@ -101,6 +150,7 @@ found-any test (f ∷ b) = go (test f) (lowest test b) (found-any test b)
     go false (some k) e = e
 
 module _ (u : Question) (b : Branch) (g : FactsInRange u b) where
+  -- a sum of whole forms is a whole form
   sum-size : (ts : List (ℕ × ℤ)) (es : List (List ℤ)) → Summands b ts es → (length (summed ts es) ≤ suc columnLimit) × (1 ≤ length ts → Whole (summed ts es))
   sum-size [] [] h = (omega arith, λ l. absurd (omega arith))
   sum-size [] (e ∷ es) h = absurd h
@@ -111,35 +161,36 @@ module _ (u : Question) (b : Branch) (g : FactsInRange u b) where
       let whole : length (plus (scale (t .1) e) (summed ts es)) ≡ suc columnLimit = length-plus (scale (t .1) e) (summed ts es) (omega arith) ∙ k in
       (omega arith, λ l. whole)
 
-  sum-fits : (d : ℕ) (ts : List (ℕ × ℤ)) {cs : List (List Fact)} → 1 ≤ d → 1 ≤ length ts → children u b (Sum d ts) ≡ some cs → IsSum b d ts cs
-  sum-fits d ts k l e =
-      let (r, er, e1) = then→ (sumOf b ts) (λ r. then (divided d r) (λ e. some (sumChild e))) e in
-      let (q, dq, e2) = then→ (divided d r) (λ e. some (sumChild e)) e1 in
+  sum-fits : (d : ℕ) (ts : List (ℕ × ℤ)) {cs : List (List Fact)} → 1 ≤ length ts → children u b (Sum d ts) ≡ some cs → IsSum b d ts cs
+  sum-fits d ts l e =
+      let (r, er, e1) = then→ (sumOf b ts) (λ r. then (divided d r) (λ e. some (sumChild (sumRelation b d ts r) e))) e in
+      let (q, dq, e2) = then→ (divided d r) (λ e. some (sumChild (sumRelation b d ts r) e)) e1 in
       let (es, h, p) = sum→ b ts er in
-      let w : Divided d (summed ts es) q = subst (λ r. Divided d r q) p (divided→ d r q dq) in
+      let (w, size) = divided→ d r q dq in
+      let total-is : (j : ℕ) → entry r j ≡ total j ts es = λ j. ap (λ r. entry r j) p ∙ entry-summed ts es j in
       record {
-        divisor = k;
+        divisor = w .divisor;
         some-pair = l;
         forms = es;
         summands = h;
         new = q;
-        size = w .size ∙ sum-size ts es h .1 l;
-        columns = λ j. w .columns j ∙ entry-summed ts es (suc j);
-        floor-low = subst (λ z. (pos d *ℤ entry q 0) ≤ℤ z) (entry-summed ts es 0) (w .floor-low);
-        floor-high = subst (λ z. z <ℤ (pos d *ℤ (entry q 0 +ℤ pos 1))) (entry-summed ts es 0) (w .floor-high);
+        size = size ∙ ap length p ∙ sum-size ts es h .1 l;
+        columns = λ j. w .columns j ∙ total-is (suc j);
+        floor-low = subst (λ z. (pos d *ℤ entry q 0) ≤ℤ z) (total-is 0) (w .floor-low);
+        floor-high = subst (λ z. z <ℤ (pos d *ℤ (entry q 0 +ℤ pos 1))) (total-is 0) (w .floor-high);
+        relation = sumRelation b d ts r;
+        is-equation = sum-relation b d ts es p dq;
         adds = sym (some-injective e2);
       }
 
   fits-sum : (d : ℕ) (ts : List (ℕ × ℤ)) {cs : List (List Fact)} → IsSum b d ts cs → children u b (Sum d ts) ≡ some cs
   fits-sum d ts i =
-      let whole : Whole (summed ts (i .forms)) = sum-size ts (i .forms) (i .summands) .1 (i .some-pair) in
-      let w : divided d (summed ts (i .forms)) ≡ some (i .new) = →divided d (summed ts (i .forms)) (i .new) (i .divisor) (omega arith) (record {
-        size = i .size ∙ sym whole;
-        columns = λ j. i .columns j ∙ sym (entry-summed ts (i .forms) (suc j));
-        floor-low = subst (λ z. (pos d *ℤ entry (i .new) 0) ≤ℤ z) (sym (entry-summed ts (i .forms) 0)) (i .floor-low);
-        floor-high = subst (λ z. z <ℤ (pos d *ℤ (entry (i .new) 0 +ℤ pos 1))) (sym (entry-summed ts (i .forms) 0)) (i .floor-high);
-      }) in
-      →then _ (→sum b ts (i .forms) (i .summands)) (→then (λ e. some (sumChild e)) w (ap some (sym (i .adds))))
+      let r : List ℤ = summed ts (i .forms) in
+      let whole : Whole r = sum-size ts (i .forms) (i .summands) .1 (i .some-pair) in
+      let w : divided d r ≡ some (i .new) = →divided d r (i .new) (omega arith) (i .size ∙ sym whole) (sum-divided i) in
+      let relation : sumRelation b d ts r ≡ i .relation = relation-unique (sum-relation b d ts (i .forms) refl w) (i .is-equation) in
+      →then _ (→sum b ts (i .forms) (i .summands))
+      (→then (λ e. some (sumChild (sumRelation b d ts r) e)) w (ap (λ x. some (sumChild x (i .new))) relation ∙ ap some (sym (i .adds))))
 
 -- ---- 3 Apart
 
@@ -211,11 +262,11 @@ module _ (u : Question) (b : Branch) where
       let e : List ℤ = difference y x in
       passing x y k (arithmetic eq e) h (→or-right (statesZero (difference x y) (arithmetic eq e)) (statesZero e (arithmetic eq e)) (→eqIntegers {a = e} refl))
 
-  neighbours→ : (x : ℕ) (ys : List ℕ) → T (neighbours u b x ys) → Neighbours u b x ys
+  pub neighbours→ : (x : ℕ) (ys : List ℕ) → T (neighbours u b x ys) → Neighbours u b x ys
   neighbours→ x [] t = tt
   neighbours→ x (y ∷ ys) t = let (s, q) = and→ (sameLength u b x y) (neighbours u b y ys) t in (same-length→ x y s, neighbours→ y ys q)
 
-  →neighbours : (x : ℕ) (ys : List ℕ) → Neighbours u b x ys → T (neighbours u b x ys)
+  pub →neighbours : (x : ℕ) (ys : List ℕ) → Neighbours u b x ys → T (neighbours u b x ys)
   →neighbours x [] h = tt
   →neighbours x (y ∷ ys) (h, hs) = →and (sameLength u b x y) (neighbours u b y ys) (→same-length x y h) (→neighbours y ys hs)
 
@@ -263,28 +314,45 @@ fits-card u b (x ∷ y ∷ xs) h i = →guard (distinct (x ∷ y ∷ xs) && neig
 
 -- ---- 13 Join
 
+-- the fact f is taken by Join, with the form e
+record Joined (f : Fact) (e : List ℤ) : Type 0 where
+  relation : Relation
+  taken : relation ≢ ne
+  is : f ≡ arithmetic relation e
+
+join-form→ : (f : Fact) {e : List ℤ} → joinForm f ≡ some e → Joined f e
+join-form→ (same x y) h = absurd (none-some h)
+join-form→ (notSame x y) h = absurd (none-some h)
+join-form→ (isLiteral x l) h = absurd (none-some h)
+join-form→ (arithmetic ge g) h = record { relation = ge; taken = λ z. let z : _≡_ {A = ℕ} 0 1 = cc in omega arith; is = ap (arithmetic ge) (some-injective h) }
+join-form→ (arithmetic eq g) h = record { relation = eq; taken = λ z. let z : _≡_ {A = ℕ} 0 1 = cc in omega arith; is = ap (arithmetic eq) (some-injective h) }
+join-form→ (arithmetic ne g) h = absurd (none-some h)
+
+→join-form : (r : Relation) (e : List ℤ) → r ≢ ne → joinForm (arithmetic r e) ≡ some e
+→join-form ge e h = refl
+→join-form eq e h = refl
+→join-form ne e h = absurd (h refl)
+
 join-fits : (b : Branch) (j k : ℕ) (f g : Fact) {cs : List (List Fact)} → FactAt b j f → FactAt b k g → joinOf f g ≡ some cs → IsJoin b j k cs
-join-fits b j k (arithmetic ge e) (arithmetic ge a) hf hg h =
-    let (t, n) = guard→ (eqIntegers (scale (negsuc 0) e) a) h in
-    let p : scale (negsuc 0) e ≡ a = eqIntegers→ (scale (negsuc 0) e) a t in
+join-fits b j k f g hf hg h =
+    let (e, p, h1) = then→ (joinForm f) (λ e. then (joinForm g) (λ a. guard (eqIntegers (scale (negsuc 0) e) a) (joinChild e))) h in
+    let (a, q, h2) = then→ (joinForm g) (λ a. guard (eqIntegers (scale (negsuc 0) e) a) (joinChild e)) h1 in
+    let (t, n) = guard→ (eqIntegers (scale (negsuc 0) e) a) h2 in
+    let negative : scale (negsuc 0) e ≡ a = eqIntegers→ (scale (negsuc 0) e) a t in
+    let first = join-form→ f p in
+    let second = join-form→ g q in
     record {
+      first-relation = first .relation;
+      second-relation = second .relation;
+      first-taken = first .taken;
+      second-taken = second .taken;
       form = e;
       negative = a;
-      first = hf;
-      second = hg;
-      negated = λ i. ap (λ a. entry a i) (sym p) ∙ entry-scale (negsuc 0) e i ∙ minus-one-*ℤ (entry e i);
+      first = hf ∙ ap some (first .is);
+      second = hg ∙ ap some (second .is);
+      negated = λ i. ap (λ a. entry a i) (sym negative) ∙ entry-scale (negsuc 0) e i ∙ minus-one-*ℤ (entry e i);
       adds = sym n;
     }
-join-fits b j k (arithmetic ge e) (arithmetic eq a) hf hg h = absurd (none-some h)
-join-fits b j k (arithmetic ge e) (arithmetic ne a) hf hg h = absurd (none-some h)
-join-fits b j k (arithmetic ge e) (same x y) hf hg h = absurd (none-some h)
-join-fits b j k (arithmetic ge e) (notSame x y) hf hg h = absurd (none-some h)
-join-fits b j k (arithmetic ge e) (isLiteral x y) hf hg h = absurd (none-some h)
-join-fits b j k (arithmetic eq e) g hf hg h = absurd (none-some h)
-join-fits b j k (arithmetic ne e) g hf hg h = absurd (none-some h)
-join-fits b j k (same x y) g hf hg h = absurd (none-some h)
-join-fits b j k (notSame x y) g hf hg h = absurd (none-some h)
-join-fits b j k (isLiteral x y) g hf hg h = absurd (none-some h)
 
 fits-join : (u : Question) (b : Branch) (j k : ℕ) {cs : List (List Fact)} → FactsInRange u b → IsJoin b j k cs → children u b (Join j k) ≡ some cs
 fits-join u b j k r i =
@@ -292,7 +360,9 @@ fits-join u b j k r i =
     let a : Whole (i .negative) = all-at (FactInRange u) b k r (i .second) in
     let p : scale (negsuc 0) (i .form) ≡ i .negative = by-entries (scale (negsuc 0) (i .form)) (i .negative) (length-scale (negsuc 0) (i .form) ∙ e ∙ sym a)
     (λ p. entry-scale (negsuc 0) (i .form) p ∙ minus-one-*ℤ (entry (i .form) p) ∙ sym (i .negated p)) in
-    →then _ (i .first) (→then _ (i .second) (→guard (eqIntegers (scale (negsuc 0) (i .form)) (i .negative)) (→eqIntegers p) (sym (i .adds))))
+    →then _ (i .first) (→then _ (i .second)
+    (→then _ (→join-form (i .first-relation) (i .form) (i .first-taken)) (→then _ (→join-form (i .second-relation) (i .negative) (i .second-taken))
+    (→guard (eqIntegers (scale (negsuc 0) (i .form)) (i .negative)) (→eqIntegers p) (sym (i .adds))))))
 
 -- ---- every rule
 
@@ -312,7 +382,7 @@ module _ (u : Question) (w : HeadInRange u) (b : Branch) (r : FactsInRange u b) 
 
   pub fits→instance : (st : Step) {cs : List (List Fact)} → StepInRange u st → children u b st ≡ some cs → Instance u b st cs
   unfolding Instance StepInRange
-  fits→instance (Sum d ts) g e = sum-fits u b r d ts (g .0) (g .1) e
+  fits→instance (Sum d ts) g e = sum-fits u b r d ts (g .1) e
   fits→instance (BranchOn a) g e = sym (some-injective e)
   fits→instance (Apart k) g e = let (f, h, e1) = then→ (getElem? b k) apartOf e in apart-fits b k f h e1
   fits→instance (AConf k) g e =

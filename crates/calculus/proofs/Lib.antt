@@ -5,6 +5,7 @@ pub mod Tests
 pub mod LinearForms
 pub mod Relations
 pub mod Entries
+pub mod Arithmetic
 pub mod Classes
 pub mod Powers
 pub mod Words
@@ -22,3 +23,5 @@ pub mod Lowest
 pub mod Leaf
 pub mod Saturation
 pub mod Strings
+pub mod Alongside
+pub mod Before

@@ -20,7 +20,7 @@ use Rattle.calculus.specs.Steps.{Step, Sum, BranchOn, Apart, AConf, SCon
 use Rattle.calculus.specs.Steps.{CCollapse, CValid, CInj, Card, Join, pairCount, lastCount, shape}
 use Rattle.calculus.specs.LinearForms.{scale, eqIntegers}
 use Rattle.calculus.specs.Children.{childAt, codeChild, pairChildrenWith, pairChildren, boundChild}
-use Rattle.calculus.specs.Rules.{sumOf, divided, apartOf, isFalse, joinOf, neighbours, distinct, leastPower, lastChild, cardChildren, children}
+use Rattle.calculus.specs.Rules.{sumOf, divided, apartOf, isFalse, joinForm, joinOf, neighbours, distinct, leastPower, lastChild, cardChildren, children}
 use Rattle.calculus.specs.Walk.{Waiting, Walk, working, closed, wait, cutBack, enter}
 use Rattle.calculus.proofs.Tests.{guard→, then→}
 use Rattle.calculus.proofs.Walks.{childTaken}
@@ -80,17 +80,10 @@ parted-shape (arithmetic eq g) e = absurd (none-some e)
 parted-shape (arithmetic ne g) e = ap (map length) (sym (some-injective e))
 
 joined-shape : (f g : Fact) {cs : List (List Fact)} → joinOf f g ≡ some cs → map length cs ≡ 1 ∷ []
-joined-shape (arithmetic ge d) (arithmetic ge g) e = ap (map length) (sym (guard→ (eqIntegers (scale (negsuc 0) d) g) e .1))
-joined-shape (arithmetic ge d) (arithmetic eq g) e = absurd (none-some e)
-joined-shape (arithmetic ge d) (arithmetic ne g) e = absurd (none-some e)
-joined-shape (arithmetic ge d) (same x y) e = absurd (none-some e)
-joined-shape (arithmetic ge d) (notSame x y) e = absurd (none-some e)
-joined-shape (arithmetic ge d) (isLiteral x l) e = absurd (none-some e)
-joined-shape (arithmetic eq d) g e = absurd (none-some e)
-joined-shape (arithmetic ne d) g e = absurd (none-some e)
-joined-shape (same x y) g e = absurd (none-some e)
-joined-shape (notSame x y) g e = absurd (none-some e)
-joined-shape (isLiteral x l) g e = absurd (none-some e)
+joined-shape f g e =
+    let (a, _, e2) = then→ (joinForm f) _ e in
+    let (h, _, e3) = then→ (joinForm g) _ e2 in
+    ap (map length) (sym (guard→ (eqIntegers (scale (negsuc 0) a) h) e3 .1))
 
 -- how many children, how many facts each adds, or that the rule closes
 pub children-shape : (u : Question) (b : Branch) (st : Step) (cs : List (List Fact)) → children u b st ≡ some cs → map length cs ≡ shape (u .n) st

@@ -8,25 +8,27 @@ use mathlib.Core.Bool.{cond}
 use mathlib.Core.List.{List, [], _∷_, map, tail, List-discrete}
 use lib.ListN.{length, length-map}
 use lib.Dec.{eqb}
-use lib.IntN.{ℤ, pos, negsuc, negℤ, _+ℤ_, _-ℤ_, _*ℤ_, +ℤ-idr, *ℤ-zero, ℤ-discrete, pos-ne-negsuc}
-use lib.Signed.{_≤ℤ_, ≤ℤ-refl}
-use Rattle.integers.proofs.Laws.{minus-one-*ℤ, pos-injective, pos-≤ℤ, ≤ℤ-antisym, ≤ℤ-trans, +ℤ-mono, *ℤ-mono, -ℤ-zero→}
-use Rattle.integers.proofs.Laws.{→-ℤ-zero, →-ℤ-nonneg, neg-nonneg→, branch-cases, apart-cases, tighten}
+use lib.IntN.{ℤ, pos, negsuc, _+ℤ_, _-ℤ_, +ℤ-idr, ℤ-discrete, pos-ne-negsuc}
+use lib.Signed.{_≤ℤ_}
+use Rattle.integers.proofs.Laws.{pos-injective, pos-≤ℤ, -ℤ-zero→}
+use Rattle.integers.proofs.Laws.{→-ℤ-zero, →-ℤ-nonneg, branch-cases, apart-cases}
 use Rattle.lists.specs.Lists.{All, Distinct, Any}
-use Rattle.lists.proofs.Lists.{all-at, distinct-at}
+use Rattle.lists.proofs.Lists.{all-map, all-at, distinct-at}
 use Rattle.calculus.specs.Alphabet.{characterCount, codeRanges, Over}
-use Rattle.calculus.specs.LinearForms.{scale, number, minus, less, above, below, dot}
-use Rattle.calculus.specs.Facts.{Question, Fact, same, notSame, isLiteral, arithmetic, Branch, Relation, ge}
-use Rattle.calculus.specs.Facts.{eq, ne, Holds, Function, len, code, literal, columnOf, apply, codeOf, valueOf}
+use Rattle.calculus.specs.LinearForms.{number, minus, less, above, below}
+use Rattle.calculus.specs.Facts.{Question, Fact, same, notSame, isLiteral, arithmetic, Branch, ge}
+use Rattle.calculus.specs.Facts.{eq, Holds, Function, len, code, literal, columnOf, apply, codeOf, valueOf}
 use Rattle.calculus.specs.Chains.{varNode, litNode, Edge, AnyEdge, Chain, here, along, back}
 use Rattle.calculus.specs.Steps.{Step, Sum, BranchOn, Apart, AConf, SConf, SProp, LIntro, LValid, CCollapse, CValid, CInj, Card, Join}
 use Rattle.calculus.specs.Children.{pairChildren, codeChild, cValidChildren, cInjChildren}
-use Rattle.calculus.specs.Instances.{entry, FactAt, Multiplier, Summands, total, IsSum, IsAConf, LiteralsMeet, SidesMeet}
-use Rattle.calculus.specs.Instances.{IsClassLiteral, LengthsStated, Neighbours, LastChild, IsCard, IsJoin, Instance, StepInRange}
+use Rattle.calculus.specs.Instances.{entry, FactAt, IsAConf, LiteralsMeet, SidesMeet}
+use Rattle.calculus.specs.Instances.{IsClassLiteral, LengthsStated, Neighbours, LastChild, IsCard, Instance, StepInRange}
+use Rattle.calculus.specs.Saturation.{MeetsArithmetic}
 use Rattle.calculus.specs.Meaning.{Assignment, str, For, columns, value, Meets, Met}
-use Rattle.calculus.proofs.LinearForms.{dot-plus, dot-scale, dot-neg, dot-minus, dot-number, dot-column, dot-less, dot-above, dot-below}
+use Rattle.calculus.proofs.LinearForms.{dot-minus, dot-number, dot-column, dot-less, dot-above, dot-below}
 use Rattle.calculus.proofs.Alphabet.{InCodes, →ranges}
-use Rattle.calculus.proofs.Entries.{entry-scale, entry-tail, dot-entries, dot-split, summed, entry-summed}
+use Rattle.calculus.proofs.Arithmetic.{sum-holds, join-holds}
+use Rattle.calculus.proofs.Entries.{entry-tail, dot-entries, dot-split, sum-divided}
 use Rattle.calculus.proofs.Powers.{one-power}
 use Rattle.calculus.proofs.Columns.{column-value}
 use Rattle.calculus.proofs.Words.{one-or-no-code, Word, count}
@@ -67,41 +69,17 @@ module _ (u : Question) (a : Assignment) (f : For u a) where
   equals-number : (g : Function) (x : ℕ) (k : ℤ) → x < u .p → valueOf g (str a x) ≡ k → Meets u a (arithmetic eq (minus (apply u g x) (number k)))
   equals-number g x k h e = (dot-minus (apply u g x) (number k) (pos 1 ∷ v) (apply-value g x h) (dot-number v k) ∙ →-ℤ-zero e)
 
-  -- ---- 1 Sum
+  -- the columns' values meet the arithmetic facts
+  meets-arithmetic : (g : Fact) → Meets u a g → MeetsArithmetic v g
+  meets-arithmetic (same x y) m = tt
+  meets-arithmetic (notSame x y) m = tt
+  meets-arithmetic (isLiteral x l) m = tt
+  meets-arithmetic (arithmetic r e) m = m
 
-  summand-met : (r : Relation) (k : ℤ) (e : List ℤ) → Multiplier r k → Meets u a (arithmetic r e) → pos 0 ≤ℤ (k *ℤ value a e)
-  summand-met ge k e h m = subst (λ z. z ≤ℤ (k *ℤ value a e)) (*ℤ-zero k) (*ℤ-mono k (≤ℤ-trans (pos-≤ℤ (omega arith)) h) m)
-  summand-met eq k e h m = subst (λ z. pos 0 ≤ℤ z) (sym (ap (λ z. k *ℤ z) m ∙ *ℤ-zero k)) (≤ℤ-refl (pos 0))
-  summand-met ne k e h m = absurd h
+  met-arithmetic : (b : Branch) → Met u a b → All (MeetsArithmetic v) b
+  met-arithmetic b m = all-map b meets-arithmetic m
 
-  sum-met : (b : Branch) (ts : List (ℕ × ℤ)) (es : List (List ℤ)) → Met u a b → Summands b ts es → pos 0 ≤ℤ value a (summed ts es)
-  sum-met b [] [] m h = ≤ℤ-refl (pos 0)
-  sum-met b [] (e ∷ es) m h = absurd h
-  sum-met b (t ∷ ts) [] m h = absurd h
-  sum-met b (t ∷ ts) (e ∷ es) m (h, hs) =
-      subst (λ z. pos 0 ≤ℤ z)
-      (sym (dot-plus (scale (t .1) e) (summed ts es) (pos 1 ∷ v) ∙ ap (λ z. z +ℤ value a (summed ts es)) (dot-scale (t .1) e (pos 1 ∷ v))))
-      (+ℤ-mono (summand-met (h .relation) (t .1) e (h .multiplier) (all-at (Meets u a) b (t .0) m (h .named))) (sum-met b ts es m hs))
-
-  new-met : (b : Branch) (d : ℕ) (ts : List (ℕ × ℤ)) (cs : List (List Fact)) → Met u a b → (i : IsSum b d ts cs) → pos 0 ≤ℤ value a (i .new)
-  new-met b d ts cs m i = subst (λ z. pos 0 ≤ℤ z) (sym (dot-split (i .new) v))
-      (tighten d (dot-tail (i .new)) (total 0 ts (i .forms)) (entry (i .new) 0) (i .floor-high)
-      (subst (λ z. pos 0 ≤ℤ z) (dot-split (summed ts (i .forms)) v ∙ ap₂ _+ℤ_ (entry-summed ts (i .forms) 0) quotient)
-      (sum-met b ts (i .forms) m (i .summands))))
-    where
-      dot-tail : List ℤ → ℤ
-      dot-tail e = dot (tail e) v
-
-      quotient : dot-tail (summed ts (i .forms)) ≡ pos d *ℤ dot-tail (i .new)
-      quotient = dot-entries (tail (summed ts (i .forms))) (scale (pos d) (tail (i .new))) v (λ j.
-          entry-tail (summed ts (i .forms)) j
-          ∙ entry-summed ts (i .forms) (suc j)
-          ∙ sym (i .columns j)
-          ∙ ap (λ c. pos d *ℤ c) (sym (entry-tail (i .new) j))
-          ∙ sym (entry-scale (pos d) (tail (i .new)) j))
-          ∙ dot-scale (pos d) (tail (i .new)) v
-
-  -- ---- 4 A-Conf, 13 Join
+  -- ---- 4 A-Conf
 
   conf-dead : (b : Branch) (k : ℕ) (cs : List (List Fact)) → Met u a b → IsAConf b k cs → ⊥
   conf-dead b k cs m i = i .false-constant (subst (Holds (i .relation)) constant (all-at (Meets u a) b k m (i .named)))
@@ -111,16 +89,6 @@ module _ (u : Question) (a : Assignment) (f : For u a) where
           dot-split (i .form) v
           ∙ ap (λ z. entry (i .form) 0 +ℤ z) (dot-entries (tail (i .form)) [] v (λ j. entry-tail (i .form) j ∙ i .no-coefficient j))
           ∙ +ℤ-idr (entry (i .form) 0)
-
-  join-met : (b : Branch) (j k : ℕ) (cs : List (List Fact)) → Met u a b → (i : IsJoin b j k cs) → value a (i .form) ≡ pos 0
-  join-met b j k cs m i =
-      ≤ℤ-antisym (neg-nonneg→ (subst (λ z. pos 0 ≤ℤ z) negative (all-at (Meets u a) b k m (i .second)))) (all-at (Meets u a) b j m (i .first))
-    where
-      negative : value a (i .negative) ≡ negℤ (value a (i .form))
-      negative =
-          dot-entries (i .negative) (scale (negsuc 0) (i .form)) (pos 1 ∷ v)
-          (λ p. i .negated p ∙ sym (entry-scale (negsuc 0) (i .form) p ∙ minus-one-*ℤ (entry (i .form) p)))
-          ∙ dot-neg (i .form) (pos 1 ∷ v)
 
   -- ---- classes
 
@@ -239,7 +207,9 @@ module _ (u : Question) (a : Assignment) (f : For u a) where
       → Met u a b
       → AnyMet u a cs
   unfolding Instance StepInRange
-  instance-sound d b (Sum k ts) cs g i m = subst (AnyMet u a) (sym (i .adds)) (inl ((new-met b k ts cs m i), tt))
+  instance-sound d b (Sum k ts) cs g i m =
+      subst (AnyMet u a) (sym (i .adds))
+      (inl (sum-holds v b k ts (i .forms) (i .new) (i .relation) (met-arithmetic b m) (i .summands) (sum-divided i) (i .is-equation), tt))
   instance-sound d b (BranchOn e) cs g i m =
       subst (AnyMet u a) (sym i)
       (two (arithmetic ge e) (arithmetic ge (below e)) (at-least e refl) (at-least (below e) (dot-below v e refl)) (branch-cases (value a e)))
@@ -301,4 +271,4 @@ module _ (u : Question) (a : Assignment) (f : For u a) where
   instance-sound d b (Card []) cs g i m = absurd i
   instance-sound d b (Card (x ∷ [])) cs g i m = absurd i
   instance-sound d b (Card (x ∷ y ∷ xs)) cs (g, l) i m = card-met b x (y ∷ xs) cs m g l i
-  instance-sound d b (Join j k) cs g i m = subst (AnyMet u a) (sym (i .adds)) (inl ((join-met b j k cs m i), tt))
+  instance-sound d b (Join j k) cs g i m = subst (AnyMet u a) (sym (i .adds)) (inl (join-holds v b j k cs (met-arithmetic b m) i, tt))

@@ -6,7 +6,7 @@ use lib.ListN.{getElem?}
 use lib.IntN.{ℤ, pos, negsuc}
 use Rattle.calculus.specs.Alphabet.{codeRanges}
 use Rattle.calculus.specs.LinearForms.{number, minus, less, above, below}
-use Rattle.calculus.specs.Facts.{Question, Fact, same, isLiteral, arithmetic, ge, eq, ne, Function, len, code, literal, apply, valueOf}
+use Rattle.calculus.specs.Facts.{Question, Fact, same, isLiteral, arithmetic, Relation, ge, eq, ne, Function, len, code, literal, apply, valueOf}
 
 -- the child of number k: "the child taken, from 1"
 abbrev pub childAt : {A : Type 0} → List A → ℕ → Option A
@@ -17,9 +17,9 @@ childAt cs (suc k) = getElem? cs k
 abbrev pub one : Fact → List (List Fact)
 one f = (f ∷ []) ∷ []
 
--- Sum: "Adds a ≥ fact"
-abbrev pub sumChild : List ℤ → List (List Fact)
-sumChild e = one (arithmetic ge e)
+-- Sum: "Adds a ≥ fact"; of 02, L4: "the new fact shall be an equation" where the facts named and the constant allow it
+abbrev pub sumChild : Relation → List ℤ → List (List Fact)
+sumChild r e = one (arithmetic r e)
 
 -- Branch: "Children e ≥ 0; −e−1 ≥ 0"
 abbrev pub branchChildren : List ℤ → List (List Fact)

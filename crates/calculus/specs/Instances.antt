@@ -1,4 +1,4 @@
--- When a step is an instance of its rule on a branch, and with which children, rule by rule in document 01's words.
+-- When a step is an instance of its rule on a branch, and with which children, rule by rule in the words of documents 01 and 02.
 use Prim.Native.Nat.{ℕ, suc, _^_, _<_, _≤_}
 use mathlib.Core.Path.{_≡_}
 use mathlib.Core.Logic.{_≢_, _⊎_}
@@ -55,6 +55,15 @@ total j [] es = pos 0
 total j (t ∷ ts) [] = pos 0
 total j (t ∷ ts) (e ∷ es) = (t .1 *ℤ entry e j) +ℤ total j ts es
 
+-- of 02, L4: "every fact named by a Sum is an equation and the constant also divides exactly"; new is the form that the Sum adds
+pub record Exact (b : Branch) (d : ℕ) (ts : List (ℕ × ℤ)) (forms : List (List ℤ)) (new : List ℤ) : Type 0 where
+  pub equations : All (λ t. (e : List ℤ) × FactAt b (t .0) (arithmetic eq e)) ts
+  pub constant : pos d *ℤ entry new 0 ≡ total 0 ts forms
+
+-- then "the new fact shall be an equation", else it is ≥
+abbrev pub SumRelation : Type 0 → Relation → Type 0
+SumRelation exact relation = (exact × (relation ≡ eq)) ⊎ ((exact → ⊥) × (relation ≡ ge))
+
 -- "i32 divisor of at least 1, then 1 to 8 pairs": at most 8 is a matter of form (5).
 -- "Column sums must divide exactly; the constant is divided rounding down".
 pub record IsSum (b : Branch) (d : ℕ) (ts : List (ℕ × ℤ)) (cs : List (List Fact)) : Type 0 where
@@ -67,7 +76,9 @@ pub record IsSum (b : Branch) (d : ℕ) (ts : List (ℕ × ℤ)) (cs : List (Lis
   pub columns : (j : ℕ) → pos d *ℤ entry new (suc j) ≡ total (suc j) ts forms
   pub floor-low : (pos d *ℤ entry new 0) ≤ℤ total 0 ts forms
   pub floor-high : total 0 ts forms <ℤ (pos d *ℤ (entry new 0 +ℤ pos 1))
-  pub adds : cs ≡ sumChild new
+  pub relation : Relation
+  pub is-equation : SumRelation (Exact b d ts forms new) relation
+  pub adds : cs ≡ sumChild relation new
 
 -- ---- 3 Apart: "a fact e ≠ 0"
 
@@ -159,13 +170,17 @@ pub record IsCard (u : Question) (Lengths : Type 0) (x : ℕ) (xs : List ℕ) (c
   pub last-child : LastChild u x (suc (length xs)) last
   pub adds : cs ≡ pairChildren (x ∷ xs) last
 
--- ---- 13 Join: "two ≥ facts, one the negative of the other"
+-- ---- 13 Join: "one the negative of the other"; of 02, L4: "Join takes equations as well as ≥ facts"
 
 pub record IsJoin (b : Branch) (j k : ℕ) (cs : List (List Fact)) : Type 0 where
+  pub first-relation : Relation
+  pub second-relation : Relation
+  pub first-taken : first-relation ≢ ne
+  pub second-taken : second-relation ≢ ne
   pub form : List ℤ
   pub negative : List ℤ
-  pub first : FactAt b j (arithmetic ge form)
-  pub second : FactAt b k (arithmetic ge negative)
+  pub first : FactAt b j (arithmetic first-relation form)
+  pub second : FactAt b k (arithmetic second-relation negative)
   pub negated : (i : ℕ) → entry negative i ≡ negℤ (entry form i)
   pub adds : cs ≡ joinChild form
 

@@ -1,21 +1,21 @@
 -- The children of a step on a branch, as checking computes them.
 use Prim.Native.Nat.{ℕ, zero, suc, _^_}
-use mathlib.Core.Bool.{Bool, true, false, not, _&&_, _||_}
+use mathlib.Core.Bool.{Bool, true, false, cond, not, _&&_, _||_}
 use mathlib.Core.Option.{Option, none, some}
 use mathlib.Core.List.{List, [], _∷_}
 use lib.ListN.{length, getElem?}
 use lib.Dec.{leb, eqb}
-use lib.IntN.{ℤ, pos, negsuc}
+use lib.IntN.{ℤ, pos, negsuc, _*ℤ_}
 use lib.Signed.{nonNeg}
 use Rattle.integers.specs.Division.{floorDiv}
-use Rattle.lists.specs.Lists.{any, lowest}
+use Rattle.lists.specs.Lists.{all, any, lowest}
 use Rattle.calculus.specs.Alphabet.{characterCount}
-use Rattle.calculus.specs.LinearForms.{plus, scale, minus, isZero, eqIntegers, allZero, floorDivAll, column}
-use Rattle.calculus.specs.Facts.{holds, Fact, Branch, Question, ge, eq, ne, same}
+use Rattle.calculus.specs.LinearForms.{plus, scale, minus, isZero, eqℤ, eqIntegers, allZero, floorDivAll, column}
+use Rattle.calculus.specs.Facts.{holds, Fact, Branch, Question, Relation, ge, eq, ne, same}
 use Rattle.calculus.specs.Facts.{notSame, isLiteral, arithmetic, len, code, columnOf, Function}
 use Rattle.calculus.specs.Chains.{varNode}
 use Rattle.calculus.specs.Classes.{labels, sameClass, classLiteral, conflict}
-use Rattle.calculus.specs.Children.{sumChild, branchChildren, apartChildren, sPropChild, literalChild, lValidChildren}
+use Rattle.calculus.specs.Children.{one, sumChild, branchChildren, apartChildren, sPropChild, literalChild, lValidChildren}
 use Rattle.calculus.specs.Children.{cValidChildren, cInjChildren, pairChildren, boundChild, joinChild}
 use Rattle.calculus.specs.Steps.{Step, Sum, BranchOn, Apart, AConf, SConf, SProp, LIntro, LValid, CCollapse, CValid, CInj, Card, Join}
 
@@ -47,6 +47,29 @@ abbrev pub divided : ℕ → List ℤ → Option (List ℤ)
 divided d [] = none
 divided d (c ∷ cs) = guard (leb 1 d && eqIntegers (scale (pos d) (floorDivAll cs d)) cs) (floorDiv c d ∷ floorDivAll cs d)
 
+-- a fact, where there is one, is an equation
+abbrev pub isEquation : Option Fact → Bool
+isEquation none = false
+isEquation (some (same x y)) = false
+isEquation (some (notSame x y)) = false
+isEquation (some (isLiteral x l)) = false
+isEquation (some (arithmetic ge e)) = false
+isEquation (some (arithmetic eq e)) = true
+isEquation (some (arithmetic ne e)) = false
+
+-- of 02, L4: "every fact named by a Sum is an equation"
+unfoldable pub allEquations : Branch → List (ℕ × ℤ) → Bool
+allEquations b ts = all (λ (t : ℕ × ℤ). isEquation (getElem? b (t .0))) ts
+
+-- "the constant also divides exactly"
+unfoldable pub dividesExactly : ℕ → List ℤ → Bool
+dividesExactly d [] = false
+dividesExactly d (c ∷ cs) = eqℤ (pos d *ℤ floorDiv c d) c
+
+-- the relation of the fact that a Sum adds, r being the sum before it is divided
+abbrev pub sumRelation : Branch → ℕ → List (ℕ × ℤ) → List ℤ → Relation
+sumRelation b d ts r = cond (allEquations b ts && dividesExactly d r) eq ge
+
 -- Apart: "a fact e ≠ 0"
 abbrev pub apartOf : Fact → Option (List (List Fact))
 apartOf (same x y) = none
@@ -64,19 +87,18 @@ isFalse (isLiteral x l) = false
 isFalse (arithmetic r []) = not (holds r (pos 0))
 isFalse (arithmetic r (c ∷ cs)) = allZero cs && not (holds r c)
 
--- Join: two ≥ facts, one the negative of the other
+-- the form of a fact that Join takes; of 02, L4: "Join takes equations as well as ≥ facts"
+abbrev pub joinForm : Fact → Option (List ℤ)
+joinForm (same x y) = none
+joinForm (notSame x y) = none
+joinForm (isLiteral x l) = none
+joinForm (arithmetic ge e) = some e
+joinForm (arithmetic eq e) = some e
+joinForm (arithmetic ne e) = none
+
+-- Join: "one the negative of the other"
 abbrev pub joinOf : Fact → Fact → Option (List (List Fact))
-joinOf (arithmetic ge e) (arithmetic ge g) = guard (eqIntegers (scale (negsuc 0) e) g) (joinChild e)
-joinOf (arithmetic ge e) (arithmetic eq g) = none
-joinOf (arithmetic ge e) (arithmetic ne g) = none
-joinOf (arithmetic ge e) (same x y) = none
-joinOf (arithmetic ge e) (notSame x y) = none
-joinOf (arithmetic ge e) (isLiteral x y) = none
-joinOf (arithmetic eq e) g = none
-joinOf (arithmetic ne e) g = none
-joinOf (same x y) g = none
-joinOf (notSame x y) g = none
-joinOf (isLiteral x y) g = none
+joinOf f g = then (joinForm f) (λ e. then (joinForm g) (λ h. guard (eqIntegers (scale (negsuc 0) e) h) (joinChild e)))
 
 -- Card: a fact states that e = 0
 abbrev pub statesZero : List ℤ → Fact → Bool
@@ -143,9 +165,9 @@ literalChildren u b f x = then (classLiteral u b x) (λ l. some (literalChild u 
 abbrev pub RuleSet : Type 0
 RuleSet = Question → Branch → Step → Option (List (List Fact))
 
--- document 01's rules
+-- document 01's rules, with Sum and Join as 02, L4, has them
 abbrev pub children : RuleSet
-children u b (Sum d ts) = then (sumOf b ts) (λ r. then (divided d r) (λ e. some (sumChild e)))
+children u b (Sum d ts) = then (sumOf b ts) (λ r. then (divided d r) (λ e. some (sumChild (sumRelation b d ts r) e)))
 children u b (BranchOn e) = some (branchChildren e)
 children u b (Apart k) = then (getElem? b k) apartOf
 children u b (AConf k) = then (getElem? b k) (λ f. guard (isFalse f) [])
@@ -158,3 +180,35 @@ children u b (CValid x) = some (cValidChildren u x)
 children u b (CInj x y) = guard (not (eqb x y)) (cInjChildren u x y)
 children u b (Card xs) = cardChildren u b xs
 children u b (Join j k) = then (getElem? b j) (λ f. then (getElem? b k) (λ g. joinOf f g))
+
+-- ---- the rules before L4 of 02: those of now but for Sum and Join, which are as document 01 has them
+
+-- "two ≥ facts, one the negative of the other"
+abbrev pub joinBefore : Fact → Fact → Option (List (List Fact))
+joinBefore (arithmetic ge e) (arithmetic ge g) = guard (eqIntegers (scale (negsuc 0) e) g) (one (arithmetic eq e))
+joinBefore (arithmetic ge e) (arithmetic eq g) = none
+joinBefore (arithmetic ge e) (arithmetic ne g) = none
+joinBefore (arithmetic ge e) (same x y) = none
+joinBefore (arithmetic ge e) (notSame x y) = none
+joinBefore (arithmetic ge e) (isLiteral x y) = none
+joinBefore (arithmetic eq e) g = none
+joinBefore (arithmetic ne e) g = none
+joinBefore (same x y) g = none
+joinBefore (notSame x y) g = none
+joinBefore (isLiteral x y) g = none
+
+-- Sum "Adds a ≥ fact"
+abbrev pub childrenBefore : RuleSet
+childrenBefore u b (Sum d ts) = then (sumOf b ts) (λ r. then (divided d r) (λ e. some (one (arithmetic ge e))))
+childrenBefore u b (BranchOn e) = children u b (BranchOn e)
+childrenBefore u b (Apart k) = children u b (Apart k)
+childrenBefore u b (AConf k) = children u b (AConf k)
+childrenBefore u b SConf = children u b SConf
+childrenBefore u b (SProp f x y) = children u b (SProp f x y)
+childrenBefore u b (LIntro x) = children u b (LIntro x)
+childrenBefore u b (LValid x) = children u b (LValid x)
+childrenBefore u b (CCollapse x) = children u b (CCollapse x)
+childrenBefore u b (CValid x) = children u b (CValid x)
+childrenBefore u b (CInj x y) = children u b (CInj x y)
+childrenBefore u b (Card xs) = children u b (Card xs)
+childrenBefore u b (Join j k) = then (getElem? b j) (λ f. then (getElem? b k) (λ g. joinBefore f g))

@@ -1,6 +1,5 @@
 -- What the rules that close and those with one conclusion add, from the answers that the code gets.
 use Prim.Native.Nat.{ℕ, zero, suc, _+_, _<_, _≤_}
-use native.Mathlib.Omega.{arith}
 use mathlib.Core.Path.{_≡_, refl, sym, _∙_, ap, ap₂}
 use mathlib.Core.Bool.{Bool, true, false, not, _&&_}
 use mathlib.Core.Option.{Option, none, some}
@@ -10,12 +9,12 @@ use lib.IntN.{ℤ, pos, negℤ}
 use borrow.Author.Tests.{eq-eqb, ne-eqb}
 use Rattle.lists.proofs.Options.{some-injective, some-none}
 use Rattle.calculus.specs.LinearForms.{column, number, minus}
-use Rattle.calculus.specs.Facts.{Question, Fact, Branch, arithmetic, ge, eq, Function, literal, codeOf, valueOf}
+use Rattle.calculus.specs.Facts.{Question, Fact, Branch, arithmetic, Relation, eq, Function, literal, codeOf, valueOf}
 use Rattle.calculus.specs.Chains.{varNode}
 use Rattle.calculus.specs.Classes.{labels, sameClass, lowestLiteral, classLiteral}
 use Rattle.calculus.specs.Children.{one, sPropChild, literalChild}
 use Rattle.calculus.specs.Steps.{Sum, SProp, Join}
-use Rattle.calculus.specs.Rules.{guard, then, sumOf, divided, joinOf, children, literalChildren}
+use Rattle.calculus.specs.Rules.{guard, then, sumOf, divided, sumRelation, joinOf, children, literalChildren}
 use Rattle.format.specs.Fields.{u32s}
 use Rattle.format.specs.StepForms.{functionOf}
 use Rattle.format.specs.Checking.{fits}
@@ -23,6 +22,7 @@ use Rattle.format.proofs.Fields.{length-u32s}
 use Rattle.rows.specs.Rows.{factOf, rowAt, branchOf}
 use Rattle.rows.specs.Work.{tagOf, single, difference}
 use Rattle.rows.proofs.Branches.{branch-at, branch-beyond}
+use Rattle.rows.proofs.Tags.{relation-low}
 use Rattle.rows.proofs.Forms.{minus-number, columns-difference}
 use Rattle.rows.proofs.Tested.{joined-fits, none-fits}
 use Rattle.sums.specs.Sums.{factIn, sumFact}
@@ -50,14 +50,15 @@ module _ (u : Question) (b : Branch) (d : ℕ) (ts : List (ℕ × ℤ)) (t : Boo
 
 -- its fact is arithmetic
 module _ (b : Branch) (d : ℕ) (ts : List (ℕ × ℤ)) (t : Bool) (row : List ℤ) (e : factIn t row ≡ sumFact b d ts) where
-  divided-tag : (o : Option (List ℤ)) → some (factOf row) ≡ then o (λ z. some (arithmetic ge z)) → tagOf (factOf row) ≤ 2
-  unfolding tagOf
-  divided-tag none h = absurd (some-none h)
-  divided-tag (some z) h = rw (some-injective h) (omega arith)
+  divided-tag : (r : Relation) (o : Option (List ℤ)) → some (factOf row) ≡ then o (λ z. some (arithmetic r z)) → tagOf (factOf row) ≤ 2
+  divided-tag r none h = absurd (some-none h)
+  divided-tag r (some z) h = rw (some-injective h) (relation-low r z)
 
-  summed-tag : (o : Option (List ℤ)) → some (factOf row) ≡ then o (λ r. then (divided d r) (λ z. some (arithmetic ge z))) → tagOf (factOf row) ≤ 2
+  summed-tag : (o : Option (List ℤ))
+      → some (factOf row) ≡ then o (λ r. then (divided d r) (λ z. some (arithmetic (sumRelation b d ts r) z)))
+      → tagOf (factOf row) ≤ 2
   summed-tag none h = absurd (some-none h)
-  summed-tag (some r) h = divided-tag (divided d r) h
+  summed-tag (some r) h = divided-tag (sumRelation b d ts r) (divided d r) h
 
   pub sum-tag : t ≡ true → tagOf (factOf row) ≤ 2
   unfolding factIn sumFact

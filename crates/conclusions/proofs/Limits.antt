@@ -1,7 +1,6 @@
 -- "9 when a new number passes the limit": of the rules with one conclusion only Sum can.
 use Prim.Native.Nat.{ℕ, _≤_}
 use native.Mathlib.Omega.{arith}
-use native.Mathlib.Decide.{ℕ-discrete}
 use mathlib.Core.Path.{_≡_, sym, _∙_, ap}
 use mathlib.Core.Bool.{true}
 use mathlib.Core.List.{List}
@@ -13,10 +12,9 @@ use Rattle.calculus.specs.Facts.{arithmetic, eq, Function, len, code, literal, 
 use Rattle.calculus.specs.Rules.{joinOf}
 use Rattle.format.specs.Checking.{fits, factWithin}
 use Rattle.rows.specs.Rows.{factOf}
-use Rattle.rows.specs.Work.{single, tagOf}
+use Rattle.rows.specs.Work.{single}
 use Rattle.rows.proofs.Small.{within-single}
-use Rattle.rows.proofs.Tags.{row-relation}
-use Rattle.rows.proofs.Tested.{joined-first, no-fit}
+use Rattle.rows.proofs.Tested.{joinable-within, joined-first}
 use Rattle.question.specs.declared.Progress.{Progress}
 use Rattle.question.specs.Posed.{asked, Posed}
 use Rattle.question.proofs.Posed.{literal-short, literal-code}
@@ -41,8 +39,4 @@ pub join-within : (row other : List ℤ)
     → fits (joinOf (factOf row) (factOf other)) ≡ true
     → factWithin (factOf row) ≡ true
     → factWithin (arithmetic eq (drop 1 row)) ≡ true
-join-within row other e h = go (ℕ-discrete (tagOf (factOf row)) 0)
-  where
-    go : Dec (tagOf (factOf row) ≡ 0) → factWithin (arithmetic eq (drop 1 row)) ≡ true
-    go (yes p) = sym (ap factWithin (row-relation row 0 (sym p) (omega arith))) ∙ h
-    go (no n) = absurd (no-fit (joinOf (factOf row) (factOf other)) e (joined-first (factOf row) (factOf other) n))
+join-within row other e h = sym (joinable-within row (joined-first row other e)) ∙ h

@@ -100,7 +100,7 @@ pub fn closes(
 // ---- rules with one conclusion: the first of 8 to 10 that applies; 0 for none, and then the fact that the step adds stands behind the others. Only Sum can make a number
 // that passes the limit (9).
 
-// Sum: "Adds a ≥ fact". It is summed in a row aside: 8 and 9 come before 10, and behind 128 facts there is no stretch to sum in.
+// Sum: "Adds a ≥ fact", or an equation. It is summed in a row aside: 8 and 9 come before 10, and behind 128 facts there is no stretch to sum in.
 fn sum(ticket: &[u8], body: usize, size: usize, work: &mut [i64], count: usize) -> usize
     requires { ⌜ FormedSum (now ticket) body size ⌝ }
     requires { ⌜ Fine (now work) count ⌝ }
@@ -194,7 +194,7 @@ fn of_literal(
     }
 }
 
-// Join: "Adds the first as an equation", of two ≥ facts, one the negative of the other.
+// Join: "Adds the first as an equation", of two facts, each ≥ or an equation, one the negative of the other.
 fn join(j: usize, k: usize, work: &mut [i64], count: usize) -> usize
     requires { ⌜ Fine (now work) count ⌝ }
     ensures { λ r. ⌜ ((u : Question) → ConcludesBy u (Join j k) (now (work .entry)) count (now (work .exit)) r) ⌝ }

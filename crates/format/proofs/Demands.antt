@@ -7,6 +7,7 @@ use Rattle.format.proofs.Shown.{record-concerned, constraints-counted}
 use Rattle.format.proofs.Extended.{reads-alike, extended-refused}
 use Rattle.format.proofs.Absent.{extended-absent}
 use Rattle.format.proofs.Functions.{characters-turned, in-decimal}
+use Rattle.format.proofs.Before.{accepted-now, rules-before}
 use Rattle.format.proofs.ReadBack.{answers-judged}
 use Rattle.format.proofs.Proper.{no-solution-proper, strings-proper}
 use Rattle.format.proofs.NeedLimits.{within-limits}
@@ -29,6 +30,8 @@ demands = record {
   th-l3-absent = extended-absent;
   th-l3-case = characters-turned;
   th-l3-decimals = in-decimal;
+  th-l4 = accepted-now;
+  th-l4-before = rules-before;
   th-4 = no-solution-sound;
   th-5 = strings-hold;
   th-6 = leaves-exact;

@@ -42,11 +42,11 @@ keeps-fact→ m (arithmetic r e) h = holds→ r (valueIn m e) (true→ h)
 →keeps-fact m (isLiteral x l) h = refl
 →keeps-fact m (arithmetic r e) h = →true (holds r (valueIn m e)) (→holds r (valueIn m e) h)
 
-keeps→ : (m : List ℤ) (b : Branch) → keeps m b ≡ true → All (MeetsArithmetic m) b
+pub keeps→ : (m : List ℤ) (b : Branch) → keeps m b ≡ true → All (MeetsArithmetic m) b
 unfolding keeps
 keeps→ m b e = all-true→ (keepsFact m) b (keeps-fact→ m) e
 
-→keeps : (m : List ℤ) (b : Branch) → All (MeetsArithmetic m) b → keeps m b ≡ true
+pub →keeps : (m : List ℤ) (b : Branch) → All (MeetsArithmetic m) b → keeps m b ≡ true
 unfolding keeps
 →keeps m b h = →all-true (keepsFact m) b (→keeps-fact m) h
 

@@ -10,12 +10,14 @@ pub mod Standing
 pub mod Answers
 pub mod Decoded
 pub mod Behind
+pub mod Alongside
 pub mod Claimed
 pub mod Tickets
 pub mod Limits
 pub mod Checker
 pub mod NoSolution
 pub mod Leaves
+pub mod Before
 pub mod Strings
 pub mod Proper
 pub mod Needs

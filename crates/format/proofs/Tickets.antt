@@ -97,19 +97,24 @@ module _ (rules : RuleSet) where
   abbrev pub AcceptedAs : List ℕ → Outcome → Type 0
   AcceptedAs b o = (u : Question) × (s : State Branch (List Fact)) × ReadAs (checkerBy rules) b u s × (length (u .constraints) ≤ factLimit) × (accepted u s ≡ o)
 
+  pub large-enough : (work answer : ℕ) (b : List ℕ) (o : Outcome) → NoRefusal o → verdictBy rules work answer b ≡ o → largeEnough work answer ≡ true
+  unfolding verdictBy
+  large-enough work answer b o never e = sized (largeEnough work answer) e
+    where
+      sized : (x : Bool) → bySize b x ≡ o → x ≡ true
+      sized false e = absurd (never 1 0 e)
+      sized true e = refl
+
   pub verdict→ : (work answer : ℕ) (b : List ℕ) (o : Outcome) → NoRefusal o → verdictBy rules work answer b ≡ o → AcceptedAs b o
   unfolding verdictBy
-  verdict→ work answer b o never e = sized (largeEnough work answer) e
+  verdict→ work answer b o never e =
+      read (readBehind (checkerBy rules) b (question b)) refl (sym (ap (bySize b) (large-enough work answer b o never e)) ∙ e)
     where
       read : (t : Ticket Branch (List Fact)) → readBehind (checkerBy rules) b (question b) ≡ t → outcomeOf t ≡ o → AcceptedAs b o
       read (Faulty c r) p e = absurd (never c r e)
       read (Done u s) p e =
           let (c, x, k, r) = ticket→ (checkerBy rules) b (question b) p in
           (u, s, read-as (checkerBy rules) b u (claimed→form c, x, k, r), question-few b (c .ended), e)
-
-      sized : (x : Bool) → bySize b x ≡ o → AcceptedAs b o
-      sized false e = absurd (never 1 0 e)
-      sized true e = read (readBehind (checkerBy rules) b (question b)) refl e
 
   pub →verdict : (work answer : ℕ) (b : List ℕ) (u : Question) (x : Bool) (o : Option (List ℤ)) (s : State Branch (List Fact))
       → largeEnough work answer ≡ true

@@ -1,4 +1,5 @@
--- The starred cases on file, as entries of one table, and the functions of extended constraints, each met and not met.
+-- The starred cases on file, as entries of one table; Sums and Joins of equations, now and before L4; and the functions of extended constraints, each met
+-- and not met.
 use Prim.Native.Nat.{ℕ}
 use mathlib.Core.Path.{_≡_}
 use mathlib.Core.Option.{some}
@@ -11,7 +12,7 @@ use Rattle.calculus.specs.Steps.{Step, Sum}
 use Rattle.calculus.specs.Rules.{children}
 use Rattle.format.specs.Fields.{bytesOf, unsigned}
 use Rattle.format.specs.Answer.{recordBytes, characterBytes, integerBytes, encode}
-use Rattle.format.specs.Checking.{Outcome, Refused, NoSolution, Strings, verdict}
+use Rattle.format.specs.Checking.{Outcome, Refused, NoSolution, Strings, verdict, verdictBefore}
 use Rattle.format.specs.Judging.{judging, Judgement, Refusal, AllMet, Unmet, said}
 
 -- ---- records as bytes
@@ -65,15 +66,17 @@ stringsGiven ss zs = Strings (encode (record { strs = ss; ints = zs }))
 
 -- ---- the table
 
--- checking: a ticket's records and the outcome. adding: a step on a branch and the one fact that it adds. judged: a question's records, an answer's strings
--- and integers, and what judging says.
+-- checking: a ticket's records and the outcome. before: the outcome by the rules before L4. adding: a step on a branch and the one fact that it adds. judged: a
+-- question's records, an answer's strings and integers, and what judging says.
 pub data Case : Type 0 where
   checking : List (List ℕ) → Outcome → Case
+  before : List (List ℕ) → Outcome → Case
   adding : Question → Branch → Step → Fact → Case
   judged : List (List ℕ) → List (List ℕ) → List ℤ → Judgement → Case
 
 abbrev pub CaseHolds : Case → Type 0
 CaseHolds (checking rs o) = verdict workNumbers answerBytes (ticket rs) ≡ o
+CaseHolds (before rs o) = verdictBefore workNumbers answerBytes (ticket rs) ≡ o
 CaseHolds (adding u b st f) = children u b st ≡ some ((f ∷ []) ∷ [])
 CaseHolds (judged rs ss zs j) = said (judging (ticket rs) (encode (record { strs = ss; ints = zs }))) ≡ j
 
@@ -142,6 +145,45 @@ starred =
     -- 2a−1 ≥ 0 over divisor 2 is a−1 ≥ 0
     ∷ adding oneInteger (arithmetic ge (minus (scale (pos 2) (column 0)) (number (pos 1))) ∷ []) (Sum 2 ((0, pos 1) ∷ []))
     (arithmetic ge (minus (column 0) (number (pos 1))))
+    ∷ []
+
+-- ---- Sums that remain equations (02, L4)
+
+-- a − 1 = 0 and a = 0, claimed to have no solution
+abbrev pub clashing : List (List ℕ) → List (List ℕ)
+clashing steps = (headRecord 1 0 1 ∷ arithmeticRecord 1 (negsuc 0) ((0, pos 1) ∷ []) ∷ arithmeticRecord 1 (pos 0) ((0, pos 1) ∷ []) ∷ claimRecord 1 ∷ []) ++ (steps ++ (endRecord ∷ []))
+
+-- the difference of the two is 1 = 0, which closes; 1 ≥ 0 does not
+abbrev pub oneSum : List (List ℕ)
+oneSum = clashing (sumRecord 0 1 ((1, pos 1) ∷ (0, negsuc 0) ∷ []) ∷ stepRecord (4 ∷ 0 ∷ 2 ∷ []) ∷ [])
+
+-- a − 1 from two Sums and a Join, then the difference
+abbrev pub sumsAndJoin : List (List ℕ)
+sumsAndJoin =
+    clashing (sumRecord 0 1 ((0, pos 1) ∷ []) ∷ sumRecord 0 1 ((0, negsuc 0) ∷ []) ∷ stepRecord (13 ∷ 0 ∷ 2 ∷ 3 ∷ []) ∷ sumRecord 0 1 ((4, pos 1) ∷ (1, negsuc 0) ∷ [])
+    ∷ stepRecord (4 ∷ 0 ∷ 5 ∷ []) ∷ [])
+
+-- a = 0, −a ≥ 0, and the Join of the first with the second; with a as 0
+abbrev pub joined : List (List ℕ)
+joined =
+    headRecord 1 0 1 ∷ arithmeticRecord 1 (pos 0) ((0, pos 1) ∷ []) ∷ arithmeticRecord 0 (pos 0) ((0, negsuc 0) ∷ []) ∷ claimRecord 2 ∷ stepRecord (13 ∷ 1 ∷ 0 ∷ 1 ∷ [])
+    ∷ modelRecord (pos 0 ∷ []) ∷ endRecord ∷ []
+
+-- a = 0, twice over 2, with a as 0
+abbrev pub summed : List (List ℕ)
+summed =
+    headRecord 1 0 1 ∷ arithmeticRecord 1 (pos 0) ((0, pos 1) ∷ []) ∷ claimRecord 2 ∷ sumRecord 1 2 ((0, pos 1) ∷ (0, pos 1) ∷ []) ∷ modelRecord (pos 0 ∷ []) ∷ endRecord ∷ []
+
+abbrev pub equationCases : List Case
+equationCases =
+    checking oneSum NoSolution
+    ∷ before oneSum (Refused 8 5)
+    ∷ checking sumsAndJoin NoSolution
+    ∷ before sumsAndJoin NoSolution
+    ∷ checking joined (stringsGiven [] (pos 0 ∷ []))
+    ∷ before joined (Refused 8 4)
+    ∷ checking summed (stringsGiven [] (pos 0 ∷ []))
+    ∷ before summed (stringsGiven [] (pos 0 ∷ []))
     ∷ []
 
 -- ---- extended constraints (02, L3)

@@ -12,7 +12,6 @@ use Rattle.calculus.specs.Limits.{workNumbers, answerBytes, lengthLimit, number
 use Rattle.calculus.specs.Facts.{Question, Fact, onArithmetic, Branch, holds, len}
 use Rattle.calculus.specs.Children.{childAt}
 use Rattle.calculus.specs.Rules as calculus
-use Rattle.calculus.specs.Steps.{Step}
 use Rattle.calculus.specs.Walk.{working, closed}
 use Rattle.calculus.specs.Model.{modelValue}
 use Rattle.calculus.specs.SaturationTest.{saturated}
@@ -99,7 +98,7 @@ checkerBy rules u = record {
   endFault = λ s. need 11 (complete s) 0;
 }
 
--- by document 01's rules
+-- by the rules as they are now
 abbrev pub checker : Question → Method Branch (List Fact)
 checker = checkerBy calculus.children
 
@@ -132,6 +131,10 @@ largeEnough work answer = leb workNumbers work && leb answerBytes answer
 unfoldable pub verdictBy : calculus.RuleSet → ℕ → ℕ → List ℕ → Outcome
 verdictBy rules work answer b = elim (largeEnough work answer) [ false ↦ Refused 1 0 | true ↦ outcomeOf (readBehind (checkerBy rules) b (question b)) ]
 
--- by document 01's rules
+-- by the rules as they are now
 abbrev pub verdict : ℕ → ℕ → List ℕ → Outcome
 verdict work answer b = verdictBy calculus.children work answer b
+
+-- by the rules before L4 of 02
+abbrev pub verdictBefore : ℕ → ℕ → List ℕ → Outcome
+verdictBefore work answer b = verdictBy calculus.childrenBefore work answer b

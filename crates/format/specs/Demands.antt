@@ -11,8 +11,11 @@ use lib.Dec.{eqb}
 use lib.IntN.{ℤ, pos, negsuc}
 use Rattle.lists.specs.Lists.{All}
 use Rattle.calculus.specs.Limits.{Small, ticketBytes, lengthLimit, valueLimit, answerBytes, factLimit, pendingLimit}
-use Rattle.calculus.specs.Facts.{Question, Fact, Branch}
-use Rattle.calculus.specs.Steps.{Step}
+use Rattle.calculus.specs.Facts.{Question, Fact, Branch, Relation, ge, arithmetic}
+use Rattle.calculus.specs.Steps.{Step, Sum, Join}
+use Rattle.calculus.specs.Children.{one}
+use Rattle.calculus.specs.Rules.{children, childrenBefore}
+use Rattle.calculus.specs.Instances.{FactAt}
 use Rattle.calculus.specs.Walk.{Waiting, working, closed}
 use Rattle.calculus.specs.Chains.{OneClass}
 use Rattle.calculus.specs.Derivations.{Closes, WithinLimits, Path, PathWithinLimits}
@@ -24,7 +27,7 @@ use Rattle.format.specs.Question.{questionOf}
 use Rattle.format.specs.Records.{kind, next, records}
 use Rattle.format.specs.Places.{constraintAt}
 use Rattle.format.specs.Answer.{encode, assignmentOf}
-use Rattle.format.specs.Checking.{Outcome, Refused, NoSolution, Strings, largeEnough, checker, verdict}
+use Rattle.format.specs.Checking.{Outcome, Refused, NoSolution, Strings, largeEnough, checker, verdict, verdictBefore}
 use Rattle.format.specs.Reading.{State, proving, taking, modelled, Method, stepped, begin}
 use Rattle.format.specs.Needs as needs
 use Rattle.format.specs.Needs.{Needs, Report, report, needed}
@@ -233,6 +236,24 @@ pub record Decimals : Type 0 where
 abbrev pub TH-L3-decimals : Type 0
 TH-L3-decimals = Decimals
 
+-- ---- TH-L4: "A ticket accepted before is accepted now, within the same limits", under either claim and with the same answer; TH-4 says of a "no" what it said
+
+abbrev pub TH-L4 : Type 0
+TH-L4 = (work answer : ℕ) (t : List ℕ)
+    → (verdictBefore work answer t ≡ NoSolution → verdict work answer t ≡ NoSolution)
+    × ((out : List ℕ) → verdictBefore work answer t ≡ Strings out → verdict work answer t ≡ Strings out)
+
+-- "before": the same rules, except that a Sum adds its form as a ≥ fact and Join takes two ≥ facts
+pub record RulesBefore (u : Question) (b : Branch) : Type 0 where
+  pub sum : (d : ℕ) (ts : List (ℕ × ℤ)) (cs : List (List Fact)) → Iff (childrenBefore u b (Sum d ts) ≡ some cs)
+      ((r : Relation) × (e : List ℤ) × (children u b (Sum d ts) ≡ some (one (arithmetic r e))) × (cs ≡ one (arithmetic ge e)))
+  pub join : (j k : ℕ) (cs : List (List Fact)) → Iff (childrenBefore u b (Join j k) ≡ some cs)
+      ((children u b (Join j k) ≡ some cs) × ((e : List ℤ) × FactAt b j (arithmetic ge e)) × ((e : List ℤ) × FactAt b k (arithmetic ge e)))
+  pub others : (st : Step) → ((d : ℕ) (ts : List (ℕ × ℤ)) → st ≢ Sum d ts) → ((j k : ℕ) → st ≢ Join j k) → childrenBefore u b st ≡ children u b st
+
+abbrev pub TH-L4-before : Type 0
+TH-L4-before = (u : Question) (b : Branch) → RulesBefore u b
+
 -- ---- TH-4, demand 3: whatever the bytes, where checking says "no solution", no assignment meets all constraints
 
 abbrev pub NoAssignment : Question → Type 0
@@ -296,6 +317,8 @@ pub record Demands : Type 0 where
   pub th-l3-absent : TH-L3-absent
   pub th-l3-case : TH-L3-case
   pub th-l3-decimals : TH-L3-decimals
+  pub th-l4 : TH-L4
+  pub th-l4-before : TH-L4-before
   pub th-4 : TH-4
   pub th-5 : TH-5
   pub th-6 : TH-6

@@ -58,7 +58,7 @@ formFor cValid = form 6 1 0
 formFor cInj = form 8 1 0
 -- "2 to 16 different variables"
 formFor card = form 8 2 (variableLimit - 2)
--- "two ≥ facts"
+-- two facts
 formFor join = form 8 1 0
 -- "for an unknown rule, only when under 4 bytes"
 formFor unknown = form 4 1 ticketBytes

@@ -1,6 +1,7 @@
 pub mod Tests
 pub mod Options
 pub mod Lists
+pub mod Matched
 pub mod Filled
 pub mod Every
 pub mod Stores

@@ -14,8 +14,8 @@ use Rattle.integers.proofs.Laws.{minus-one-*ℤ}
 use Rattle.calculus.proofs.Entries.{entry-plus, entry-scale, by-entries, length-scale, whole-number, whole-column, whole-minus, whole-above}
 use Rattle.format.specs.Question.{relationOf}
 use Rattle.rows.specs.Rows.{factOf}
-use Rattle.rows.specs.Work.{single, difference}
-use Rattle.rows.proofs.Tags.{relation-fact}
+use Rattle.rows.specs.Work.{tagOf, single, difference}
+use Rattle.rows.proofs.Tags.{relation-fact, tag-set}
 
 -- ---- rows with these forms
 
@@ -209,8 +209,8 @@ below-fact (x ∷ c ∷ cs) v h e =
     relation-fact 0 (v ∷ scale (negsuc 0) cs) (omega arith) ∙ ap (arithmetic ge) (ap (λ z. z ∷ scale (negsuc 0) cs) e ∙ sym (below-form c cs (omega arith)))
 
 pub equation-fact : (row : List ℤ) → length row ≡ 50 → factOf (set row 0 (pos 1)) ≡ arithmetic eq (drop 1 row)
-equation-fact [] h = absurd (omega arith)
-equation-fact (x ∷ e) h = relation-fact 1 e (omega arith)
+unfolding tagOf
+equation-fact row h = tag-set eq [] row h
 
 -- a number of the negative
 pub negative-number : (row : List ℤ) (j : ℕ) → 1 ≤ j → getD (pos 0 ∷ scale (negsuc 0) (drop 1 row)) j (pos 0) ≡ negsuc 0 *ℤ getD row j (pos 0)

@@ -3,16 +3,16 @@ use Prim.Native.Nat.{ℕ, zero, suc, _+_, _-_, _≤_, _<_}
 use native.Mathlib.Omega.{arith}
 use mathlib.Core.Path.{_≡_, refl, sym, _∙_, ap, ap₂, subst}
 use mathlib.Core.Bool.{Bool, true, false, cond}
-use mathlib.Core.List.{List, _∷_}
+use mathlib.Core.List.{List, [], _∷_}
 use borrow.Author.Tests.{lt-ltb, ltb-true}
-use lib.ListN.{getD, drop}
+use lib.ListN.{length, getD, drop, set}
 use lib.Dec.{ltb}
 use lib.IntN.{ℤ, pos, negsuc}
 use mir.Syntax.{w64}
 use mir.Val.{SFits, toZ, ofZ}
 use mir.Facts.{toZ-ofZ, toZ-pos}
 use Rattle.calculus.specs.Limits.{variableLimit}
-use Rattle.calculus.specs.Facts.{same, notSame, isLiteral, arithmetic}
+use Rattle.calculus.specs.Facts.{same, notSame, isLiteral, arithmetic, Relation, ge, eq, ne}
 use Rattle.format.specs.Question.{stringFact, relationOf}
 use Rattle.rows.specs.Rows.{index, tagged, factOf}
 use Rattle.rows.specs.Work.{tagOf}
@@ -29,6 +29,24 @@ relation-fact zero e h = refl
 relation-fact (suc zero) e h = refl
 relation-fact (suc (suc zero)) e h = refl
 relation-fact (suc (suc (suc r))) e h = absurd (omega arith)
+
+-- the tag of a relation, before any form
+relation-tag : (r : Relation) (a e : List ℤ) → factOf (pos (tagOf (arithmetic r a)) ∷ e) ≡ arithmetic r e
+unfolding tagOf
+relation-tag ge a e = relation-fact 0 e (omega arith)
+relation-tag eq a e = relation-fact 1 e (omega arith)
+relation-tag ne a e = relation-fact 2 e (omega arith)
+
+-- and set in a row
+pub tag-set : (r : Relation) (a row : List ℤ) → length row ≡ 50 → factOf (set row 0 (pos (tagOf (arithmetic r a)))) ≡ arithmetic r (drop 1 row)
+tag-set r a [] h = absurd (omega arith)
+tag-set r a (x ∷ e) h = relation-tag r a e
+
+pub relation-low : (r : Relation) (e : List ℤ) → tagOf (arithmetic r e) ≤ 2
+unfolding tagOf
+relation-low ge e = omega arith
+relation-low eq e = omega arith
+relation-low ne e = omega arith
 
 index-of : (a : ℕ) → a < 16 → index (pos a) ≡ a
 index-of a h = ap (λ t. cond t a 0) (lt-ltb a 16 h)

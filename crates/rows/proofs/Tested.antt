@@ -1,27 +1,29 @@
 -- Tests on facts and rows: what each kind of fact passes, and the loops over a row's numbers.
 use Prim.Native.Nat.{ℕ, zero, suc, _+_, _≤_, _<_}
 use native.Mathlib.Omega.{arith}
-use native.Mathlib.Decide.{ℕ-discrete}
 use mathlib.Core.Path.{_≡_, refl, sym, _∙_, ap, ap₂, subst}
 use mathlib.Core.Bool.{Bool, true, false, not, _&&_}
 use mathlib.Core.Option.{Option, none, some}
 use mathlib.Core.List.{List, [], _∷_}
-use borrow.Author.Tests.{eq-eqb, ne-eqb}
+use borrow.Author.Tests.{eq-eqb, ne-eqb, leb-true}
 use lib.ListN.{length, getD, drop}
-use lib.Dec.{T, eqb}
+use lib.Dec.{T, leb, eqb}
 use lib.IntN.{ℤ, pos, negsuc}
 use mir.Syntax.{w64}
 use mir.Val.{SFits, toZ, ofZ}
 use mir.Facts.{toZ-ofZ}
-use Rattle.lists.proofs.Options.{some-none}
-use Rattle.lists.proofs.Tests.{true→}
+use Rattle.lists.proofs.Options.{some-none, some-injective}
+use Rattle.lists.proofs.Tests.{true→, and-both}
 use Rattle.lists.proofs.Lists.{eq-list-step, eq-list-done}
+use Rattle.calculus.specs.Limits.{numberLimit}
 use Rattle.calculus.specs.LinearForms.{scale, isZero, eqℤ, eqIntegers, allZero}
 use Rattle.calculus.specs.Facts.{Fact, same, notSame, isLiteral, arithmetic, Relation, ge, eq, ne, holds}
-use Rattle.calculus.specs.Rules.{guard, isFalse, joinOf, statesZero}
-use Rattle.calculus.specs.Children.{one}
+use Rattle.calculus.specs.Rules.{guard, then, isFalse, joinForm, joinOf, statesZero}
+use Rattle.calculus.specs.Children.{one, joinChild}
 use Rattle.calculus.proofs.Tests.{→guard}
 use Rattle.calculus.proofs.LinearForms.{eqIntegers→}
+use Rattle.format.specs.Fields.{allWithin}
+use Rattle.format.specs.Question.{relationOf}
 use Rattle.format.specs.Checking.{fits, factWithin, keepsFact}
 use Rattle.rows.specs.Rows.{index, tagged, factOf}
 use Rattle.rows.specs.Work.{tagOf}
@@ -94,23 +96,34 @@ falsum-row r [] h = absurd (omega arith)
 falsum-row r (x ∷ []) h = absurd (omega arith)
 falsum-row r (x ∷ c ∷ cs) h = refl
 
-pub joined-first : (f g : Fact) → (tagOf f ≡ 0 → ⊥) → joinOf f g ≡ none
+-- the facts that Join takes have the two lowest tags
+pub joinable-test : (f : Fact) → leb (tagOf f) 1 ≡ fits (joinForm f)
 unfolding tagOf
-joined-first (same x y) g h = refl
-joined-first (notSame x y) g h = refl
-joined-first (isLiteral x l) g h = refl
-joined-first (arithmetic ge e) g h = absurd (h refl)
-joined-first (arithmetic eq e) g h = refl
-joined-first (arithmetic ne e) g h = refl
+joinable-test (same x y) = refl
+joinable-test (notSame x y) = refl
+joinable-test (isLiteral x l) = refl
+joinable-test (arithmetic ge e) = refl
+joinable-test (arithmetic eq e) = refl
+joinable-test (arithmetic ne e) = refl
 
-pub joined-second : (e : List ℤ) (g : Fact) → (tagOf g ≡ 0 → ⊥) → joinOf (arithmetic ge e) g ≡ none
-unfolding tagOf
-joined-second e (same x y) h = refl
-joined-second e (notSame x y) h = refl
-joined-second e (isLiteral x l) h = refl
-joined-second e (arithmetic ge g) h = absurd (h refl)
-joined-second e (arithmetic eq g) h = refl
-joined-second e (arithmetic ne g) h = refl
+-- a row of such a fact
+module _ (row : List ℤ) (h : fits (joinForm (factOf row)) ≡ true) where
+  low : tagOf (factOf row) ≤ 1
+  low = leb-true (tagOf (factOf row)) 1 (joinable-test (factOf row) ∙ h)
+
+  stated : factOf row ≡ arithmetic (relationOf (tagOf (factOf row))) (drop 1 row)
+  stated = row-relation row (tagOf (factOf row)) refl (omega (arith, low))
+
+  joinable-form : joinForm (factOf row) ≡ some (drop 1 row)
+  joinable-form = ap joinForm stated ∙ taken (tagOf (factOf row)) low
+    where
+      taken : (k : ℕ) → k ≤ 1 → joinForm (arithmetic (relationOf k) (drop 1 row)) ≡ some (drop 1 row)
+      taken zero g = refl
+      taken (suc zero) g = refl
+      taken (suc (suc k)) g = absurd (omega arith)
+
+  pub joinable-within : factWithin (factOf row) ≡ allWithin numberLimit (drop 1 row)
+  joinable-within = ap factWithin stated
 
 -- ---- two rows, from place j on
 
@@ -194,18 +207,36 @@ pub no-fit : {A : Type 0} (o : Option A) → fits o ≡ true → o ≡ none → 
 no-fit none e h = subst T (sym e) tt
 no-fit (some a) e h = some-none h
 
--- Join's fact is the first as an equation
-pub joined-fits : (row other : List ℤ)
-    → fits (joinOf (factOf row) (factOf other)) ≡ true
-    → joinOf (factOf row) (factOf other) ≡ some (one (arithmetic eq (drop 1 row)))
-joined-fits row other e = go (ℕ-discrete (tagOf (factOf row)) 0) (ℕ-discrete (tagOf (factOf other)) 0)
-  where
-    go : Dec (tagOf (factOf row) ≡ 0) → Dec (tagOf (factOf other) ≡ 0) → joinOf (factOf row) (factOf other) ≡ some (one (arithmetic eq (drop 1 row)))
-    go (no n) d = absurd (no-fit (joinOf (factOf row) (factOf other)) e (joined-first (factOf row) (factOf other) n))
-    go (yes p) (no n) =
-        let f = row-relation row 0 (sym p) (omega arith) in
-        absurd (no-fit (joinOf (factOf row) (factOf other)) e (ap (λ (x : Fact). joinOf x (factOf other)) f ∙ joined-second (drop 1 row) (factOf other) n))
-    go (yes p) (yes q) =
-        let f : joinOf (factOf row) (factOf other) ≡ guard (eqIntegers (scale (negsuc 0) (drop 1 row)) (drop 1 other)) (one (arithmetic eq (drop 1 row))) =
-        ap₂ joinOf (row-relation row 0 (sym p) (omega arith)) (row-relation other 0 (sym q) (omega arith)) in
-        f ∙ guard-given (eqIntegers (scale (negsuc 0) (drop 1 row)) (drop 1 other)) (one (arithmetic eq (drop 1 row))) (sym (ap fits f) ∙ e)
+-- ---- Join, of two rows
+
+module _ (row other : List ℤ) where
+  pub joined-tests : fits (joinOf (factOf row) (factOf other))
+      ≡ (fits (joinForm (factOf row)) && (fits (joinForm (factOf other)) && eqIntegers (scale (negsuc 0) (drop 1 row)) (drop 1 other)))
+  joined-tests = go (joinForm (factOf row)) (joinForm (factOf other)) (joinable-form row) (joinable-form other)
+    where
+      go : (o p : Option (List ℤ))
+          → (fits o ≡ true → o ≡ some (drop 1 row))
+          → (fits p ≡ true → p ≡ some (drop 1 other))
+          → fits (then o (λ e. then p (λ h. guard (eqIntegers (scale (negsuc 0) e) h) (joinChild e))))
+          ≡ (fits o && (fits p && eqIntegers (scale (negsuc 0) (drop 1 row)) (drop 1 other)))
+      go none p f g = refl
+      go (some e) none f g = refl
+      go (some e) (some h) f g =
+          guard-fits (eqIntegers (scale (negsuc 0) e) h) (joinChild e)
+          ∙ ap₂ (λ (a b : List ℤ). eqIntegers (scale (negsuc 0) a) b) (some-injective (f refl)) (some-injective (g refl))
+
+  module _ (h : fits (joinOf (factOf row) (factOf other)) ≡ true) where
+    tests : (fits (joinForm (factOf row)) ≡ true)
+        × ((fits (joinForm (factOf other)) && eqIntegers (scale (negsuc 0) (drop 1 row)) (drop 1 other)) ≡ true)
+    tests = and-both _ _ (sym joined-tests ∙ h)
+
+    pub joined-first : fits (joinForm (factOf row)) ≡ true
+    joined-first = tests .0
+
+    -- its fact is the first as an equation
+    pub joined-fits : joinOf (factOf row) (factOf other) ≡ some (one (arithmetic eq (drop 1 row)))
+    joined-fits =
+        let (second, negative) = and-both (fits (joinForm (factOf other))) (eqIntegers (scale (negsuc 0) (drop 1 row)) (drop 1 other)) (tests .1) in
+        ap₂ (λ (o p : Option (List ℤ)). then o (λ e. then p (λ h. guard (eqIntegers (scale (negsuc 0) e) h) (joinChild e))))
+        (joinable-form row joined-first) (joinable-form other second)
+        ∙ ap (λ (t : Bool). guard t (one (arithmetic eq (drop 1 row)))) negative

@@ -9,7 +9,7 @@ ghost use lib.IntN.{pos, negsuc};
 ghost use Rattle.calculus.specs.Limits.{variableLimit, columnLimit, numberLimit, valueLimit, factLimit, workNumbers};
 ghost use Rattle.calculus.specs.LinearForms.{zeros, scale, above, below, allZero, eqIntegers, valueIn};
 ghost use Rattle.calculus.specs.Facts.{holds, arithmetic, ge, eq};
-ghost use Rattle.calculus.specs.Rules.{isFalse, joinOf, lowestDifference, statesEqual};
+ghost use Rattle.calculus.specs.Rules.{isFalse, joinForm, joinOf, lowestDifference, statesEqual};
 ghost use Rattle.format.specs.Fields.{within, allWithin};
 ghost use Rattle.format.specs.Question.{stringFact, relationOf};
 ghost use Rattle.format.specs.Checking.{fits, factWithin, keepsFact, keeps};
@@ -425,16 +425,24 @@ fn negates(row: &[i64], other: &[i64]) -> bool
     true
 }
 
-// Join: two ≥ facts, one the negative of the other.
+// Is a fact one that Join takes: ≥, or an equation?
+fn joinable(row: &[i64]) -> bool
+    requires { ⌜ length (now row) ≡ rowLength ⌝ }
+    ensures { λ r. ⌜ r ≡ fits (joinForm (factOf (now (row .entry)))) ⌝ }
+{
+    tag_of(row) <= TAG_EQ
+}
+
+// Join: "one the negative of the other", and it "takes equations as well as ≥ facts".
 pub fn joins(row: &[i64], other: &[i64]) -> bool
     requires { ⌜ (length (now row) ≡ rowLength) × (length (now other) ≡ rowLength) ⌝ }
     requires { ⌜ factWithin (factOf (now row)) ≡ true ⌝ }
     ensures { λ r. ⌜ r ≡ fits (joinOf (factOf (now (row .entry))) (factOf (now (other .entry)))) ⌝ }
 {
-    if tag_of(row) != TAG_GE {
+    if !joinable(row) {
         return false;
     }
-    if tag_of(other) != TAG_GE {
+    if !joinable(other) {
         return false;
     }
     negates(row, other)

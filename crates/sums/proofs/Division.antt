@@ -5,24 +5,24 @@ use mathlib.Core.Path.{_≡_, refl, sym, _∙_, ap, ap₂}
 use mathlib.Core.Bool.{Bool, true, false, _&&_, and-false}
 use mathlib.Core.Option.{Option, none, some}
 use mathlib.Core.List.{List, [], _∷_, _++_}
-use borrow.Author.Tests.{le-leb}
+use borrow.Author.Tests.{le-leb, eqb-true, eqb-false}
 use lib.ListN.{length, getD, take, drop, set}
-use lib.Dec.{leb}
+use lib.Dec.{leb, eqb}
 use lib.IntN.{ℤ, pos, natAbs, _*ℤ_, *ℤ-comm}
 use lib.Signed.{_≤ℤ_, quotZ}
+use mir.Syntax.{w64}
+use mir.Val.{SFits, ofZ}
 use Rattle.integers.proofs.Ring.{v, _⊕_, _⊗_, le-by, lt-by}
 use Rattle.integers.proofs.Laws.{one-*ℤ, pos-≤ℤ, ≤ℤ-trans, abs-nonneg, ≤ℤ-abs, floor-multiple}
-use Rattle.integers.proofs.Machine.{quot-multiple}
+use Rattle.integers.proofs.Machine.{quot-multiple, back-fits}
 use Rattle.lists.proofs.Options.{some-injective, none-some, some-none}
 use Rattle.integers.specs.Division.{floorDiv}
-use Rattle.calculus.specs.LinearForms.{scale, eqIntegers, floorDivAll}
-use Rattle.calculus.specs.Facts.{arithmetic, ge}
-use Rattle.calculus.specs.Rules.{guard, then, divided}
+use Rattle.calculus.specs.LinearForms.{scale, eqℤ, eqIntegers, floorDivAll}
+use Rattle.calculus.specs.Rules.{guard, divided, dividesExactly}
 use Rattle.calculus.specs.Instances.{entry}
 use Rattle.calculus.proofs.Entries.{entry-scale, length-scale, length-floorDivAll, →divided}
-use Rattle.rows.specs.Rows.{factOf}
-use Rattle.rows.proofs.Tags.{relation-fact}
-use Rattle.sums.specs.Sums.{geRow, rowIn, factIn}
+use Rattle.rows.proofs.Tested.{same-bits, eqℤ-yes, eqℤ-no}
+use Rattle.sums.specs.Sums.{geRow, rowIn}
 
 -- a positive number
 pub positive-is : (d : ℤ) → pos 1 ≤ℤ d → (d ≡ pos (natAbs d)) × (1 ≤ natAbs d)
@@ -41,6 +41,14 @@ pub exact-no : (x : ℤ) (n : ℕ) → 1 ≤ n → (quotZ x (pos n) *ℤ pos n �
 exact-no x n h f e =
     let same : quotZ x (pos n) ≡ floorDiv x n = ap (λ z. quotZ z (pos n)) (sym e) ∙ quot-multiple n (floorDiv x n) h in
     f (ap (λ z. z *ℤ pos n) same ∙ *ℤ-comm (floorDiv x n) (pos n) ∙ e)
+
+-- the test, as the machine makes it
+pub exact-test : (x : ℤ) (n : ℕ) → 1 ≤ n → SFits w64 x → eqb (ofZ w64 (quotZ x (pos n) *ℤ pos n)) (ofZ w64 x) ≡ eqℤ (pos n *ℤ floorDiv x n) x
+exact-test x n h f = go (eqb (ofZ w64 (quotZ x (pos n) *ℤ pos n)) (ofZ w64 x)) refl
+  where
+    go : (t : Bool) → eqb (ofZ w64 (quotZ x (pos n) *ℤ pos n)) (ofZ w64 x) ≡ t → t ≡ eqℤ (pos n *ℤ floorDiv x n) x
+    go true e = sym (eqℤ-yes _ _ (exact-yes x n h (same-bits _ x (back-fits x n f) f (eqb-true _ _ e)) .0))
+    go false e = sym (eqℤ-no _ _ (exact-no x n h (λ q. eqb-false _ _ e (ap (ofZ w64) q))))
 
 -- ---- a row
 
@@ -117,19 +125,36 @@ divided-yes (x ∷ c ∷ cs) n d h e = ap (λ t. guard t (floorDiv c n ∷ floor
 
 -- by 1
 pub divided-one : (e : List ℤ) → 1 ≤ length e → divided 1 e ≡ some e
-divided-one e h = →divided 1 e e (omega arith) h (record {
-  size = refl;
+divided-one e h = →divided 1 e e h refl (record {
+  divisor = omega arith;
   columns = λ j. one-*ℤ (entry e (suc j));
   floor-low = le-by (v (pos 1) ⊗ v (entry e 0)) (v (entry e 0)) (omega arith);
   floor-high = lt-by (v (entry e 0)) (v (pos 1) ⊗ (v (entry e 0) ⊕ v (pos 1))) (omega arith);
 })
 
+-- ---- the constant
+
+pub exactly-is : (row : List ℤ) (n : ℕ)
+    → length row ≡ 50
+    → dividesExactly n (drop 1 row) ≡ eqℤ (pos n *ℤ floorDiv (getD row 1 (pos 0)) n) (getD row 1 (pos 0))
+unfolding dividesExactly
+exactly-is [] n h = absurd (omega arith)
+exactly-is (x ∷ []) n h = absurd (omega arith)
+exactly-is (x ∷ c ∷ cs) n h = refl
+
+-- by 1
+pub exactly-one : (row : List ℤ) → length row ≡ 50 → dividesExactly 1 (drop 1 row) ≡ true
+exactly-one row h =
+    let c = getD row 1 (pos 0) in
+    exactly-is row 1 h
+    ∙ eqℤ-yes (pos 1 *ℤ floorDiv c 1) c (one-*ℤ (floorDiv c 1) ∙ ap (λ z. floorDiv z 1) (sym (one-*ℤ c)) ∙ floor-multiple c 1 (omega arith))
+
+-- ---- the tag, and the form behind it
+
 -- a row with a known tag
 pub tag-first : (row : List ℤ) (z : ℤ) → length row ≡ 50 → getD row 0 (pos 0) ≡ z → row ≡ z ∷ drop 1 row
 tag-first [] z h e = absurd (omega arith)
 tag-first (x ∷ row) z h e = ap (λ y. y ∷ row) e
-
--- ---- from rows to facts
 
 pub no-row : (t : Bool) (row : List ℤ) (o : Option (List ℤ)) → t ≡ false → rowIn t row ≡ geRow o → o ≡ none
 unfolding rowIn
@@ -142,10 +167,3 @@ some-row t row none f e = absurd (some-none (ap (λ s. guard s row) (sym f) ∙ 
 some-row t row (some a) f e =
     let q : row ≡ pos 0 ∷ a = some-injective (ap (λ s. guard s row) (sym f) ∙ e) in
     (ap (λ (l : List ℤ). some (drop 1 l)) (sym q), ap (λ (l : List ℤ). getD l 0 (pos 0)) q)
-
-pub row-fact : (t : Bool) (row : List ℤ) (o : Option (List ℤ)) → rowIn t row ≡ geRow o → factIn t row ≡ then o (λ e. some (arithmetic ge e))
-unfolding rowIn factIn
-row-fact true row none e = absurd (some-none e)
-row-fact true row (some a) e = ap some (ap factOf (some-injective e) ∙ relation-fact 0 a (omega arith))
-row-fact false row none e = refl
-row-fact false row (some a) e = absurd (none-some e)

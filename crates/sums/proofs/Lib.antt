@@ -1,3 +1,4 @@
 pub mod Totals
 pub mod Division
 pub mod Summing
+pub mod Equations

@@ -1,4 +1,4 @@
-// Rule 1, Sum: the facts named, each times its multiplier, added up and divided.
+// Rule 1, Sum: the facts named, each times its multiplier, added up and divided: a ≥ fact, or an equation.
 ghost use mathlib.Core.Path.{_≡_};
 ghost use mathlib.Core.Bool.{true};
 ghost use Prim.Native.Nat.{_+_, _*_, _≤_};
@@ -8,16 +8,17 @@ ghost use lib.Signed.{_≤ℤ_};
 ghost use Rattle.calculus.specs.Limits.{numberLimit, summandLimit};
 ghost use Rattle.integers.specs.Division.{floorDiv};
 ghost use Rattle.calculus.specs.LinearForms.{zeros};
-ghost use Rattle.calculus.specs.Rules.{summand, sumOf, divided};
+ghost use Rattle.calculus.specs.Rules.{summand, sumOf, divided, allEquations, dividesExactly};
 ghost use Rattle.format.specs.Fields.{pairsAt, allWithin};
 ghost use Rattle.format.specs.StepForms.{multipliersWithin};
 ghost use Rattle.format.specs.Checking.{fits};
 ghost use Rattle.rows.specs.Rows.{rowLength, factOf, branchOf};
 ghost use Rattle.rows.specs.Work.{Within, Fine};
-ghost use Rattle.sums.specs.Sums.{added, geRow, rowIn, factIn, sumFact};
+ghost use Rattle.sums.specs.Sums.{added, geRow, rowIn, factIn, sumTag, sumFact};
 use limits::ROW_LENGTH;
 use rows::COEFFICIENTS;
 use rows::CONSTANT;
+use rows::TAG;
 use rows::TAG_EQ;
 use rows::TAG_GE;
 
@@ -106,6 +107,75 @@ fn divide(row: &mut [i64], d: i64) -> bool
     true
 }
 
+// A sum divided in place. By 1 it is as it stands: the machine's divisions are saved.
+fn divide_by(row: &mut [i64], d: i64) -> bool
+    requires { ⌜ (pos 1 ≤ℤ d) × (length (now row) ≡ rowLength) × (getD (now row) 0 (pos 0) ≡ pos 0) ⌝ }
+    ensures { λ r. ⌜ rowIn r (now (row .exit)) ≡ geRow (divided (natAbs d) (drop 1 (now (row .entry)))) ⌝ }
+{
+    if d == 1 {
+        return true;
+    }
+    divide(row, d)
+}
+
+// "Every fact named by a Sum is an equation".
+fn all_equations(b: &[u8], at: usize, pairs: usize, work: &[i64], count: usize) -> bool
+    requires { ⌜ at + 6 * pairs ≤ length (now b) ⌝ }
+    requires { ⌜ Fine (now work) count ⌝ }
+    ensures { λ r. ⌜ r ≡ allEquations (branchOf (now (work .entry)) count) (pairsAt (now (b .entry)) at pairs) ⌝ }
+{
+    let mut k = 0;
+    while k < pairs {
+        let fact = records::u16_at(b, at + 6 * k);
+        if count <= fact {
+            return false;
+        }
+        let tag = rows::tag_of(rows::row_at(work, fact));
+        if tag != TAG_EQ {
+            return false;
+        }
+        k += 1;
+    }
+    true
+}
+
+// "The constant also divides exactly", in a sum that is not yet divided. By 1 it always does.
+fn divides_exactly(row: &[i64], d: i64) -> bool
+    requires { ⌜ (pos 1 ≤ℤ d) × (length (now row) ≡ rowLength) ⌝ }
+    ensures { λ r. ⌜ r ≡ dividesExactly (natAbs d) (drop 1 (now (row .entry))) ⌝ }
+{
+    if d == 1 {
+        return true;
+    }
+    let c = row[CONSTANT];
+    let q = c / d;
+    q * d == c
+}
+
+// The tag of the fact that a Sum adds, from the sum that is not yet divided.
+fn sum_tag(
+    row: &[i64],
+    b: &[u8],
+    at: usize,
+    pairs: usize,
+    d: i64,
+    work: &[i64],
+    count: usize,
+) -> i64
+    requires { ⌜ (pos 1 ≤ℤ d) × (length (now row) ≡ rowLength) ⌝ }
+    requires { ⌜ at + 6 * pairs ≤ length (now b) ⌝ }
+    requires { ⌜ Fine (now work) count ⌝ }
+    ensures { λ r. ⌜ r ≡ sumTag (branchOf (now (work .entry)) count) (natAbs d) (pairsAt (now (b .entry)) at pairs) (drop 1 (now (row .entry))) ⌝ }
+{
+    if !all_equations(b, at, pairs, work, count) {
+        return TAG_GE as i64;
+    }
+    if !divides_exactly(row, d) {
+        return TAG_GE as i64;
+    }
+    TAG_EQ as i64
+}
+
 // The row of the fact that a Sum adds, in a row of zeros, and whether the step fits.
 pub fn sum_row(
     row: &mut [i64],
@@ -126,8 +196,11 @@ pub fn sum_row(
     if !sum_of(row, b, at, pairs, work, count) {
         return false;
     }
-    if divisor == 1 {
-        return true;
+    let d = divisor as i64;
+    let tag = sum_tag(row, b, at, pairs, d, work, count);
+    if !divide_by(row, d) {
+        return false;
     }
-    divide(row, divisor as i64)
+    row[TAG] = tag;
+    true
 }

@@ -6,7 +6,7 @@ use nuldwich_reference::derivation::Derivation;
 use nuldwich_reference::extended::Extended::{self, Before, Lower, Read, Upper, Written};
 use nuldwich_reference::extended::{decimal, lower, upper};
 use nuldwich_reference::facts::Relation::{AtLeast, Equal};
-use nuldwich_reference::facts::{Fact, Row};
+use nuldwich_reference::facts::{Fact, Relation, Row};
 use nuldwich_reference::leaf::VALUE_LIMIT;
 use nuldwich_reference::question::{Question, MOST_FACTS};
 use nuldwich_reference::steps::{Rule, Step};
@@ -41,10 +41,12 @@ const SMALLEST_REFUSAL: Kind =
     Kind { name: "smallest refusal", sizes: &[0], counted: STEPS, accepted: false, make: |_| vec![Vec::new(); 2] };
 
 /// What is measured of checking.
-pub const TO_CHECK: [Kind; 11] = [
+pub const TO_CHECK: [Kind; 13] = [
     steps("small steps", &[100, 400, 1_600], small_steps),
     steps("8-pair Sums, 48 columns", &[50, 100, 200, 490], eight_pair_sums),
     steps("2-pair Sums, divisor 2", &[80, 160, 320, 640], two_pair_sums),
+    steps("8-pair Sums of equations", &[50, 490], eight_pair_equations),
+    steps("2-pair Sums of equations", &[80, 640], two_pair_equations),
     steps("S-Props over 44 ≈ constraints", &[80, 160, 320, 640], propagations),
     steps("Joins, far columns", &[120, 240, 480, 960], joins),
     steps("C-Valid and L-Valid, a tree", &[3, 5, 7, 9], tree),
@@ -172,30 +174,47 @@ fn small_steps(steps: usize) -> Vec<Vec<u8>> {
     growing.ticket()
 }
 
-/// A row with a coefficient in each of 48 columns, odd ones alone or not.
-fn wide_row(number: i128, odd: bool) -> Fact {
+/// A fact with a coefficient in each of 48 columns, odd ones alone or not.
+fn wide_fact(relation: Relation, number: i128, odd: bool) -> Fact {
     let mut row = Row::constant(48, number);
     for (column, coefficient) in row.coefficients.iter_mut().enumerate() {
         let any = 1 + (number * 7 + column as i128 * 5) % 11;
         *coefficient = if odd { 2 * any + 1 } else { any };
     }
-    Fact::Arithmetic(AtLeast, row)
+    Fact::Arithmetic(relation, row)
 }
 
-/// Sums of eight pairs over 48 columns.
 fn eight_pair_sums(steps: usize) -> Vec<Vec<u8>> {
+    eight_pairs(AtLeast, steps)
+}
+
+fn eight_pair_equations(steps: usize) -> Vec<Vec<u8>> {
+    eight_pairs(Equal, steps)
+}
+
+/// Sums of eight pairs over 48 columns, of facts of one relation.
+fn eight_pairs(relation: Relation, steps: usize) -> Vec<Vec<u8>> {
     let mut question = frame(128, 16, 16);
-    question.constraints = (0..8).map(|number| wide_row(number, false)).collect();
+    question.constraints = (0..8).map(|number| wide_fact(relation, number, false)).collect();
     repeated(question, steps, |number| {
         let pairs = (0..8).map(|fact| (fact, 1 + ((fact + number) % 5) as i128)).collect();
         Rule::Sum { divisor: 1, pairs }
     })
 }
 
-/// Sums of two pairs over 48 columns, all of whose column sums are even.
 fn two_pair_sums(steps: usize) -> Vec<Vec<u8>> {
+    two_pairs(|number| wide_fact(AtLeast, number, true), steps)
+}
+
+/// The sums of the constants are even too, so that the new facts are equations.
+fn two_pair_equations(steps: usize) -> Vec<Vec<u8>> {
+    two_pairs(|number| wide_fact(Equal, 2 * number, true), steps)
+}
+
+/// Sums of two pairs over 48 columns, all of whose column sums are even.
+fn two_pairs(fact: fn(i128) -> Fact, steps: usize) -> Vec<Vec<u8>> {
     let mut question = frame(128, 16, 16);
-    question.constraints = (0..8).map(|number| wide_row(number, true)).collect();
+    question.constraints = (0..8).map(fact).collect();
     repeated(question, steps, |number| Rule::Sum { divisor: 2, pairs: vec![(number % 8, 1), ((number + 3) % 8, 3)] })
 }
 

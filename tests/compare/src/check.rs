@@ -5,7 +5,7 @@ use crate::operation::{Buffers, Entry, Input, Operation, Reply, Sizes};
 use crate::random::Random;
 use crate::report::{hex, refused, Report};
 use crate::vectors::{self, Vector};
-use crate::{edges, models, proofs};
+use crate::{edges, equations, models, proofs};
 use nuldwich_reference::checking::{ANSWER_BUFFER, WORK_AREA};
 use nuldwich_reference::program::lines;
 use nuldwich_reference::{check as reference, Outcome};
@@ -17,6 +17,9 @@ const GROWN: u64 = 50_000;
 /// The least number of tickets, and how many of a hundred are accepted at the least.
 const LEAST_TICKETS: usize = 100_000;
 const LEAST_ACCEPTED: usize = 30;
+
+/// How many tickets reach each case of request L4 at the least.
+const LEAST_REACHED: usize = 50;
 
 /// Buffers that are just large enough.
 pub const LARGE_ENOUGH: Sizes = Sizes { work: WORK_AREA, answer: ANSWER_BUFFER };
@@ -58,14 +61,8 @@ impl Operation for Check {
         vectors::buffers(root)
     }
 
-    /// The program's lines joined by `|`, and the answer in hexadecimal.
     fn columns(&self, input: &Input) -> Vec<String> {
-        let outcome = reference(&input.parts[0], input.sizes.work, input.sizes.answer);
-        let answer = match &outcome {
-            Outcome::Strings { answer } => hex(answer),
-            _ => String::new(),
-        };
-        vec![lines(&outcome).trim_end().replace('\n', "|"), answer]
+        columns(&reference(&input.parts[0], input.sizes.work, input.sizes.answer))
     }
 
     fn label(&self, _: &[Vec<u8>], due: &Reply) -> String {
@@ -73,6 +70,13 @@ impl Operation for Check {
             [0, 1, ..] => "accepted none".to_string(),
             [0, ..] => "accepted strings".to_string(),
             [number, ..] => refused(*number),
+        }
+    }
+
+    fn examine(&self, parts: &[Vec<u8>], report: &mut Report) {
+        match equations::examine(&parts[0]) {
+            Ok(reached) => reached.into_iter().for_each(|label| report.reach(label)),
+            Err(lost) => report.fail(&format!("input {}\n{lost}", hex(&parts[0]))),
         }
     }
 
@@ -96,14 +100,24 @@ impl Operation for Check {
             report.fail("too few tickets, or too few of them accepted");
         }
         report.demand_met(&(1..=14).map(refused).collect::<Vec<_>>());
+        report.demand_reached(&equations::to_be_reached(), LEAST_REACHED);
     }
+}
+
+/// The columns of an outcome: the program's lines joined by `|`, and the answer in hexadecimal.
+pub fn columns(outcome: &Outcome) -> Vec<String> {
+    let answer = match outcome {
+        Outcome::Strings { answer } => hex(answer),
+        _ => String::new(),
+    };
+    vec![lines(outcome).trim_end().replace('\n', "|"), answer]
 }
 
 /// A ticket that is meant to be accepted, or one at an edge.
 pub fn grow(random: &mut Random) -> Vec<u8> {
     match random.below(100) {
-        0..=46 => proofs::grow(random),
-        47..=90 => models::grow(random),
+        0..=44 => proofs::grow(random),
+        45..=87 => models::grow(random),
         _ => edges::grow(random),
     }
 }

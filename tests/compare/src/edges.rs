@@ -3,19 +3,21 @@
 use crate::assignments::{grow as grow_question, Wish};
 use crate::proofs;
 use crate::random::Random;
-use crate::wander::random_split;
+use crate::wander::{random_split, random_sum};
 use crate::writer;
 use nuldwich_reference::classes::Classes;
 use nuldwich_reference::derivation::Derivation;
 use nuldwich_reference::facts::Relation::{AtLeast, Equal, NotEqual};
-use nuldwich_reference::facts::{Fact, Row};
+use nuldwich_reference::facts::{Fact, Relation, Row};
 use nuldwich_reference::question::Question;
 use nuldwich_reference::rules::Place;
 use nuldwich_reference::steps::{Rule, Step};
 
 /// All edges.
-const EDGES: [fn(&mut Random) -> Vec<u8>; 7] =
-    [many_facts, many_pending, large_sums, large_constants, full_ticket, many_steps, full_lengths];
+const EDGES: [fn(&mut Random) -> Vec<u8>; 9] = [
+    many_facts, many_pending, large_sums, chained_sums, two_sums_and_a_join, large_constants, full_ticket, many_steps,
+    full_lengths,
+];
 
 /// A ticket at some edge, accepted or refused by a little.
 pub fn grow(random: &mut Random) -> Vec<u8> {
@@ -94,12 +96,19 @@ impl Growing {
         }
     }
 
-    /// Takes a random step that fits.
-    fn wander(&mut self, random: &mut Random) {
+    /// Takes a random step, of those that `choose` finds on the branch.
+    fn wander(&mut self, choose: impl FnOnce(&Place) -> Option<Rule>) {
         let classes = Classes::of(&self.question, &self.derivation.branch);
-        let place = Place { question: &self.question, branch: &self.derivation.branch, classes: &classes };
-        if let Some((rule, _)) = random_split(random, &place) {
-            self.take(rule);
+        let rule = choose(&Place { question: &self.question, branch: &self.derivation.branch, classes: &classes });
+        rule.into_iter().for_each(|rule| self.take(rule));
+    }
+
+    /// Takes a Sum of the newest step's fact of these relations times −1, which fits an equation alone.
+    fn turn(&mut self, relations: &[Relation]) {
+        let wanted = |fact: &Fact| matches!(fact, Fact::Arithmetic(relation, _) if relations.contains(relation));
+        let before = self.question.constraints.len();
+        if let Some(place) = self.derivation.branch[before..].iter().rposition(wanted) {
+            self.take(Rule::Sum { divisor: 1, pairs: vec![(before + place, -1)] });
         }
     }
 
@@ -155,7 +164,7 @@ fn large_sums(random: &mut Random) -> Vec<u8> {
     let divisor = random.pick(&[1, 2, 3, 1_000, 999_999_999, 1_000_000_000, 2_147_483_647]);
     let mut pairs = Vec::new();
     for unit in [0, 2] {
-        let remainder = if unit == 0 { random.between(0, divisor - 1) } else { 0 };
+        let remainder = if unit == 0 && random.chance(60) { random.between(0, divisor - 1) } else { 0 };
         let total = near(random, 1_000_000_000) * divisor + remainder;
         let high = total.div_euclid(1_000_000_000);
         pairs.extend([(unit, total - high * 1_000_000_000), (unit + 1, high)]);
@@ -169,7 +178,70 @@ fn large_sums(random: &mut Random) -> Vec<u8> {
     random.shuffle(&mut pairs);
     let mut growing = Growing::new(question, 0);
     growing.take(Rule::Sum { divisor, pairs });
+    if random.chance(30) {
+        growing.turn(&[AtLeast, Equal]);
+    }
     growing.ticket()
+}
+
+/// Sums of equations and of such Sums, under either claim; some equations have no integer solution, and the last Sum turns a fact.
+fn chained_sums(random: &mut Random) -> Vec<u8> {
+    let claim = 1 + random.below(2);
+    let model = [random.between(-3, 3), random.between(-3, 3)];
+    let mut question = frame(1, 0, 2);
+    question.constraints.push(Fact::Arithmetic(Equal, Row::constant(2, if claim == 1 { -1 } else { 0 })));
+    for _ in 0..1 + random.below(3) {
+        let divisor = random.between(2, 6);
+        let mut coefficient = || divisor * random.between(-2, 2);
+        let row = Row::constant(2, 0).with(0, coefficient()).with(1, coefficient());
+        let remainder = if random.chance(50) { random.between(1, divisor - 1) } else { 0 };
+        let constant = remainder - row.value(&model);
+        question.constraints.push(Fact::Arithmetic(Equal, row.raised(constant)));
+    }
+    let mut growing = Growing::new(question, 0);
+    for _ in 0..1 + random.below(5) {
+        growing.wander(|place| random_sum(random, place));
+    }
+    growing.turn(&[random.pick(&[AtLeast, AtLeast, Equal])]);
+    if claim == 1 {
+        return growing.ticket();
+    }
+    let steps: Vec<(Rule, usize)> = growing.steps.into_iter().map(|rule| (rule, 1)).collect();
+    strings_ticket(&growing.question, &steps, &model)
+}
+
+/// "The solver spends two Sums and a Join on each length equation": so for two of them, or with a ≥ constraint in a Sum's place, then a Card,
+/// under either claim.
+fn two_sums_and_a_join(random: &mut Random) -> Vec<u8> {
+    let claim = 1 + random.below(2);
+    let mut question = frame(random.pick(&[2, 3, 128]), 3, 0);
+    let divisors = [random.between(1, 4), random.between(1, 4)];
+    let difference = |x: usize, times: i128| Row::constant(6, 0).with(x, times).with(x + 1, -times);
+    question.constraints = vec![
+        Fact::Arithmetic(Equal, difference(0, divisors[0])),
+        Fact::Arithmetic(Equal, difference(1, divisors[1])),
+        Fact::Arithmetic(AtLeast, difference(0, -1)),
+        Fact::Arithmetic(AtLeast, difference(1, -1)),
+        Fact::Arithmetic(AtLeast, Row::constant(6, if claim == 1 { -1 } else { 1 })),
+    ];
+    let mut steps = Vec::new();
+    for (equation, divisor) in divisors.into_iter().enumerate() {
+        let mut joined = [question.constraints.len() + steps.len(), equation + 2];
+        steps.push(Rule::Sum { divisor, pairs: vec![(equation, 1)] });
+        if random.chance(60) {
+            joined[1] = question.constraints.len() + steps.len();
+            steps.push(Rule::Sum { divisor, pairs: vec![(equation, -1)] });
+        }
+        random.shuffle(&mut joined);
+        steps.push(Rule::Join(joined[0], joined[1]));
+    }
+    let card = Rule::Card(vec![0, 1, 2]);
+    if claim == 1 {
+        return proofs::ticket(&question, &[steps, vec![card], vec![Rule::AConf(4); 4]].concat());
+    }
+    let mut steps: Vec<(Rule, usize)> = steps.into_iter().map(|rule| (rule, 1)).collect();
+    steps.push((card, 4));
+    strings_ticket(&question, &steps, &[3, 3, 3, -1, -1, -1])
 }
 
 /// Branch and Apart with constants and coefficients at the ends of their range, under either claim.
@@ -240,7 +312,7 @@ fn many_steps(random: &mut Random) -> Vec<u8> {
         let pending = growing.derivation.pending.len();
         let room = pending < 50 && growing.derivation.branch.len() < 120;
         if room && (pending < 6 || random.chance(55)) {
-            growing.wander(random);
+            growing.wander(|place| random_split(random, place).map(|(rule, _)| rule));
         } else {
             growing.close();
         }

@@ -4,6 +4,7 @@ pub mod assignments;
 pub mod check;
 pub mod damage;
 pub mod edges;
+pub mod equations;
 pub mod extended;
 pub mod judge;
 pub mod library;

@@ -6,6 +6,7 @@ use crate::wander::random_split;
 use crate::writer;
 use nuldwich_reference::classes::Classes;
 use nuldwich_reference::facts::{Fact, Relation, Row};
+use nuldwich_reference::question::MOST_FACTS;
 use nuldwich_reference::rules::{Conclusion, Place};
 use nuldwich_reference::steps::Rule;
 
@@ -21,6 +22,9 @@ pub fn grow(random: &mut Random) -> Vec<u8> {
     if random.chance(40) {
         state_equal_lengths(random, &mut grown);
     }
+    if random.chance(40) {
+        state_negatives(random, &mut grown);
+    }
     let detours = random.pick(&[0, 1, 3, 8, 20]);
     let mut path = Path { grown: &grown, branch: grown.question.constraints.clone(), steps: Vec::new() };
     path.wander(random, detours);
@@ -29,15 +33,32 @@ pub fn grow(random: &mut Random) -> Vec<u8> {
     path.ticket()
 }
 
-/// Adds constraints that state equal lengths, in a chain through all variables of a length: what Card asks for.
+/// Adds constraints that state equal lengths, in a chain through all variables of a length: what Card asks for, or a multiple
+/// of it, from which a Sum makes that.
 fn state_equal_lengths(random: &mut Random, grown: &mut Grown) {
     for y in 1..grown.question.p {
         let before = (0..y).rev().find(|x| grown.strings[*x].len() == grown.strings[y].len());
         if let Some(x) = before {
             let (x, y) = if random.chance(50) { (x, y) } else { (y, x) };
             let row = Row::constant(grown.question.columns(), 0);
-            let row = row.with(grown.question.len_column(x), 1).with(grown.question.len_column(y), -1);
+            let multiple = random.pick(&[1, 1, 1, 2, 3]);
+            let row = row.with(grown.question.len_column(x), multiple).with(grown.question.len_column(y), -multiple);
             grown.question.constraints.push(Fact::Arithmetic(Relation::Equal, row));
+        }
+    }
+}
+
+/// Adds the negatives of forms whose value is 0, each as a ≥ fact or as an equation, as far as there is room: what Join asks for.
+fn state_negatives(random: &mut Random, grown: &mut Grown) {
+    let values = grown.values();
+    for number in 0..grown.question.constraints.len() {
+        let negative = match &grown.question.constraints[number] {
+            Fact::Arithmetic(_, row) if row.value(&values) == 0 => row.negative(),
+            _ => continue,
+        };
+        if grown.question.constraints.len() < MOST_FACTS {
+            let relation = random.pick(&[Relation::AtLeast, Relation::Equal]);
+            grown.question.constraints.push(Fact::Arithmetic(relation, negative));
         }
     }
 }

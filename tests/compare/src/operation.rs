@@ -103,6 +103,9 @@ pub trait Operation {
         None
     }
 
+    /// Counts what an input reaches besides its outcome; a failure where the reference contradicts itself.
+    fn examine(&self, _parts: &[Vec<u8>], _report: &mut Report) {}
+
     /// How many seeds inputs are grown from.
     fn seeds(&self) -> u64;
 

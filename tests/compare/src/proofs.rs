@@ -91,7 +91,9 @@ impl Prover<'_> {
             return Some(vec![Rule::AConf(number)]);
         }
         let pairs = contradiction(place)?;
+        let constant = place.total(&pairs)?.constant;
         let divisor = self.random.pick(&[1, 1, 2, 7]);
+        let divisor = if constant < 0 || constant % divisor == 0 { divisor } else { 1 };
         Some(vec![Rule::Sum { divisor, pairs }, Rule::AConf(place.branch.len())])
     }
 }
@@ -132,6 +134,7 @@ fn contradiction(place: &Place) -> Option<Vec<(usize, i128)>> {
 fn refute(first: (Relation, &Row), second: (Relation, &Row), column: usize) -> Option<(i128, i128)> {
     let (a, b) = (first.1.coefficients[column], second.1.coefficients[column]);
     let divisor = greatest_common_divisor(a, b);
+    let equations = first.0 == Relation::Equal && second.0 == Relation::Equal;
     for sign in [1, -1] {
         let multipliers = (sign * b / divisor, -sign * a / divisor);
         let fits = (first.0 == Relation::Equal || multipliers.0 > 0)
@@ -139,7 +142,8 @@ fn refute(first: (Relation, &Row), second: (Relation, &Row), column: usize) -> O
             && multipliers.0.abs().max(multipliers.1.abs()) <= 1_000_000_000;
         let total =
             Row::constant(first.1.coefficients.len(), 0).plus(multipliers.0, first.1).plus(multipliers.1, second.1);
-        if fits && total.is_constant() && (-1_000_000_000..0).contains(&total.constant) {
+        let is_false = total.constant < 0 || (equations && total.constant > 0);
+        if fits && total.is_constant() && is_false && total.within_limit() {
             return Some(multipliers);
         }
     }

@@ -6,10 +6,11 @@ use std::process::ExitCode;
 /// How many differences are printed in full.
 const PRINTED: usize = 5;
 
-/// Outcomes counted by label, and inputs passed and failed.
+/// Outcomes counted by label, what else inputs reach, and inputs passed and failed.
 #[derive(Default)]
 pub struct Report {
     outcomes: BTreeMap<String, usize>,
+    reached: BTreeMap<String, usize>,
     pub passed: usize,
     pub failed: usize,
 }
@@ -22,6 +23,11 @@ impl Report {
             None => self.passed += 1,
             Some(text) => self.fail(&text),
         }
+    }
+
+    /// Counts one input under something that it reaches besides its outcome.
+    pub fn reach(&mut self, label: String) {
+        *self.reached.entry(label).or_insert(0) += 1;
     }
 
     /// Counts a failure; the first few are printed.
@@ -46,17 +52,27 @@ impl Report {
         }
     }
 
+    /// The run itself is at fault when fewer inputs than `least` reach something.
+    pub fn demand_reached(&mut self, labels: &[String], least: usize) {
+        for label in labels {
+            let count = self.reached.get(label).copied().unwrap_or_default();
+            if count < least {
+                self.fail(&format!("{count} inputs reach this, and {least} are due: {label}"));
+            }
+        }
+    }
+
     /// All inputs counted so far.
     pub fn total(&self) -> usize {
         self.outcomes.values().sum()
     }
 
-    /// Prints how often each outcome was met.
+    /// Prints how often each outcome was met, and how many inputs reach what else is counted.
     pub fn print_outcomes(&self, title: &str) {
         println!("{title}: {} inputs", self.total());
-        for (label, count) in &self.outcomes {
+        for (label, count) in self.outcomes.iter().chain(&self.reached) {
             let share = 100.0 * *count as f64 / self.total() as f64;
-            println!("  {label:<26} {count:>7}  {share:5.1} %");
+            println!("  {label:<45} {count:>7}  {share:5.1} %");
         }
     }
 }

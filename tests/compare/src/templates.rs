@@ -17,11 +17,12 @@ pub struct Draft {
 }
 
 /// All ways to contradict.
-const TEMPLATES: [fn(&mut Draft, &mut Random); 16] = [
+const TEMPLATES: [fn(&mut Draft, &mut Random); 17] = [
     false_constant,
     opposite_bounds,
     rounded_bounds,
     combination,
+    share_of_a_sum,
     difference_of_nothing,
     literals_clash,
     variables_differ,
@@ -134,6 +135,13 @@ impl Draft {
         1 + random.below(self.frame.literals.len() - 1)
     }
 
+    /// Adds e and −e, each as a ≥ fact or as an equation, and plans their Join.
+    fn add_joined(&mut self, random: &mut Random, row: Row) {
+        let [first, second] = [row.negative(), row].map(|row| self.add(random.pick(&[AtLeast, Equal]), row));
+        let (first, second) = if random.chance(50) { (first, second) } else { (second, first) };
+        self.plan.push(Rule::Join(first, second));
+    }
+
     /// Joins x and y by ≈ facts: directly, through a variable or through a literal.
     fn join(&mut self, random: &mut Random, x: usize, y: usize) {
         match random.below(3) {
@@ -203,16 +211,43 @@ fn combination(draft: &mut Draft, random: &mut Random) {
     draft.plan.push(Rule::Sum { divisor: random.pick(&[1, 1, 3]), pairs });
 }
 
-/// e ≠ 0 beside e = 0, or beside e ≥ 0 and −e ≥ 0 with a Join.
+/// Equations e + f − a = 0 and (k−1)·e − f − b = 0, whose Sum over k is about e alone: where k divides a + b it is an equation and
+/// another fact is against it, else no integer e meets both.
+fn share_of_a_sum(draft: &mut Draft, random: &mut Random) {
+    let (form, other) = (draft.form(random), draft.form(random));
+    let divisor = random.between(2, 6);
+    let (share, remainder) = (random.between(-5, 5), random.pick(&[0, 0, 1, divisor - 1]));
+    let a = random.between(-9, 9);
+    let b = divisor * share + remainder - a;
+    let rows = [form.plus(1, &other).raised(-a), form.plus(divisor - 2, &form).plus(-1, &other).raised(-b)];
+    let pairs = rows.map(|row| match random.chance(50) {
+        true => (draft.add(Equal, row), 1),
+        false => (draft.add(Equal, row.negative()), -1),
+    });
+    draft.plan.push(Rule::Sum { divisor, pairs: pairs.to_vec() });
+    if remainder != 0 {
+        let turned = pairs.map(|(fact, multiplier)| (fact, -multiplier));
+        draft.plan.push(Rule::Sum { divisor, pairs: turned.to_vec() });
+        return;
+    }
+    let difference = form.raised(-share);
+    let (relation, row) = match random.below(4) {
+        0 => (AtLeast, difference.raised(-1)),
+        1 => (AtLeast, difference.negative().raised(-1)),
+        2 => (Equal, difference.raised(random.pick(&[2, -2]))),
+        _ => (NotEqual, difference),
+    };
+    draft.add(relation, row);
+}
+
+/// e ≠ 0 beside e = 0, or beside e and −e with a Join.
 fn difference_of_nothing(draft: &mut Draft, random: &mut Random) {
     let form = draft.form(random).raised(random.between(-3, 3));
     draft.add(NotEqual, form.clone());
     if random.chance(50) {
         draft.add(Equal, form);
     } else {
-        let first = draft.add(AtLeast, form.clone());
-        let second = draft.add(AtLeast, form.negative());
-        draft.plan.push(Rule::Join(first, second));
+        draft.add_joined(random, form);
     }
 }
 
@@ -361,12 +396,16 @@ fn too_many_for_their_length(draft: &mut Draft, random: &mut Random) {
     for pair in variables.windows(2) {
         let row = draft.len(1, pair[0], 0).with(draft.frame.len_column(pair[1]), -1);
         let row = if random.chance(50) { row.negative() } else { row };
-        if random.chance(60) {
-            draft.add(Equal, row);
-        } else {
-            let first = draft.add(AtLeast, row.clone());
-            let second = draft.add(AtLeast, row.negative());
-            draft.plan.push(Rule::Join(first, second));
+        match random.below(3) {
+            0 => {
+                draft.add(Equal, row);
+            }
+            1 => draft.add_joined(random, row),
+            _ => {
+                let divisor = random.between(1, 3);
+                let multiple = draft.add(Equal, row.plus(divisor - 1, &row));
+                draft.plan.push(Rule::Sum { divisor, pairs: vec![(multiple, random.pick(&[1, -1]))] });
+            }
         }
     }
     if draft.frame.n > 1 {

@@ -43,9 +43,16 @@ fn levels(root: &Path) -> Vec<String> {
 /// The vectors of an operation at all levels: each with the columns of the last `changed.tsv` that names it, else of its
 /// own `expected.tsv`.
 pub fn load(root: &Path, operation: &str, folders: &[&str], endings: &[&str]) -> Vec<Vector> {
+    load_but("", root, operation, folders, endings)
+}
+
+/// As `load`, but without the changes of one landing.
+pub fn load_but(landing: &str, root: &Path, operation: &str, folders: &[&str], endings: &[&str]) -> Vec<Vector> {
     let mut vectors: Vec<Vector> = Vec::new();
     for level in levels(root) {
-        change(&mut vectors, &root.join(&level).join("changed.tsv"), operation);
+        if level != landing {
+            change(&mut vectors, &root.join(&level).join("changed.tsv"), operation);
+        }
         for folder in folders {
             let path = if folder.is_empty() { level.clone() } else { format!("{level}/{folder}") };
             vectors.extend(folder_vectors(root, &path, endings));

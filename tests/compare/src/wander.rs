@@ -62,13 +62,17 @@ fn random_fact(random: &mut Random, place: &Place, wanted: fn(Relation) -> bool)
     (!numbers.is_empty()).then(|| random.pick(&numbers))
 }
 
-/// A Sum of 1 to 8 pairs with a divisor that divides all columns.
-fn random_sum(random: &mut Random, place: &Place) -> Option<Rule> {
+/// A Sum of 1 to 8 pairs, at times of equations alone, with a divisor that divides all columns.
+pub fn random_sum(random: &mut Random, place: &Place) -> Option<Rule> {
     let count = random.pick(&[1, 1, 2, 2, 3, 8]);
+    let wanted: fn(Relation) -> bool = match random.chance(30) {
+        true => |relation| relation == Relation::Equal,
+        false => |relation| relation != Relation::NotEqual,
+    };
     let mut total = Row::constant(place.question.columns(), 0);
     let mut pairs = Vec::new();
     for _ in 0..count {
-        let number = random_fact(random, place, |relation| relation != Relation::NotEqual)?;
+        let number = random_fact(random, place, wanted)?;
         let Fact::Arithmetic(relation, row) = &place.branch[number] else { return None };
         let sign = if *relation == Relation::Equal { random.pick(&[1, -1]) } else { 1 };
         let multiplier = sign * random.between(1, 3);
@@ -109,10 +113,10 @@ fn random_card(random: &mut Random, place: &Place) -> Option<Rule> {
     (chain.len() > 1).then_some(Rule::Card(chain))
 }
 
-/// A Join of a ≥ fact with its negative.
+/// A Join of a ≥ fact or an equation with its negative, which is either as well.
 fn random_join(random: &mut Random, place: &Place) -> Option<Rule> {
-    let first = random_fact(random, place, |relation| relation == Relation::AtLeast)?;
-    let Fact::Arithmetic(relation, row) = &place.branch[first] else { return None };
-    let negative = Fact::Arithmetic(*relation, row.negative());
-    place.branch.iter().position(|fact| *fact == negative).map(|second| Rule::Join(first, second))
+    let first = random_fact(random, place, |relation| relation != Relation::NotEqual)?;
+    let joins = |second: &usize| place.conclude(&Rule::Join(first, *second)).is_some();
+    let seconds: Vec<usize> = (0..place.branch.len()).filter(joins).collect();
+    (!seconds.is_empty()).then(|| Rule::Join(first, random.pick(&seconds)))
 }

@@ -5,6 +5,7 @@ use crate::derivation::Derivation;
 use crate::leaf::{read_model, strings_of};
 use crate::question::Question;
 use crate::records::{record_at, u16_at, Record};
+use crate::rules::Rules;
 use crate::steps::read_step;
 use crate::{demand, Refusal};
 
@@ -28,6 +29,7 @@ pub enum Outcome {
 /// What has been read of a ticket; claim 0 stands for none yet.
 #[derive(Clone, Default)]
 pub struct Ticket {
+    pub rules: Rules,
     pub question: Question,
     pub claim: u16,
     pub derivation: Option<Derivation>,
@@ -39,20 +41,20 @@ pub fn check(ticket: &[u8], work_len: usize, answer_len: usize) -> Outcome {
     if work_len < WORK_AREA || answer_len < ANSWER_BUFFER {
         return Outcome::Refused { number: 1, record: 0 };
     }
-    check_watched(ticket, &mut |_, _| {})
+    check_watched(Rules::Now, ticket, &mut |_, _| {})
 }
 
 /// Checking with buffers that are large enough; `watch` is shown each record that is taken, and what has been read with it.
-pub fn check_watched(ticket: &[u8], watch: &mut dyn FnMut(&Record, &Ticket)) -> Outcome {
+pub fn check_watched(rules: Rules, ticket: &[u8], watch: &mut dyn FnMut(&Record, &Ticket)) -> Outcome {
     if ticket.len() > LONGEST_TICKET {
         return Outcome::Refused { number: 2, record: 0 };
     }
-    check_records(ticket, watch)
+    check_records(rules, ticket, watch)
 }
 
 /// "Records are read one after another from the lent bytes."
-fn check_records(bytes: &[u8], watch: &mut dyn FnMut(&Record, &Ticket)) -> Outcome {
-    let mut ticket = Ticket::default();
+fn check_records(rules: Rules, bytes: &[u8], watch: &mut dyn FnMut(&Record, &Ticket)) -> Outcome {
+    let mut ticket = Ticket { rules, ..Ticket::default() };
     let mut start = 0;
     for number in 0.. {
         let Some(record) = record_at(bytes, start) else {
@@ -102,7 +104,7 @@ impl Ticket {
 
     fn take_claim(&mut self, body: &[u8]) -> Result<(), Refusal> {
         self.claim = read_claim(&self.question, self.claim, body)?;
-        self.derivation = Some(Derivation::new(&self.question));
+        self.derivation = Some(Derivation { rules: self.rules, ..Derivation::new(&self.question) });
         Ok(())
     }
 

@@ -3,7 +3,7 @@
 use crate::classes::Classes;
 use crate::facts::Fact;
 use crate::question::{Question, MOST_FACTS};
-use crate::rules::{Conclusion, Place};
+use crate::rules::{Conclusion, Place, Rules};
 use crate::steps::Step;
 use crate::{demand, Refusal};
 
@@ -13,13 +13,14 @@ pub const MOST_PENDING: usize = 64;
 /// A split with children not yet begun, and the number of facts at its mark.
 #[derive(Clone)]
 pub struct Split {
-    mark: usize,
+    pub mark: usize,
     waiting: Vec<Vec<Fact>>,
 }
 
 /// The branch where the next step stands.
 #[derive(Clone)]
 pub struct Derivation {
+    pub rules: Rules,
     pub branch: Vec<Fact>,
     pub pending: Vec<Split>,
     pub closed: bool,
@@ -28,14 +29,18 @@ pub struct Derivation {
 impl Derivation {
     /// "Its constraints are facts 0, 1 and on."
     pub fn new(question: &Question) -> Derivation {
-        Derivation { branch: question.constraints.clone(), pending: Vec::new(), closed: false }
+        Derivation { rules: Rules::default(), branch: question.constraints.clone(), pending: Vec::new(), closed: false }
     }
 
     /// Takes one step: 8, 9 and 10, in this order.
     pub fn take(&mut self, question: &Question, claim: u16, step: &Step) -> Result<(), Refusal> {
         let classes = Classes::of(question, &self.branch);
         let place = Place { question, branch: &self.branch, classes: &classes };
-        match (place.conclude(&step.rule), claim) {
+        let conclusion = match self.rules {
+            Rules::Before => place.conclude_before(&step.rule),
+            Rules::Now => place.conclude(&step.rule),
+        };
+        match (conclusion, claim) {
             (None, _) => Err(8),
             (Some(Conclusion::Closes), 1) => {
                 self.close();

@@ -4,6 +4,7 @@ use crate::checking::{check_watched, read_claim, Outcome, LONGEST_TICKET};
 use crate::leaf::read_model;
 use crate::question::Question;
 use crate::records::{record_at, Record};
+use crate::rules::Rules;
 use crate::steps::{read_step, Rule};
 use crate::{demand, Refusal};
 
@@ -56,7 +57,7 @@ pub fn need(ticket: &[u8]) -> Result<Needs, (Refusal, usize)> {
 /// behind the question and behind every step; nothing for a ticket that checking refuses.
 pub fn met(ticket: &[u8]) -> Option<Needs> {
     let mut met = Needs::default();
-    let outcome = check_watched(ticket, &mut |record, read| {
+    let outcome = check_watched(Rules::Now, ticket, &mut |record, read| {
         met.steps += usize::from(record.kind == 6);
         if let Some(derivation) = &read.derivation {
             met.facts = met.facts.max(derivation.branch.len());

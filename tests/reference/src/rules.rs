@@ -13,6 +13,14 @@ pub enum Conclusion {
     Children(Vec<Vec<Fact>>),
 }
 
+/// Which rules are followed: those before request L4, "Sums that remain equations", or those of now.
+#[derive(Clone, Copy, Debug, Default, PartialEq)]
+pub enum Rules {
+    Before,
+    #[default]
+    Now,
+}
+
 /// A branch on which a rule is tried.
 pub struct Place<'a> {
     pub question: &'a Question,
@@ -40,6 +48,16 @@ impl Place<'_> {
         }
     }
 
+    /// What the rule does before L4: Sum always "Adds a ≥ fact", and Join takes "two ≥ facts".
+    pub fn conclude_before(&self, rule: &Rule) -> Option<Conclusion> {
+        let is_at_least = |fact: usize| self.relation(fact) == Some(AtLeast);
+        match rule {
+            Rule::Sum { divisor, pairs } => one(vec![Fact::Arithmetic(AtLeast, self.divided(*divisor, pairs)?)]),
+            Rule::Join(first, second) if !(is_at_least(*first) && is_at_least(*second)) => None,
+            _ => self.conclude(rule),
+        }
+    }
+
     /// A row with one number in the column of len(x) or code(x), and a constant.
     fn row(&self, constant: i128, column: usize, coefficient: i128) -> Row {
         Row::constant(self.question.columns(), constant).with(column, coefficient)
@@ -51,6 +69,11 @@ impl Place<'_> {
             Some(Fact::Arithmetic(relation, row)) => Some((*relation, row)),
             _ => None,
         }
+    }
+
+    /// The relation of an arithmetic fact.
+    pub fn relation(&self, number: usize) -> Option<Relation> {
+        self.arithmetic(number).map(|(relation, _)| relation)
     }
 
     /// "Multipliers are at least 1 on a ≥ fact, nonzero on an equation; ≠ facts and string facts do not fit."
@@ -75,15 +98,28 @@ impl Place<'_> {
         Some(total)
     }
 
-    /// "Column sums must divide exactly; the constant is divided rounding down. Adds a ≥ fact."
-    fn sum(&self, divisor: i128, pairs: &[(usize, i128)]) -> Option<Fact> {
+    /// "Column sums must divide exactly; the constant is divided rounding down."
+    fn divided(&self, divisor: i128, pairs: &[(usize, i128)]) -> Option<Row> {
         let total = self.total(pairs)?;
         if total.coefficients.iter().any(|sum| sum % divisor != 0) {
             return None;
         }
         let constant = total.constant.div_euclid(divisor);
         let coefficients = total.coefficients.iter().map(|sum| sum / divisor).collect();
-        Some(Fact::Arithmetic(AtLeast, Row { constant, coefficients }))
+        Some(Row { constant, coefficients })
+    }
+
+    /// "When every fact named by a Sum is an equation and the constant also divides exactly, the new fact shall be an equation";
+    /// else it "Adds a ≥ fact".
+    fn sum(&self, divisor: i128, pairs: &[(usize, i128)]) -> Option<Fact> {
+        let exact = self.total(pairs)?.constant % divisor == 0;
+        let relation = if self.are_equations(pairs) && exact { Equal } else { AtLeast };
+        Some(Fact::Arithmetic(relation, self.divided(divisor, pairs)?))
+    }
+
+    /// Whether "every fact named by a Sum is an equation".
+    pub fn are_equations(&self, pairs: &[(usize, i128)]) -> bool {
+        pairs.iter().all(|(fact, _)| self.relation(*fact) == Some(Equal))
     }
 
     /// "Branch: form e. Children e ≥ 0; −e−1 ≥ 0."
@@ -205,10 +241,10 @@ impl Place<'_> {
         children
     }
 
-    /// "Join: two ≥ facts, one the negative of the other. Adds the first as an equation."
+    /// "one the negative of the other. Adds the first as an equation."; "Join takes equations as well as ≥ facts."
     fn join(&self, first: usize, second: usize) -> Option<Conclusion> {
         match (self.arithmetic(first)?, self.arithmetic(second)?) {
-            ((AtLeast, row), (AtLeast, other)) if *other == row.negative() => {
+            ((AtLeast | Equal, row), (AtLeast | Equal, other)) if *other == row.negative() => {
                 one(vec![Fact::Arithmetic(Equal, row.clone())])
             }
             _ => None,

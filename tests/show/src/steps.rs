@@ -101,13 +101,21 @@ fn premise(scene: &Scene, place: &Place, rule: &Rule) -> Option<String> {
             let literal = words::literal(question, place.classes.literal(*x)?);
             Some(format!("the class of {} holds {literal}: {}", words::variable(*x), class(*x)))
         }
-        Rule::Sum { divisor, pairs } if *divisor > 1 => {
-            let total = words::form(question, &place.total(pairs)?);
-            let divisor = words::number(*divisor);
-            Some(format!("the sum is {total}, to be divided by {divisor} with the constant rounded down"))
-        }
+        Rule::Sum { divisor, pairs } => division(question, place, *divisor, pairs),
         _ => None,
     }
+}
+
+/// How a sum is divided by more than 1, and whether that leaves a sum of equations an equation.
+fn division(question: &Question, place: &Place, divisor: i128, pairs: &[(usize, i128)]) -> Option<String> {
+    let total = place.total(pairs).filter(|_| divisor > 1)?;
+    let how = match (place.are_equations(pairs), total.constant % divisor == 0) {
+        (true, true) => " exactly, the constant too",
+        (true, false) => " with the constant rounded down, so the new fact is ≥",
+        (false, _) => " with the constant rounded down",
+    };
+    let (total, divisor) = (words::form(question, &total), words::number(divisor));
+    Some(format!("the sum is {total}, to be divided by {divisor}{how}"))
 }
 
 /// What makes S-Conf fit: "two different literals share a class, or a ≉ fact has both sides in one".

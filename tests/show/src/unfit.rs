@@ -104,18 +104,18 @@ impl Unfit<'_> {
 
     /// Why a fact with its multiplier may not stand in a Sum.
     fn summand(&self, fact: usize, multiplier: i128) -> Option<String> {
-        let times = words::number(multiplier);
-        match self.place.arithmetic(fact) {
-            None | Some((NotEqual, _)) => {
-                Some(format!("the rule takes ≥ facts and equations, but {}", self.described(fact)))
-            }
-            Some((relation, _)) if Place::multiplier_fits(relation, multiplier) => None,
-            Some((relation, _)) => Some(format!(
-                "{}; its multiplier must be {}, but is {times}",
-                self.described(fact),
-                multipliers(relation)
-            )),
-        }
+        let Some(relation @ (AtLeast | Equal)) = self.place.relation(fact) else {
+            return Some(self.neither(fact));
+        };
+        (!Place::multiplier_fits(relation, multiplier)).then(|| {
+            let (due, times) = (multipliers(relation), words::number(multiplier));
+            format!("{}; its multiplier must be {due}, but is {times}", self.described(fact))
+        })
+    }
+
+    /// What Sum and Join say of a fact that is neither a ≥ fact nor an equation.
+    fn neither(&self, fact: usize) -> String {
+        format!("the rule takes ≥ facts and equations, but {}", self.described(fact))
     }
 
     /// "an arithmetic fact without coefficients and false"
@@ -213,22 +213,20 @@ impl Unfit<'_> {
         reasons
     }
 
-    /// "two ≥ facts, one the negative of the other"
+    /// "one the negative of the other"; "Join takes equations as well as ≥ facts."
     fn join(&self, first: usize, second: usize) -> Vec<String> {
-        let is_at_least = |fact: &usize| matches!(self.place.arithmetic(*fact), Some((AtLeast, _)));
-        let others: Vec<usize> = [first, second].into_iter().filter(|fact| !is_at_least(fact)).collect();
-        if !others.is_empty() {
-            return others
-                .iter()
-                .map(|fact| format!("the rule takes two ≥ facts, but {}", self.described(*fact)))
-                .collect();
-        }
-        let Some((_, row)) = self.place.arithmetic(first) else {
-            return Vec::new();
+        let is_taken = |fact: &usize| matches!(self.place.relation(*fact), Some(AtLeast | Equal));
+        let others = [first, second].into_iter().filter(|fact| !is_taken(fact));
+        let reasons: Vec<String> = others.map(|fact| self.neither(fact)).collect();
+        let Some((_, row)) = self.place.arithmetic(first).filter(|_| reasons.is_empty()) else {
+            return reasons;
         };
-        let due = words::fact(&self.scene.ticket.question, &Fact::Arithmetic(AtLeast, row.negative()));
+        let due = |relation| words::fact(&self.scene.ticket.question, &Fact::Arithmetic(relation, row.negative()));
+        let (bound, equation) = (due(AtLeast), due(Equal));
         let found = self.scene.fact_words(second);
-        vec![format!("the second fact must be the negative of the first, {due}, but fact {second} is {found}")]
+        vec![format!(
+            "the second fact must be the negative of the first, {bound} or {equation}, but fact {second} is {found}"
+        )]
     }
 }
 

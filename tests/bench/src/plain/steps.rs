@@ -27,14 +27,18 @@ impl<'a> Checker<'a> {
     fn sum(&mut self, operands: &[u8]) -> Checked {
         let mut sums = [0; 1 + MOST_COLUMNS];
         let sums = &mut sums[..self.branch.width];
+        let mut equations = true;
         for (fact, multiplier) in operands[4..].as_chunks().0.iter().map(pair) {
             let (relation, row) = self.branch.arithmetic(fact).ok_or(8u64)?;
             demand((relation == AtLeast && multiplier >= 1) || (relation == Equal && multiplier != 0), 8)?;
+            equations &= relation == Equal;
             add_times(sums, multiplier, row);
         }
+        let divisor = i64::from(i32_at(operands, 0));
+        let relation = if equations && sums[0] % divisor == 0 { Equal } else { AtLeast };
         // A refusal ends the check, so the row may stand before it is tried.
         let room = self.branch.has_room(1);
-        divide(sums, i64::from(i32_at(operands, 0)), self.branch.add_row(AtLeast))?;
+        divide(sums, divisor, self.branch.add_row(relation))?;
         demand(room, 10)
     }
 
@@ -88,7 +92,7 @@ impl<'a> Checker<'a> {
     fn join(&mut self, first: usize, second: usize) -> Checked {
         let branch = &mut self.branch;
         let opposite = match (branch.arithmetic(first), branch.arithmetic(second)) {
-            (Some((AtLeast, one)), Some((AtLeast, other))) => {
+            (Some((AtLeast | Equal, one)), Some((AtLeast | Equal, other))) => {
                 one.iter().zip(other).fold(0, |bits, (a, b)| bits | (a + b)) == 0
             }
             _ => false,

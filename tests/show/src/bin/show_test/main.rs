@@ -20,7 +20,7 @@ use std::process::ExitCode;
 const GROWN: u64 = 1_000;
 
 /// The least number of tickets whose whole output is on file.
-const LEAST_HELD: usize = 11;
+const LEAST_HELD: usize = 14;
 
 /// An account with its text and JSON.
 struct Shown {
