@@ -5,45 +5,39 @@
 set -u
 host=$(realpath "$1")
 cd "$(dirname "$0")/.."
-passed=0 failed=0
-
-count() {
-    if [ "$1" -eq 0 ]; then
-        passed=$((passed + 1))
-    else
-        failed=$((failed + 1))
-    fi
-}
-
-# Runs the host with its words, and looks after its memory.
-in_bounds() {
-    valgrind --quiet --error-exitcode=9 "$host" "$@" >/dev/null
-    count $?
-}
 
 # What the host says of every example, of answers and of tickets.
-tests/host/words.sh "$host" | diff tests/host/expected.txt -
-count $?
+if tests/host/words.sh "$host" | diff tests/host/expected.txt -; then
+    passed=1 failed=0
+else
+    passed=0 failed=1
+fi
 
-# Checking and counting of needs: on the vectors that are refused with 2 or 3, and on every fifteenth of those that are refused with 4 to 6 or bring strings.
-for ticket in $(find tests/vectors -name expected.tsv | sort | xargs awk -F '\t' '
-    $1 !~ /\.ticket$/ { next }
-    { path = FILENAME; sub(/expected\.tsv$/, $1, path) }
-    $2 ~ /^refused [23] / { print path }
-    $2 ~ /^refused [4-6] / || $2 ~ /^verdict strings/ { if (n++ % 15 == 0) print path }'); do
-    in_bounds "$ticket"
-done
+# What the host is run on under valgrind, a line of arguments for each run.
+runs() {
+    # Checking and counting of needs: the vectors that are refused with 2 or 3, and every fifteenth of those that are refused with 4 to 6 or bring strings.
+    find tests/vectors -name expected.tsv | sort | xargs awk -F '\t' '
+        $1 !~ /\.ticket$/ { next }
+        { path = FILENAME; sub(/expected\.tsv$/, $1, path) }
+        $2 ~ /^refused [23] / { print path }
+        $2 ~ /^refused [4-6] / || $2 ~ /^verdict strings/ { if (n++ % 15 == 0) print path }'
 
-# Counting of needs: on the vectors with the most steps, facts and pending splits.
-for ticket in tests/vectors/L2/need/the-most-*-that-a-ticket-holds.ticket; do
-    in_bounds "$ticket"
-done
+    # Counting of needs: the vectors with the most steps, facts and pending splits.
+    printf '%s\n' tests/vectors/L2/need/the-most-*-that-a-ticket-holds.ticket
 
-# Judging: on every sixth of the vectors of which some bytes are shown.
-for name in $(find tests/vectors -path '*/judge/expected.tsv' | sort | xargs awk -F '\t' '
-    $3 != "" { path = FILENAME; sub(/expected\.tsv$/, $1, path); if (n++ % 6 == 0) print path }'); do
-    in_bounds "$name.question" "$name.answer"
-done
+    # Judging: every sixth of the vectors of which some bytes are shown.
+    find tests/vectors -path '*/judge/expected.tsv' | sort | xargs awk -F '\t' '
+        $3 != "" { path = FILENAME; sub(/expected\.tsv$/, $1, path); if (n++ % 6 == 0) print path ".question", path ".answer" }'
+}
+
+# Reads such lines and runs the host on every core; a line for each run whose memory is in order.
+in_bounds() {
+    xargs -P "$(nproc)" -L 1 sh -c 'valgrind --quiet --error-exitcode=9 "$0" "$@" >/dev/null && echo in bounds' "$host"
+}
+
+asked=$(runs | wc -l)
+kept=$(runs | in_bounds | wc -l)
+passed=$((passed + kept)) failed=$((failed + asked - kept))
 
 echo "$passed passed, $failed failed"
 [ "$failed" -eq 0 ]

@@ -61,7 +61,7 @@ pub struct Entry {
     pub reference: Call,
 }
 
-pub trait Operation {
+pub trait Operation: Sync {
     /// By which it is asked for.
     fn name(&self) -> &'static str;
 

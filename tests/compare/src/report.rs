@@ -25,6 +25,18 @@ impl Report {
         }
     }
 
+    /// Adds what another part of the run has counted.
+    pub fn add(&mut self, part: Report) {
+        for (label, count) in part.outcomes {
+            *self.outcomes.entry(label).or_insert(0) += count;
+        }
+        for (label, count) in part.reached {
+            *self.reached.entry(label).or_insert(0) += count;
+        }
+        self.passed += part.passed;
+        self.failed += part.failed;
+    }
+
     /// Counts one input under something that it reaches besides its outcome.
     pub fn reach(&mut self, label: String) {
         *self.reached.entry(label).or_insert(0) += 1;

@@ -5,6 +5,7 @@ use crate::random::Random;
 use crate::report::{hex, Report};
 use crate::vectors::{self, Vector};
 use std::path::Path;
+use std::thread;
 
 /// What is compared with the reference: what stands in an entry's place, where it does.
 pub type Subject = fn(&Entry) -> Option<Call>;
@@ -25,9 +26,7 @@ pub fn run(operation: &dyn Operation, subject: Subject, root: &Path) -> Report {
         return run.report;
     }
     run.vectors(root);
-    for seed in 0..operation.seeds() {
-        operation.grow(&mut Random::new(seed), &mut |random, input| run.compare(random, &input));
-    }
+    run.grown();
     run.report.print_outcomes(operation.title());
     operation.demand_coverage(&mut run.report);
     run.report
@@ -62,6 +61,23 @@ impl Run<'_> {
             }
             self.compare(&mut random, &vector.input);
         }
+    }
+
+    /// The inputs that are grown, on every core: each takes the seeds that leave one remainder.
+    fn grown(&mut self) {
+        let cores = thread::available_parallelism().map_or(1, |cores| cores.get() as u64);
+        let (operation, entries) = (self.operation, &self.entries);
+        let share = |core: u64| {
+            let mut run = Run { operation, entries: entries.clone(), report: Report::default() };
+            for seed in (core..operation.seeds()).step_by(cores as usize) {
+                operation.grow(&mut Random::new(seed), &mut |random, input| run.compare(random, &input));
+            }
+            run.report
+        };
+        thread::scope(|scope| {
+            let shares: Vec<_> = (0..cores).map(|core| scope.spawn(move || share(core))).collect();
+            shares.into_iter().for_each(|report| self.report.add(report.join().expect("a comparison that ends")));
+        });
     }
 
     /// Compares all entries on one input.
