@@ -12,8 +12,8 @@ use Rattle.lists.specs.Lists.{All}
 use Rattle.lists.proofs.Options.{some-injective}
 use Rattle.lists.proofs.Lists.{all-at}
 use Rattle.calculus.specs.LinearForms.{scale, dot, valueIn}
-use Rattle.calculus.specs.Facts.{Fact, arithmetic, Branch, Relation, ge, eq, ne, Holds}
-use Rattle.calculus.specs.Instances.{entry, FactAt, Multiplier, Summands, Exact, SumRelation, IsJoin}
+use Rattle.calculus.specs.Facts.{Fact, Branch, Relation, ge, eq, ne, Holds}
+use Rattle.calculus.specs.Instances.{entry, HasRelation, Multiplier, Summands, Exact, SumRelation, IsJoin}
 use Rattle.calculus.specs.Saturation.{MeetsArithmetic}
 use Rattle.calculus.proofs.LinearForms.{dot-plus, dot-scale, dot-neg}
 use Rattle.calculus.proofs.Entries.{entry-scale, entry-tail, dot-entries, dot-split, summed, entry-summed, Divided}
@@ -53,7 +53,7 @@ module _ (v : List ℤ) where
   equations-met : (b : Branch) (ts : List (ℕ × ℤ)) (es : List (List ℤ))
       → All (MeetsArithmetic v) b
       → Summands b ts es
-      → All (λ t. (e : List ℤ) × FactAt b (t .0) (arithmetic eq e)) ts
+      → All (λ t. HasRelation b eq (t .0)) ts
       → valueIn v (summed ts es) ≡ pos 0
   equations-met b [] [] m h q = refl
   equations-met b [] (e ∷ es) m h q = absurd h

@@ -16,11 +16,11 @@ use Rattle.lists.proofs.Options.{none-some, some-injective}
 use Rattle.lists.proofs.Tests.{and→, →and}
 use Rattle.lists.proofs.Lists.{all-append, all-left, all-right}
 use Rattle.lists.proofs.Matched.{Matched, matched-append, matched-at, matched-any, matched-same}
-use Rattle.calculus.specs.LinearForms.{scale, isZero, eqIntegers, allZero}
+use Rattle.calculus.specs.LinearForms.{isZero, allZero}
 use Rattle.calculus.specs.Facts.{Question, Fact, Branch, ge, eq, ne, arithmetic, same, notSame, isLiteral, len}
 use Rattle.calculus.specs.Classes.{mergeFact, labelsFrom, upFrom, nodeCount, labels, literalsMeet, sidesOf, clash, conflict}
 use Rattle.calculus.specs.Steps.{Step, Sum, BranchOn, Apart, AConf, SConf, SProp, LIntro, LValid, CCollapse, CValid, CInj, Card, Join}
-use Rattle.calculus.specs.Children.{sumChild, joinChild}
+use Rattle.calculus.specs.Children.{sumChild}
 use Rattle.calculus.specs.Rules.{guard, then, summand, sumOf, divided, allEquations, dividesExactly, sumRelation, apartOf, isFalse, joinForm, joinOf, distinct, neighbours}
 use Rattle.calculus.specs.Rules.{cardChildren, children, joinBefore, childrenBefore}
 use Rattle.calculus.specs.Instances.{FactAt, LengthsStated, Neighbours}
@@ -37,6 +37,11 @@ use Rattle.calculus.proofs.Fits.{sum→, sum-relation, neighbours→, �
 pub data Raised : Fact → Fact → Type 0 where
   as-it-was : {f : Fact} → Raised f f
   to-equation : {e : List ℤ} → Raised (arithmetic ge e) (arithmetic eq e)
+
+-- what tells no ≥ fact from the equation of its form is the same of both
+pub raised-alike : {A : Type 0} (look : Fact → A) → ((e : List ℤ) → look (arithmetic ge e) ≡ look (arithmetic eq e)) → (f g : Fact) → Raised f g → look f ≡ look g
+raised-alike look h f _ as-it-was = refl
+raised-alike look h _ _ (to-equation {e = e}) = h e
 
 -- a branch before and the branch now, fact by fact; values that meet the one meet the other
 pub record RaisedBranch (b c : Branch) : Type 0 where
@@ -67,19 +72,12 @@ raised-append b c x y r k = record {
 
 -- ---- classes
 
-merge-same : (ls : List ℕ) (f g : Fact) → Raised f g → mergeFact ls g ≡ mergeFact ls f
-merge-same ls f _ as-it-was = refl
-merge-same ls _ _ to-equation = refl
-
 labels-from : (ls : List ℕ) (b c : Branch) → Matched Raised b c → labelsFrom ls c ≡ labelsFrom ls b
 labels-from ls [] [] h = refl
 labels-from ls [] (g ∷ c) h = absurd h
 labels-from ls (f ∷ b) [] h = absurd h
-labels-from ls (f ∷ b) (g ∷ c) (h, hs) = ap (λ l. labelsFrom l c) (merge-same ls f g h) ∙ labels-from (mergeFact ls f) b c hs
-
-sides-same : (ls : List ℕ) (f g : Fact) → Raised f g → sidesOf ls f ≡ sidesOf ls g
-sides-same ls f _ as-it-was = refl
-sides-same ls _ _ to-equation = refl
+labels-from ls (f ∷ b) (g ∷ c) (h, hs) =
+    ap (λ l. labelsFrom l c) (sym (raised-alike (mergeFact ls) (λ e. refl) f g h)) ∙ labels-from (mergeFact ls f) b c hs
 
 module _ (b c : Branch) (h : Matched Raised b c) where
   labels-same : labels c ≡ labels b
@@ -88,7 +86,10 @@ module _ (b c : Branch) (h : Matched Raised b c) where
   conflict-same : (u : Question) → conflict u c ≡ conflict u b
   conflict-same u =
       ap (λ ls. clash (suc (length (u .literals))) ls c) labels-same
-      ∙ ap (λ t. literalsMeet (suc (length (u .literals))) (labels b) || t) (sym (matched-any Raised (sidesOf (labels b)) (sidesOf (labels b)) (sides-same (labels b)) b c h))
+      ∙ ap (λ t. literalsMeet (suc (length (u .literals))) (labels b) || t) (sym (matched-any Raised sides sides (raised-alike sides (λ e. refl)) b c h))
+    where
+      sides : Fact → Bool
+      sides f = sidesOf (labels b) f
 
 -- ---- 1 Sum
 
@@ -165,10 +166,6 @@ joined-before (same x y) g h = absurd (none-some h)
 joined-before (notSame x y) g h = absurd (none-some h)
 joined-before (isLiteral x y) g h = absurd (none-some h)
 
-joinForm-same : (f g : Fact) → Raised f g → joinForm g ≡ joinForm f
-joinForm-same f _ as-it-was = refl
-joinForm-same _ _ to-equation = refl
-
 apart-same : (f g : Fact) {cs : List (List Fact)} → Raised f g → apartOf f ≡ some cs → apartOf g ≡ some cs
 apart-same f _ as-it-was e = e
 apart-same _ _ to-equation e = absurd (none-some e)
@@ -183,7 +180,7 @@ module _ (u : Question) (b c : Branch) (r : RaisedBranch b c) where
   unchanged st cs e = (cs, e, children-same c cs)
 
   sum-now : (d : ℕ) (ts : List (ℕ × ℤ)) {cs : List (List Fact)} → childrenBefore u b (Sum d ts) ≡ some cs → Now (Sum d ts) cs
-  sum-now d ts {cs} h =
+  sum-now d ts h =
       let (s, e1, h1) = then→ (sumOf b ts) _ h in
       let (e, e2, h2) = then→ (divided d s) _ h1 in
       let q = sum-same b c ts s (r .facts) e1 in (
@@ -217,8 +214,7 @@ module _ (u : Question) (b c : Branch) (r : RaisedBranch b c) where
       let (t, n) = guard→ (isFalse f) e1 in
       unchanged (AConf k) cs (→then (λ f. guard (isFalse f) []) q (→guard (isFalse g) (false-same f g s t) n))
   fitted-now SConf cs e = unchanged SConf cs (ap (λ t. guard t []) (conflict-same b c (r .facts) u) ∙ e)
-  fitted-now (SProp f x y) cs e =
-      unchanged (SProp f x y) cs (rw (labels-same b c (r .facts)) e)
+  fitted-now (SProp f x y) cs e = unchanged (SProp f x y) cs (rw (labels-same b c (r .facts)) e)
   fitted-now (LIntro x) cs e = unchanged (LIntro x) cs (rw (labels-same b c (r .facts)) e)
   fitted-now (LValid x) cs e = unchanged (LValid x) cs e
   fitted-now (CCollapse x) cs e = unchanged (CCollapse x) cs (rw (labels-same b c (r .facts)) e)
@@ -233,8 +229,7 @@ module _ (u : Question) (b c : Branch) (r : RaisedBranch b c) where
       unchanged (Join j k) cs (→then _ qf (→then _ qg (joined f g f' g' sf sg (joined-before f g e2 .0))))
     where
       joined : (f g f' g' : Fact) {cs : List (List Fact)} → Raised f f' → Raised g g' → joinOf f g ≡ some cs → joinOf f' g' ≡ some cs
-      joined f g f' g' s t h =
-          ap₂ (λ p q. then p (λ e. then q (λ a. guard (eqIntegers (scale (negsuc 0) e) a) (joinChild e)))) (joinForm-same f f' s) (joinForm-same g g' t) ∙ h
+      joined f g f' g' s t h = rw (sym (raised-alike joinForm (λ e. refl) f f' s), sym (raised-alike joinForm (λ e. refl) g g' t)) h
 
 -- ---- the leaf
 

@@ -26,7 +26,7 @@ use Rattle.calculus.specs.Chains.{varNode}
 use Rattle.calculus.specs.Classes.{labels, sameClass, classLiteral, conflict}
 use Rattle.calculus.specs.Steps.{Step, Sum, BranchOn, Apart, AConf, SConf, SProp, LIntro, LValid, CCollapse, CValid, CInj, Card, Join}
 use Rattle.calculus.specs.Children.{sumChild, literalChild, pairChildren, boundChild, joinChild}
-use Rattle.calculus.specs.Rules.{guard, then, summand, sumOf, divided, isEquation, allEquations, dividesExactly, sumRelation}
+use Rattle.calculus.specs.Rules.{guard, then, summand, sumOf, divided, isEquation, namesEquation, allEquations, dividesExactly, sumRelation}
 use Rattle.calculus.specs.Rules.{isFalse, joinForm, joinOf, statesZero, statesDifference, found}
 use Rattle.calculus.specs.Rules.{sameLength, neighbours, distinct, leastPower, lastChild, cardChildren, children, apartOf, statesEqual}
 use Rattle.calculus.specs.Instances.{entry, FactAt, Multiplier, Summands, total, Exact, SumRelation, IsSum, IsApart, IsAConf}
@@ -89,7 +89,7 @@ sum→ b (t ∷ ts) e =
 →sum b (t ∷ ts) (e ∷ es) (h, hs) =
     →then _ (h .named) (→then _ (→summand (t .1) (h .relation) e (h .multiplier)) (→then (λ r. some (plus (scale (t .1) e) r)) (→sum b ts es hs) refl))
 
--- the relation of a Sum's fact
+-- the relation of the fact that a Sum adds
 
 equation→ : (o : Option Fact) → isEquation o ≡ true → (e : List ℤ) × (o ≡ some (arithmetic eq e))
 equation→ none h = absurd (true→ h)
@@ -119,13 +119,13 @@ sum-relation b d ts es {r} {e} p q = go (allEquations b ts && dividesExactly d r
     exact t =
         let (h, k) = and→ (allEquations b ts) (dividesExactly d r) t in
         record {
-          equations = all-true→ (λ (t : ℕ × ℤ). isEquation (getElem? b (t .0))) ts (λ t. equation→ (getElem? b (t .0))) (→true (allEquations b ts) h);
+          equations = all-true→ (namesEquation b) ts (λ t. equation→ (getElem? b (t .0))) (→true (allEquations b ts) h);
           constant = eqℤ→ (pos d *ℤ entry e 0) (entry r 0) (subst T (constant-is d r e q) k) ∙ ap (λ r. entry r 0) p ∙ entry-summed ts es 0;
         }
 
     exactly : Exact b d ts es e → T (allEquations b ts && dividesExactly d r)
     exactly x = →and (allEquations b ts) (dividesExactly d r)
-        (true→ (→all-true (λ (t : ℕ × ℤ). isEquation (getElem? b (t .0))) ts (λ t (f, h). ap isEquation h) (x .equations)))
+        (true→ (→all-true (namesEquation b) ts (λ t (f, h). ap isEquation h) (x .equations)))
         (subst T (sym (constant-is d r e q)) (→eqℤ (x .constant ∙ sym (ap (λ r. entry r 0) p ∙ entry-summed ts es 0))))
 
     go : (t : Bool) → (allEquations b ts && dividesExactly d r) ≡ t → SumRelation (Exact b d ts es e) (cond t eq ge)

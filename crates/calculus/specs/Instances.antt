@@ -25,6 +25,10 @@ entry e j = getD e j (pos 0)
 abbrev pub FactAt : Branch → ℕ → Fact → Type 0
 FactAt b k f = getElem? b k ≡ some f
 
+-- fact number k of the branch is an arithmetic one with this relation
+abbrev pub HasRelation : Branch → Relation → ℕ → Type 0
+HasRelation b r k = (e : List ℤ) × FactAt b k (arithmetic r e)
+
 -- f is a fact of the branch
 abbrev pub Stands : Branch → Fact → Type 0
 Stands b f = (k : ℕ) × FactAt b k f
@@ -57,7 +61,7 @@ total j (t ∷ ts) (e ∷ es) = (t .1 *ℤ entry e j) +ℤ total j ts es
 
 -- of 02, L4: "every fact named by a Sum is an equation and the constant also divides exactly"; new is the form that the Sum adds
 pub record Exact (b : Branch) (d : ℕ) (ts : List (ℕ × ℤ)) (forms : List (List ℤ)) (new : List ℤ) : Type 0 where
-  pub equations : All (λ t. (e : List ℤ) × FactAt b (t .0) (arithmetic eq e)) ts
+  pub equations : All (λ t. HasRelation b eq (t .0)) ts
   pub constant : pos d *ℤ entry new 0 ≡ total 0 ts forms
 
 -- then "the new fact shall be an equation", else it is ≥

@@ -58,8 +58,11 @@ isEquation (some (arithmetic eq e)) = true
 isEquation (some (arithmetic ne e)) = false
 
 -- of 02, L4: "every fact named by a Sum is an equation"
+abbrev pub namesEquation : Branch → ℕ × ℤ → Bool
+namesEquation b t = isEquation (getElem? b (t .0))
+
 unfoldable pub allEquations : Branch → List (ℕ × ℤ) → Bool
-allEquations b ts = all (λ (t : ℕ × ℤ). isEquation (getElem? b (t .0))) ts
+allEquations b ts = all (namesEquation b) ts
 
 -- "the constant also divides exactly"
 unfoldable pub dividesExactly : ℕ → List ℤ → Bool

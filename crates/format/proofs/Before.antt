@@ -17,11 +17,11 @@ use Rattle.calculus.specs.Steps.{Step, Sum, BranchOn, Apart, AConf, SConf, SPro
 use Rattle.calculus.specs.Walk.{Waiting}
 use Rattle.calculus.specs.Children.{childAt, one}
 use Rattle.calculus.specs.Rules.{then, sumOf, divided, sumRelation, joinOf, joinBefore, children, childrenBefore}
-use Rattle.calculus.specs.Instances.{FactAt}
+use Rattle.calculus.specs.Instances.{HasRelation}
 use Rattle.calculus.specs.SaturationTest.{saturated}
 use Rattle.calculus.proofs.Tests.{then→, →then}
 use Rattle.calculus.proofs.Alongside.{ChildrenRelated, both-working, both-closed}
-use Rattle.calculus.proofs.Before.{Raised, as-it-was, to-equation, RaisedBranch, RaisedChild, raised-same, raised-append, fitted-now, joined-before, saturated-same, strings-same}
+use Rattle.calculus.proofs.Before.{Raised, raised-alike, RaisedBranch, RaisedChild, raised-same, raised-append, fitted-now, joined-before, saturated-same, strings-same}
 use Rattle.format.specs.Records.{need}
 use Rattle.format.specs.Answer.{encode}
 use Rattle.format.specs.Reading.{State, Method}
@@ -38,13 +38,9 @@ use Rattle.format.proofs.Alongside.{Beside, both-proving, both-taking, 
 
 -- ---- 9 and 10 look at numbers and counts, which are the same
 
-within-same : (f g : Fact) → Raised f g → factWithin f ≡ factWithin g
-within-same f _ as-it-was = refl
-within-same _ _ to-equation = refl
-
 facts-within-same : (c : Branch) (x y : List Fact) → RaisedChild c x y → factsWithin x ≡ factsWithin y
 unfolding factsWithin
-facts-within-same c x y k = matched-all Raised factWithin factWithin within-same x y (k .facts)
+facts-within-same c x y k = matched-all Raised factWithin factWithin (raised-alike factWithin (λ e. refl)) x y (k .facts)
 
 room-same : (b c : Branch) (x y : List Fact) → RaisedBranch b c → RaisedChild c x y → room (length b) x ≡ room (length c) y
 room-same b c x y r k = ap₂ (λ i j. leb (i + j) factLimit) (matched-length Raised b c (r .facts)) (matched-length Raised x y (k .facts))
@@ -164,7 +160,7 @@ module _ (u : Question) (b : Branch) where
   )
 
   join-before : (j k : ℕ) (cs : List (List Fact)) → Iff (childrenBefore u b (Join j k) ≡ some cs)
-      ((children u b (Join j k) ≡ some cs) × ((e : List ℤ) × FactAt b j (arithmetic ge e)) × ((e : List ℤ) × FactAt b k (arithmetic ge e)))
+      ((children u b (Join j k) ≡ some cs) × HasRelation b ge j × HasRelation b ge k)
   join-before j k cs = (
     λ h.
         let (f, p, h1) = then→ (getElem? b j) (λ f. then (getElem? b k) (λ g. joinBefore f g)) h in

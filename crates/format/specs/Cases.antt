@@ -164,14 +164,14 @@ sumsAndJoin =
     ∷ stepRecord (4 ∷ 0 ∷ 5 ∷ []) ∷ [])
 
 -- a = 0, −a ≥ 0, and the Join of the first with the second; with a as 0
-abbrev pub joined : List (List ℕ)
-joined =
+abbrev pub mixedJoin : List (List ℕ)
+mixedJoin =
     headRecord 1 0 1 ∷ arithmeticRecord 1 (pos 0) ((0, pos 1) ∷ []) ∷ arithmeticRecord 0 (pos 0) ((0, negsuc 0) ∷ []) ∷ claimRecord 2 ∷ stepRecord (13 ∷ 1 ∷ 0 ∷ 1 ∷ [])
     ∷ modelRecord (pos 0 ∷ []) ∷ endRecord ∷ []
 
 -- a = 0, twice over 2, with a as 0
-abbrev pub summed : List (List ℕ)
-summed =
+abbrev pub repeatedSum : List (List ℕ)
+repeatedSum =
     headRecord 1 0 1 ∷ arithmeticRecord 1 (pos 0) ((0, pos 1) ∷ []) ∷ claimRecord 2 ∷ sumRecord 1 2 ((0, pos 1) ∷ (0, pos 1) ∷ []) ∷ modelRecord (pos 0 ∷ []) ∷ endRecord ∷ []
 
 abbrev pub equationCases : List Case
@@ -180,10 +180,10 @@ equationCases =
     ∷ before oneSum (Refused 8 5)
     ∷ checking sumsAndJoin NoSolution
     ∷ before sumsAndJoin NoSolution
-    ∷ checking joined (stringsGiven [] (pos 0 ∷ []))
-    ∷ before joined (Refused 8 4)
-    ∷ checking summed (stringsGiven [] (pos 0 ∷ []))
-    ∷ before summed (stringsGiven [] (pos 0 ∷ []))
+    ∷ checking mixedJoin (stringsGiven [] (pos 0 ∷ []))
+    ∷ before mixedJoin (Refused 8 4)
+    ∷ checking repeatedSum (stringsGiven [] (pos 0 ∷ []))
+    ∷ before repeatedSum (stringsGiven [] (pos 0 ∷ []))
     ∷ []
 
 -- ---- extended constraints (02, L3)

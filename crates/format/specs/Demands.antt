@@ -15,7 +15,7 @@ use Rattle.calculus.specs.Facts.{Question, Fact, Branch, Relation, ge, arithmet
 use Rattle.calculus.specs.Steps.{Step, Sum, Join}
 use Rattle.calculus.specs.Children.{one}
 use Rattle.calculus.specs.Rules.{children, childrenBefore}
-use Rattle.calculus.specs.Instances.{FactAt}
+use Rattle.calculus.specs.Instances.{HasRelation}
 use Rattle.calculus.specs.Walk.{Waiting, working, closed}
 use Rattle.calculus.specs.Chains.{OneClass}
 use Rattle.calculus.specs.Derivations.{Closes, WithinLimits, Path, PathWithinLimits}
@@ -248,7 +248,7 @@ pub record RulesBefore (u : Question) (b : Branch) : Type 0 where
   pub sum : (d : ℕ) (ts : List (ℕ × ℤ)) (cs : List (List Fact)) → Iff (childrenBefore u b (Sum d ts) ≡ some cs)
       ((r : Relation) × (e : List ℤ) × (children u b (Sum d ts) ≡ some (one (arithmetic r e))) × (cs ≡ one (arithmetic ge e)))
   pub join : (j k : ℕ) (cs : List (List Fact)) → Iff (childrenBefore u b (Join j k) ≡ some cs)
-      ((children u b (Join j k) ≡ some cs) × ((e : List ℤ) × FactAt b j (arithmetic ge e)) × ((e : List ℤ) × FactAt b k (arithmetic ge e)))
+      ((children u b (Join j k) ≡ some cs) × HasRelation b ge j × HasRelation b ge k)
   pub others : (st : Step) → ((d : ℕ) (ts : List (ℕ × ℤ)) → st ≢ Sum d ts) → ((j k : ℕ) → st ≢ Join j k) → childrenBefore u b st ≡ children u b st
 
 abbrev pub TH-L4-before : Type 0

@@ -425,7 +425,7 @@ fn negates(row: &[i64], other: &[i64]) -> bool
     true
 }
 
-// Is a fact one that Join takes: ≥, or an equation?
+// Is a fact one that Join takes: ≥, or an equation? These have the two lowest tags.
 fn joinable(row: &[i64]) -> bool
     requires { ⌜ length (now row) ≡ rowLength ⌝ }
     ensures { λ r. ⌜ r ≡ fits (joinForm (factOf (now (row .entry)))) ⌝ }

@@ -118,7 +118,7 @@ fn divide_by(row: &mut [i64], d: i64) -> bool
     divide(row, d)
 }
 
-// "Every fact named by a Sum is an equation".
+// Is every fact that a Sum names an equation?
 fn all_equations(b: &[u8], at: usize, pairs: usize, work: &[i64], count: usize) -> bool
     requires { ⌜ at + 6 * pairs ≤ length (now b) ⌝ }
     requires { ⌜ Fine (now work) count ⌝ }
@@ -139,7 +139,7 @@ fn all_equations(b: &[u8], at: usize, pairs: usize, work: &[i64], count: usize) 
     true
 }
 
-// "The constant also divides exactly", in a sum that is not yet divided. By 1 it always does.
+// Does the constant divide exactly too, in a sum that is not yet divided? By 1 it always does.
 fn divides_exactly(row: &[i64], d: i64) -> bool
     requires { ⌜ (pos 1 ≤ℤ d) × (length (now row) ≡ rowLength) ⌝ }
     ensures { λ r. ⌜ r ≡ dividesExactly (natAbs d) (drop 1 (now (row .entry))) ⌝ }
