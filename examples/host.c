@@ -1,5 +1,5 @@
 /* A host program, in C and C++ alike: says how much checking the ticket in a file needs, checks it and, when it brings strings, judges them by the same ticket's
-   question. Given the file of an answer too, it judges that answer by the ticket's question instead. */
+   question, or, when there is no solution, says which constraints took part. Given the file of an answer too, it judges that answer by the ticket's question instead. */
 
 #include <inttypes.h>
 #include <stdio.h>
@@ -81,7 +81,16 @@ static void print_needs(const uint8_t *ticket, size_t ticket_len) {
         printf("needs: not counted, refused at record %" PRIu64 " (%" PRIu64 ")\n", needs.record, needs.number);
 }
 
-/* Checks a ticket, prints the verdict and, for strings, what judging says of them. */
+/* Prints the constraints that took part in a "no solution", by number: those that clash. Without the others there is no solution either. */
+static void print_core(nuldwich_reply reply) {
+    printf("constraints that took part:");
+    for (unsigned constraint = 0; constraint < NULDWICH_MOST_FACTS; constraint++)
+        if (nuldwich_took_part(reply, constraint))
+            printf(" %u", constraint);
+    printf("\n");
+}
+
+/* Checks a ticket, prints the verdict and, for strings, what judging says of them, for no solution, what took part in it. */
 static void check_and_print(const uint8_t *ticket, size_t ticket_len) {
     uint8_t answer[NULDWICH_ANSWER_BYTES];
     nuldwich_reply reply = nuldwich_check(ticket, ticket_len, answer, sizeof answer);
@@ -89,6 +98,7 @@ static void check_and_print(const uint8_t *ticket, size_t ticket_len) {
         print_refusal(reply.number, reply.record);
     } else if (reply.record == NULDWICH_NO_SOLUTION) {
         printf("accepted: there is no solution\n");
+        print_core(reply);
     } else {
         printf("accepted: there are strings\n");
         size_t answer_len = print_answer(answer);

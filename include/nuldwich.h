@@ -15,11 +15,12 @@ extern "C" {
  *
  * always                   a constant keeps its value, a number of a reply its meaning, a field of a struct its name, its type and its place
  * at a new minor version   entries, constants and refusal numbers may come: a caller needs a default for numbers that it does not know.
- *                          What was accepted stays accepted, with the same answer; what was refused may be accepted, or get another number
+ *                          What was accepted stays accepted, with the same answer, but the set of a "no solution" may become another one;
+ *                          what was refused may be accepted, or get another number
  * at a new major version   structs may get further fields behind those they have, and what is accepted may change
  */
-#define NULDWICH_VERSION 2003
-#define NULDWICH_VERSION_STRING "2.3"
+#define NULDWICH_VERSION 3000
+#define NULDWICH_VERSION_STRING "3.0"
 
 /* The least size of the answer buffer that check is lent, in bytes. It holds every answer. */
 #define NULDWICH_ANSWER_BYTES 4268
@@ -92,14 +93,23 @@ static inline const char *nuldwich_refusal(uint64_t number) {
 }
 
 /*
- * What check returns.
+ * What check returns. Since version 3.0 it has four fields: a caller that was compiled with an earlier header must be compiled anew with this one.
  *
  * number 0        accepted; record is the claim, NULDWICH_NO_SOLUTION or NULDWICH_STRINGS
  * number 1 to 14  refused; record is the first faulty record, counted from 0, and 0 for 1 and 2
+ *
+ * core_low and core_high are the set of constraints that took part in a "no solution". Constraint k, counted from 0 over kinds 3 and 4 as they stand in the
+ * question, is bit k of core_low, or bit k - 64 of core_high. nuldwich_took_part asks for one of them.
+ *
+ * no solution     the constraints in the set, without the others, have no solution either: that is proved. The set is what this ticket's steps rest on and is
+ *                 not made smaller, so that fewer constraints may do
+ * any other       both are 0
  */
 typedef struct {
     uint64_t number;
     uint64_t record;
+    uint64_t core_low;
+    uint64_t core_high;
 } nuldwich_reply;
 
 /*
@@ -193,6 +203,12 @@ static inline nuldwich_reply nuldwich_check(const uint8_t *ticket, size_t ticket
 
 static inline nuldwich_judgement nuldwich_judge(const uint8_t *question, size_t question_len, const uint8_t *answer, size_t answer_len) {
     return judge(question, question_len, answer, answer_len);
+}
+
+/* Whether a constraint, counted from 0, is in the set of those that took part: 1 or 0, and 0 for a number that no constraint has. */
+static inline int nuldwich_took_part(nuldwich_reply reply, uint64_t constraint) {
+    uint64_t word = constraint < 64 ? reply.core_low : reply.core_high;
+    return constraint < NULDWICH_MOST_FACTS && (word >> (constraint % 64) & 1) == 1;
 }
 
 /*

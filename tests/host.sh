@@ -1,7 +1,7 @@
 #!/usr/bin/env bash
-# Runs the host program of examples/host.c, whose path is the argument: on every example, some answers and some tickets, against the words on file, and under
-# valgrind on vectors whose bytes are cut, damaged or too long, of which a part is shown, or that need the most, where a read outside ticket or answer is an error.
-# The last line is 'N passed, M failed'.
+# Runs the host program of examples/host.c, whose path is the argument: on every example, some answers and some tickets, against the words on file, on every
+# vector that has a core on file, against the constraints that took part, and under valgrind on vectors whose bytes are cut, damaged or too long, of which a
+# part is shown, or that need the most, where a read outside ticket or answer is an error. The last line is 'N passed, M failed'.
 set -u
 host=$(realpath "$1")
 cd "$(dirname "$0")/.."
@@ -11,6 +11,38 @@ if tests/host/words.sh "$host" | diff tests/host/expected.txt -; then
     passed=1 failed=0
 else
     passed=0 failed=1
+fi
+
+# The vectors with a core on file, each with its path and the core: that of the last changed.tsv that names it, else of its own expected.tsv.
+cores() {
+    find tests/vectors -name expected.tsv -o -name changed.tsv | sort -V | xargs awk -F '\t' '
+        FILENAME ~ /expected\.tsv$/ && $1 ~ /\.ticket$/ && $4 ~ /^core/ { path = FILENAME; sub(/expected\.tsv$/, $1, path); core[path] = $4 }
+        FILENAME ~ /changed\.tsv$/ && $1 == "check" && $5 ~ /^core/ { core["tests/vectors/" $2] = $5 }
+        END { for (path in core) print path "\t" core[path] }' | sort
+}
+
+# How many cores are held at the least.
+least_held=50
+
+held=0
+while IFS=$'\t' read -r path core; do
+    if words=$("$host" "$path"); then
+        said=$(sed -n 's/^constraints that took part:/core/p' <<<"$words")
+        said=${said:-core}
+    else
+        said="exit status $?"
+    fi
+    held=$((held + 1))
+    if [ "$said" = "$core" ]; then
+        passed=$((passed + 1))
+    else
+        echo "$path: the host says '$said', expected is '$core'"
+        failed=$((failed + 1))
+    fi
+done < <(cores)
+if [ "$held" -lt "$least_held" ]; then
+    echo "$held cores are held, and $least_held are due"
+    failed=$((failed + 1))
 fi
 
 # What the host is run on under valgrind, a line of arguments for each run.

@@ -1,5 +1,5 @@
-/* Holds what include/nuldwich.h says of the library against it: the version, the words for refusals, on the tickets named as arguments what judge shows, what
-   nuldwich_need returns beside check, and the stack that a call uses, and who takes kind 11. The last line is 'N passed, M failed'. */
+/* Holds what include/nuldwich.h says of the library against it: the version, the words for refusals, on the tickets named as arguments the constraints that took
+   part, what judge shows, what nuldwich_need returns beside check, and the stack that a call uses, and who takes kind 11. The last line is 'N passed, M failed'. */
 
 #define _XOPEN_SOURCE 700
 
@@ -115,6 +115,50 @@ static void read_ticket(const char *path) {
     }
     ticket_len = fread(ticket, 1, sizeof ticket, file);
     fclose(file);
+}
+
+/* The constraints of a ticket all of whose records are whole. */
+static uint64_t constraint_records(void) {
+    uint64_t constraints = 0;
+    for (size_t start = 0; start < ticket_len; start += record_length(ticket + start))
+        constraints += (ticket[start + 4] == 3 || ticket[start + 4] == 4) && ticket[start + 5] == 0;
+    return constraints;
+}
+
+/* Whether the reply's set is what the header says of it: with no solution some of the ticket's constraints, else empty; and the inline function reads its bits. */
+static int took_part_as_said(void) {
+    int none = reply.number == NULDWICH_DONE && reply.record == NULDWICH_NO_SOLUTION, good = 1;
+    uint64_t low = 0, high = 0;
+    for (uint64_t k = 0; k < 64; k++) {
+        low |= (uint64_t)nuldwich_took_part(reply, k) << k;
+        high |= (uint64_t)nuldwich_took_part(reply, 64 + k) << k;
+    }
+    good &= low == reply.core_low && high == reply.core_high && none == (low != 0 || high != 0);
+    for (uint64_t k = none ? constraint_records() : 0; k < 1024; k++)
+        good &= !nuldwich_took_part(reply, k);
+    return good && !nuldwich_took_part(reply, UINT64_MAX) && !nuldwich_took_part(reply, (uint64_t)1 << 32);
+}
+
+/* On every ticket, and on the small ones with each of their bytes changed. */
+static void hold_core(char **paths) {
+    int good = sizeof(nuldwich_reply) == 32 && offsetof(nuldwich_reply, core_low) == 16 && offsetof(nuldwich_reply, core_high) == 24;
+    int in_low = 0, in_high = 0, last = 0;
+    for (; *paths != NULL; paths++) {
+        read_ticket(*paths);
+        run_check();
+        good &= took_part_as_said();
+        in_low |= reply.core_low != 0 && reply.core_high == 0;
+        in_high |= reply.core_high != 0;
+        last |= nuldwich_took_part(reply, NULDWICH_MOST_FACTS - 1);
+        for (size_t at = 0; ticket_len <= SMALL_TICKET && at < ticket_len; at++) {
+            ticket[at] ^= 1;
+            run_check();
+            good &= took_part_as_said();
+            ticket[at] ^= 1;
+        }
+    }
+    count(good, "check returns another set of constraints than is said");
+    count(in_low && in_high && last, "check was not brought to sets in both words and to the last constraint");
 }
 
 /* Whether a judgement shows one of the two lent slices from a place on, so many bytes, and the inline function finds them. */
@@ -289,6 +333,7 @@ int main(int argc, char **argv) {
     (void)argc;
     hold_version();
     hold_words();
+    hold_core(argv + 1);
     hold_shown(argv + 1);
     hold_needs(argv + 1);
     hold_extended();

@@ -235,25 +235,28 @@ module _ (u : Question) (b : Branch) where
   abbrev states : ℕ → ℕ → Fact → Bool
   states x y = statesDifference (columnOf u len x) (columnOf u len y)
 
+  -- a fact that passes states it
+  pub stated-at : (x y k : ℕ) (f : Fact) → FactAt b k f → states x y f ≡ true → LengthsStated u b x y
+  unfolding statesDifference
+  stated-at x y k f h p = either (or→ (statesZero (difference x y) f) (statesZero (difference y x) f) (true→ p))
+    where
+      either : T (statesZero (difference x y) f) ⊎ T (statesZero (difference y x) f) → LengthsStated u b x y
+      either (inl s) = inl (k, h ∙ ap some (states→ (difference x y) f s))
+      either (inr s) = inr (k, h ∙ ap some (states→ (difference y x) f s))
+
   same-length→ : (x y : ℕ) → T (sameLength u b x y) → LengthsStated u b x y
-  unfolding statesEqual statesDifference
+  unfolding statesEqual
   same-length→ x y t = go (lowest (states x y) b) refl t
     where
-      either : (k : ℕ) (f : Fact) → FactAt b k f → T (statesZero (difference x y) f) ⊎ T (statesZero (difference y x) f) → LengthsStated u b x y
-      either k f h (inl s) = inl (k, h ∙ ap some (states→ (difference x y) f s))
-      either k f h (inr s) = inr (k, h ∙ ap some (states→ (difference y x) f s))
-
       go : (o : Option ℕ) → lowest (states x y) b ≡ o → T (found o) → LengthsStated u b x y
       go none e t = absurd t
-      go (some k) e t =
-          let (f, h, p) = lowest-passes (states x y) b k e in
-          either k f h (or→ (statesZero (difference x y) f) (statesZero (difference y x) f) (true→ p))
+      go (some k) e t = let (f, h, p) = lowest-passes (states x y) b k e in stated-at x y k f h p
 
   passing : (x y k : ℕ) (f : Fact) → FactAt b k f → T (states x y f) → T (sameLength u b x y)
   unfolding statesEqual
   passing x y k f h t = true→ (found-any (states x y) b ∙ some-at (states x y) b k f h (→true (states x y f) t))
 
-  →same-length : (x y : ℕ) → LengthsStated u b x y → T (sameLength u b x y)
+  pub →same-length : (x y : ℕ) → LengthsStated u b x y → T (sameLength u b x y)
   unfolding statesDifference
   →same-length x y (inl (k, h)) =
       let e : List ℤ = difference x y in

@@ -25,3 +25,7 @@ pub mod Saturation
 pub mod Strings
 pub mod Alongside
 pub mod Before
+pub mod CoreCases
+pub mod Kept
+pub mod Cores
+pub mod Resting

@@ -11,7 +11,7 @@ use lib.IntN.{negsuc}
 use borrow.Author.Tests.{lt-leb}
 use Rattle.lists.proofs.Options.{some-injective, none-some}
 use Rattle.lists.specs.Lists.{All}
-use Rattle.lists.proofs.Lists.{element-map, all-replicate}
+use Rattle.lists.proofs.Lists.{element-map, all-map, all-replicate}
 use Rattle.calculus.specs.Alphabet.{characterCount, codeRanges}
 use Rattle.calculus.specs.Facts.{Question, Fact, same, notSame, isLiteral, arithmetic, ge, eq, ne, Branch}
 use Rattle.calculus.specs.Classes.{labels, sameClass, classLiteral, conflict}
@@ -156,23 +156,37 @@ threes : (rs : List (ℕ × ℕ)) → map {B = ℕ} (λ r. 3) rs ≡ replicate (
 threes [] = refl
 threes (r ∷ rs) = ap (λ l. 3 ∷ l) (threes rs)
 
+-- one to three, for each child
+abbrev pub OneToThree : ℕ → Type 0
+OneToThree k = (1 ≤ k) × (k ≤ 3)
+
+shape-bounds : (n : ℕ) (st : Step) → All OneToThree (shape n st)
+unfolding shape
+shape-bounds n (Sum d ts) = (omega arith, tt)
+shape-bounds n (BranchOn e) = (omega arith, (omega arith, tt))
+shape-bounds n (Apart k) = (omega arith, (omega arith, tt))
+shape-bounds n (AConf k) = tt
+shape-bounds n SConf = tt
+shape-bounds n (SProp f x y) = (omega arith, tt)
+shape-bounds n (LIntro x) = (omega arith, tt)
+shape-bounds n (LValid x) = (omega arith, (omega arith, tt))
+shape-bounds n (CCollapse x) = (omega arith, tt)
+shape-bounds n (CValid x) =
+    (omega arith, subst (All OneToThree) (sym (threes (codeRanges n))) (all-replicate OneToThree (length (codeRanges n)) 3 (omega arith)))
+shape-bounds n (CInj x y) = (omega arith, (omega arith, (omega arith, tt)))
+shape-bounds n (Card xs) = all-replicate OneToThree (pairCount (length xs) + lastCount (characterCount n)) 1 (omega arith)
+shape-bounds n (Join j k) = (omega arith, tt)
+
 -- no child adds more than three
 pub shape-small : (n : ℕ) (st : Step) → All (λ k. k ≤ 3) (shape n st)
-unfolding shape
-shape-small n (Sum d ts) = (omega arith, tt)
-shape-small n (BranchOn e) = (omega arith, (omega arith, tt))
-shape-small n (Apart k) = (omega arith, (omega arith, tt))
-shape-small n (AConf k) = tt
-shape-small n SConf = tt
-shape-small n (SProp f x y) = (omega arith, tt)
-shape-small n (LIntro x) = (omega arith, tt)
-shape-small n (LValid x) = (omega arith, (omega arith, tt))
-shape-small n (CCollapse x) = (omega arith, tt)
-shape-small n (CValid x) =
-    (omega arith, subst (All (λ k. k ≤ 3)) (sym (threes (codeRanges n))) (all-replicate (λ k. k ≤ 3) (length (codeRanges n)) 3 (omega arith)))
-shape-small n (CInj x y) = (omega arith, (omega arith, (omega arith, tt)))
-shape-small n (Card xs) = all-replicate (λ k. k ≤ 3) (pairCount (length xs) + lastCount (characterCount n)) 1 (omega arith)
-shape-small n (Join j k) = (omega arith, tt)
+shape-small n st = all-map (shape n st) (λ k h. h .1) (shape-bounds n st)
+
+pub children-add : (u : Question) (b : Branch) (st : Step) (cs : List (List Fact)) → children u b st ≡ some cs → All (λ c. OneToThree (length c)) cs
+children-add u b st cs e = each cs (subst (All OneToThree) (sym (children-shape u b st cs e)) (shape-bounds (u .n) st))
+  where
+    each : (cs : List (List Fact)) → All OneToThree (map length cs) → All (λ c. OneToThree (length c)) cs
+    each [] h = tt
+    each (c ∷ cs) (h, hs) = (h, each cs hs)
 
 -- the children behind the first add alike
 abbrev pub Alike : List ℕ → Type 0

@@ -9,6 +9,7 @@ pub mod Children
 pub mod Rules
 pub mod Instances
 pub mod Walk
+pub mod Cores
 pub mod Derivations
 pub mod Model
 pub mod Saturation

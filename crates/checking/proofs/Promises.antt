@@ -2,7 +2,7 @@
 use Prim.Native.Nat.{ℕ, _<_, _≤_}
 use mathlib.Core.Path.{_≡_, refl, sym, _∙_, ap}
 use mathlib.Core.Bool.{Bool, true, false}
-use mathlib.Core.List.{List}
+use mathlib.Core.List.{List, []}
 use lib.ListN.{length, replicate}
 use lib.IntN.{ℤ, pos}
 use borrow.Author.Tests.{le-leb, lt-leb, ne-eqb}
@@ -12,12 +12,20 @@ use Rattle.format.specs.Question.{question}
 use Rattle.format.specs.Reading.{readBehind}
 use Rattle.format.specs.Checking as format
 use Rattle.format.specs.Checking.{checker, outcomeOf, largeEnough, verdictBy, verdict}
+use Rattle.format.specs.Cores.{core, coreOf}
 use Rattle.format.specs.Demands.{workAfter}
 use Rattle.deciding.specs.declared.Outcome.{Outcome}
 use Rattle.deciding.specs.declared.Outcome.the-variants.{Refused}
 use Rattle.deciding.specs.Outcomes.{told, Decided}
 use Rattle.checking.specs.Outcomes.{Promised}
 use Rattle.checking.proofs.Numbers.{OtherThanOne, never-one}
+
+-- "with every other outcome the empty set", of which nothing is told
+set-told : (b : List ℕ) (o : format.Outcome) → told o (core b) ≡ told o (coreOf o b)
+unfolding told
+set-told b (format.Refused c r) = refl
+set-told b format.NoSolution = refl
+set-told b (format.Strings s) = refl
 
 module _ (b : List ℕ) (w : List ℤ) (a : List ℕ) where
   abbrev bySize : Bool → format.Outcome
@@ -32,7 +40,8 @@ module _ (b : List ℕ) (w : List ℤ) (a : List ℕ) where
   unfolding told
   small e = record {
     outcome = format.Refused 1 0;
-    checked = record { outcome = sym (sized e); work-after = refl; answer-after = refl };
+    set = [];
+    checked = record { outcome = sym (sized e); took-part = refl; work-after = refl; answer-after = refl };
     tells = refl;
   }
 
@@ -49,13 +58,15 @@ module _ (b : List ℕ) (w : List ℤ) (a : List ℕ) where
   cleared (format.Strings s) other = refl
 
   pub decided : {w' : List ℤ} {a' : List ℕ} {r : Outcome} → workNumbers ≤ length w → answerBytes ≤ length a → w' ≡ replicate (length w) (pos 0)
-      → Decided (outcomeOf (readBehind checker b (question b))) a a' r → Promised b w w' a a' r
+      → Decided (outcomeOf (readBehind checker b (question b))) (core b) a a' r → Promised b w w' a a' r
   decided g h z d = record {
     outcome = outcomeOf (readBehind checker b (question b));
+    set = coreOf (outcomeOf (readBehind checker b (question b))) b;
     checked = record {
       outcome = sym (sized {x = true} (rw (le-leb workNumbers (length w) g, le-leb answerBytes (length a) h)));
+      took-part = refl;
       work-after = z ∙ cleared (outcomeOf (readBehind checker b (question b))) (never-one children b);
       answer-after = d .answer-after;
     };
-    tells = d .tells;
+    tells = d .tells ∙ set-told b (outcomeOf (readBehind checker b (question b)));
   }

@@ -1,1 +1,4 @@
 pub mod Walking
+pub mod Nexts
+pub mod Keeping
+pub mod Gathering

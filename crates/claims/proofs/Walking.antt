@@ -3,6 +3,7 @@ use Prim.Native.Nat.{ℕ, _+_, _≤_, _<_}
 use native.Mathlib.Omega.{arith}
 use native.Mathlib.Numerals.{add-one}
 use mathlib.Core.Path.{_≡_, refl, sym, _∙_, ap, ap₂, subst}
+use mathlib.Core.Logic.{_⊎_, inl, inr}
 use mathlib.Core.Bool.{true, false}
 use mathlib.Core.List.{List, [], _∷_, _++_}
 use lib.ListN.{length, take}
@@ -38,12 +39,16 @@ use Rattle.derivation.proofs.Holding.{fine, waiting}
 use Rattle.derivation.proofs.Closing.{rooted-mark}
 use Rattle.derivation.proofs.Acting as acting
 use Rattle.derivation.proofs.Acting.{entered, same-rows, holds-closed, entered-closed, entered-next, extended, entered-one, split-up, few-split, entered-more}
+use denote.Enum.Declared.{tagOf}
+use Rattle.claims.proofs.Next.{the-type}
 use Rattle.claims.specs.declared.Walked as walked
-use Rattle.claims.specs.Outcomes.{firstUpto, walkedOf, LeafAt}
+use Rattle.claims.specs.declared.Next as next-record
+use Rattle.claims.specs.declared.Next.{Next}
+use Rattle.claims.specs.Outcomes.{firstUpto, walkedOf, LeafAt, CoreAt}
+use Rattle.claims.specs.Steps.{NextAt, endedBy}
 use Rattle.format.proofs.Faults.{not-both}
-use Rattle.format.proofs.StepTurns.{turn-none, turn-faulty, turn-stepped}
+use Rattle.format.proofs.StepTurns.{turn-faulty, turn-stepped}
 use Rattle.steps.specs.Offered.{offered}
-use Rattle.steps.proofs.Numbers.{triedBy}
 
 -- no more than the question's constraints are known at first
 pub first-few : (claim : Claim) (n : ℕ) → firstUpto claim n ≤ n
@@ -139,10 +144,12 @@ module _ (b : List ℕ) (s : Progress) where
 
   module _ {claim : Claim} {n : ℕ} {outcome : Ticket Branch (List Fact)} {w : List ℤ} {c : code.Branch} {known : Known} {i k : ℕ}
       (g : Going claim n outcome w c known i k) (v : List ℤ) where
-    pub going-none : length b < next b i → walkedOf b s v (walked.the-variants.Refused 3 k) ≡ outcome
-    unfolding walkedOf
-    going-none h = sym (turn-none (checker (asked b s)) b (asked b s) (standsAt claim w c) k i h) ∙ g .rest
+    -- at its record
+    going-stopped : (f : ℕ) → NextAt claim b s i (next-record.the-variants.Refused f) → walkedOf b s v (walked.the-variants.Refused f k) ≡ outcome
+    unfolding walkedOf NextAt
+    going-stopped f h = sym (h (branchOf w (c .count)) (pendingOn w c) k) ∙ g .rest
 
+    -- as a step
     pub going-refused : next b i ≤ length b
         → (f : ℕ)
         → f ≡ faultAt claim w c i
@@ -151,7 +158,7 @@ module _ (b : List ℕ) (s : Progress) where
     unfolding walkedOf
     going-refused h f e z = sym (turn-faulty (checker (asked b s)) b (asked b s) (standsAt claim w c) k i h f e z) ∙ g .rest
 
-  pub going-model : (claim : Claim) (n : ℕ) (outcome : Ticket Branch (List Fact)) (w : List ℤ) (c : code.Branch) (known : Known) (i k j : ℕ)
+  going-model : (claim : Claim) (n : ℕ) (outcome : Ticket Branch (List Fact)) (w : List ℤ) (c : code.Branch) (known : Known) (i k j : ℕ)
       → Going claim n outcome w c known i k
       → endsAt claim j ≡ true
       → walkedOf b s w (walked.the-variants.Model i k (c .count)) ≡ outcome
@@ -159,7 +166,7 @@ module _ (b : List ℕ) (s : Progress) where
   going-model NoSolution n outcome w c known i k j g e = absurd (not-both false e refl)
   going-model Strings n outcome w c known i k j g e = g .rest
 
-  pub leaf-here : (claim : Claim) (n : ℕ) (outcome : Ticket Branch (List Fact)) (w : List ℤ) (c : code.Branch) (known : Known) (i k j : ℕ)
+  leaf-here : (claim : Claim) (n : ℕ) (outcome : Ticket Branch (List Fact)) (w : List ℤ) (c : code.Branch) (known : Known) (i k j : ℕ)
       → Going claim n outcome w c known i k
       → endsAt claim j ≡ true
       → j ≡ kind b i
@@ -168,6 +175,19 @@ module _ (b : List ℕ) (s : Progress) where
   unfolding LeafAt Holds
   leaf-here NoSolution n outcome w c known i k j g e q h = absurd (not-both false e refl)
   leaf-here Strings n outcome w c known i k j g e q h = record { model = sym q ∙ eqb-true j 7 e; whole = h; fine = g .holds; low = g .low }
+
+  -- what was found there is no step, by its tag
+  pub going-ended : (claim : Claim) (n : ℕ) (outcome : Ticket Branch (List Fact)) (w : List ℤ) (c : code.Branch) (known : Known) (i k at : ℕ) (x : Next)
+      → Going claim n outcome w c known i k
+      → NextAt claim b s i x
+      → (tagOf the-type x ≡ 0) ⊎ (tagOf the-type x ≡ 1)
+      → (walkedOf b s w (endedBy x i k (c .count)) ≡ outcome) × LeafAt b w (endedBy x i k (c .count)) × CoreAt b s at (endedBy x i k (c .count))
+  unfolding NextAt LeafAt CoreAt
+  going-ended claim n outcome w c known i k at (next-record.the-variants.Refused f) g h e = (going-stopped g w f h, tt, tt)
+  going-ended claim n outcome w c known i k at next-record.the-variants.Model g h e =
+      (going-model claim n outcome w c known i k (kind b i) g (h .0), leaf-here claim n outcome w c known i k (kind b i) g (h .0) refl (h .1), tt)
+  going-ended claim n outcome w c known i k at (next-record.the-variants.Step rule m) g h (inl e) = absurd (omega arith)
+  going-ended claim n outcome w c known i k at (next-record.the-variants.Step rule m) g h (inr e) = absurd (omega arith)
 
   -- ---- a step
 
@@ -179,13 +199,13 @@ module _ (b : List ℕ) (s : Progress) where
     pub number : numberOf a ≡ faultAt claim w c i
     pub acts : Acts claim b (asked b s) i (c .depth) w (c .count) v a
 
-  -- the number that it was tried for is the record's: under claim 1 as many splits are pending as the depth says
-  pub same-pending : (claim : Claim) (w : List ℤ) (c : code.Branch) (i : ℕ)
+  -- the number that it was tried for is that with the splits that are pending: under claim 1 as many as the depth says
+  pub as-pending : (claim : Claim) (w : List ℤ) (c : code.Branch) (i : ℕ)
       → Holds claim b s w c
-      → triedAt claim b s i w (c .count) (c .depth) ≡ triedBy (checker (asked b s)) claim b (branchOf w (c .count)) (pendingOn w c) (i + 6) (size b i)
-  unfolding Holds offered
-  same-pending NoSolution w c i h = ap (λ (j : ℕ). triedAt NoSolution b s i w (c .count) j) (sym (waiting h))
-  same-pending Strings w c i h = refl
+      → triedAt claim b s i w (c .count) (c .depth) ≡ triedAt claim b s i w (c .count) (length (pendingOn w c))
+  unfolding Holds
+  as-pending NoSolution w c i h = ap (λ (j : ℕ). triedAt NoSolution b s i w (c .count) j) (sym (waiting h))
+  as-pending Strings w c i h = refl
 
   -- under claim 2 no branch closes and none splits: the child taken follows
   module _ {w : List ℤ} {c : code.Branch} {i m : ℕ} {v : List ℤ} {a : Action} (t : Stepped Strings w c i m v a) where
@@ -269,11 +289,11 @@ module _ (b : List ℕ) (s : Progress) where
         → Stepped claim w c i m v a
         → a ≡ Closes
         → c .depth ≡ 0
-        → (x : List ℤ)
-        → walkedOf b s x (walked.the-variants.Closed (i + 6 + m) (k + 1)) ≡ outcome
+        → (x : List ℤ) (low high : ℕ)
+        → walkedOf b s x (walked.the-variants.Closed (i + 6 + m) (k + 1) low high) ≡ outcome
     unfolding walkedOf
-    going-closed NoSolution g t q d x = on-from g t closed (entered-closed (held g t) i v a (t .acts) q d) (ap numberOf q)
-    going-closed Strings g t q d x = absurd (closes-alone t q)
+    going-closed NoSolution g t q d x low high = on-from g t closed (entered-closed (held g t) i v a (t .acts) q d) (ap numberOf q)
+    going-closed Strings g t q d x low high = absurd (closes-alone t q)
 
     -- the state to cut back from
     pub still-open : (claim : Claim)

@@ -1,12 +1,16 @@
 -- What the code says of the records behind the claim, in the definitions of the format.
 use Prim.Native.Nat.{ℕ, _≤_}
 use mathlib.Core.Path.{_≡_}
-use mathlib.Core.List.{List, []}
+use mathlib.Core.List.{List, [], map}
 use lib.ListN.{length}
 use lib.IntN.{ℤ}
 use Rattle.calculus.specs.Facts.{Fact, Branch}
 use Rattle.calculus.specs.Walk.{closed}
-use Rattle.format.specs.Records.{kind, next}
+use Rattle.calculus.specs.Steps.{Step}
+use Rattle.calculus.specs.Cores.{Set, coreIn}
+use Rattle.format.specs.Records.{kind, next, records}
+use Rattle.format.specs.ProperForm.{stepsAt}
+use Rattle.format.specs.Cores.{low, high}
 use Rattle.format.specs.Reading.{proving, taking, Ticket, Faulty, stepsOn}
 use Rattle.format.specs.Checking.{checker}
 use Rattle.delimiters.specs.declared.Claim.{Claim}
@@ -35,7 +39,7 @@ walkFrom claim b s r at = stepsOn (checker (asked b s)) b (asked b s) (openUnder
 -- refused; or every branch is closed, and reading goes on at a position and record; or it goes on at the model's record, on the branch of the first count rows
 unfoldable pub walkedOf : List ℕ → Progress → List ℤ → Walked → Ticket Branch (List Fact)
 walkedOf b s w (walked.the-variants.Refused c r) = Faulty c r
-walkedOf b s w (walked.the-variants.Closed at r) = stepsOn (checker (asked b s)) b (asked b s) (proving closed) r at
+walkedOf b s w (walked.the-variants.Closed at r low high) = stepsOn (checker (asked b s)) b (asked b s) (proving closed) r at
 walkedOf b s w (walked.the-variants.Model at r count) = stepsOn (checker (asked b s)) b (asked b s) (taking (branchOf w count)) r at
 
 -- the model's record is all there, and the rows are in order
@@ -47,5 +51,15 @@ pub record AtModel (b : List ℕ) (w : List ℤ) (at r count : ℕ) : Type 0 whe
 
 unfoldable pub LeafAt : List ℕ → List ℤ → Walked → Type 0
 LeafAt b w (walked.the-variants.Refused c r) = Unit {0}
-LeafAt b w (walked.the-variants.Closed at r) = Unit {0}
+LeafAt b w (walked.the-variants.Closed at r low high) = Unit {0}
 LeafAt b w (walked.the-variants.Model at r count) = AtModel b w at r count
+
+-- the steps from a position on
+abbrev pub stepsFrom : List ℕ → ℕ → List Step
+stepsFrom b at = map (λ (t : Step × ℕ). t .0) (stepsAt b (records b at))
+
+-- where every branch is closed, the words are those of the core of the steps from a position on
+unfoldable pub CoreAt : List ℕ → Progress → ℕ → Walked → Type 0
+CoreAt b s at (walked.the-variants.Refused c r) = Unit {0}
+CoreAt b s at (walked.the-variants.Closed to r x y) = let c : Set = coreIn (asked b s) (stepsFrom b at) in (x ≡ low c) × (y ≡ high c)
+CoreAt b s at (walked.the-variants.Model to r count) = Unit {0}

@@ -5,17 +5,21 @@ ghost use Prim.Native.Nat.{ℕ, _≤_};
 ghost use lib.ListN.{length};
 ghost use Rattle.calculus.specs.Limits.{workNumbers, answerBytes};
 ghost use Rattle.calculus.specs.Walk.{closed};
+ghost use Rattle.calculus.specs.Cores.{Set, coreIn};
 ghost use Rattle.format.specs.Records.{kind, next};
 ghost use Rattle.format.specs.Reading.{proving, taking};
+ghost use Rattle.format.specs.Cores as format-cores;
+ghost use Rattle.format.specs.Cores.{core};
 ghost use Rattle.question.specs.declared.Progress.{Progress};
-ghost use Rattle.question.specs.Posed.{Posed};
+ghost use Rattle.question.specs.Posed.{asked, Posed};
 ghost use Rattle.rows.specs.Rows.{branchOf};
 ghost use Rattle.rows.specs.Work.{Fine};
 ghost use Rattle.deciding.specs.Outcomes.{outcomeFrom, steppedFrom, claimedFrom, readWhole, ReadToClaim, Decided};
-ghost use Rattle.claims.specs.Outcomes.{Loaded};
+ghost use Rattle.claims.specs.Outcomes.{Loaded, stepsFrom};
 use claims::Walked;
 use claims::walk;
 use constraints::load;
+use cores::SET_NUMBERS;
 use delimiters::Claim;
 use delimiters::claim_fault;
 use delimiters::claim_of;
@@ -36,22 +40,24 @@ use records::u32_at;
 pub enum Outcome {
     // The number of a refusal and its record.
     Refused(usize, usize),
-    NoSolution,
+    // The set of the constraints that took part: constraint k is bit k of the first number, constraint 64 + k bit k of the second (02, L5).
+    NoSolution(u64, u64),
     // The answer stands in the answer buffer.
     Strings,
 }
 
 // ---- behind the steps
 
-// Behind the last closed branch: the end. No answer buffer is written.
-fn at_end(ticket: &[u8], at: usize, r: usize) -> Outcome
-    ensures { λ o. ⌜ ((s : Progress) (answer : List ℕ) → Decided (outcomeFrom (now (ticket .entry)) s (proving closed) r at) answer answer o) ⌝ }
+// Behind the last closed branch: the end, with the two numbers of the set. No answer buffer is written.
+fn at_end(ticket: &[u8], at: usize, r: usize, low: u64, high: u64) -> Outcome
+    ensures { λ o. ⌜ ((s : Progress) (answer : List ℕ) (set : Set) → low ≡ format-cores.low set → high ≡ format-cores.high set
+        → Decided (outcomeFrom (now (ticket .entry)) s (proving closed) r at) set answer answer o) ⌝ }
 {
     let c = end_fault(ticket, at);
     if c != 0 {
         return Outcome::Refused(c, r);
     }
-    Outcome::NoSolution
+    Outcome::NoSolution(low, high)
 }
 
 // The model's record, the end behind it, and the answer, which is written when both are good.
@@ -66,8 +72,8 @@ fn at_model(
 ) -> Outcome
     requires { ⌜ Posed (now ticket) s × (kind (now ticket) at ≡ 7) × (next (now ticket) at ≤ length (now ticket)) × (r ≤ at)
         × Fine (now work) count × (answerBytes ≤ length (now answer)) ⌝ }
-    ensures { λ o. ⌜ Decided (outcomeFrom (now (ticket .entry)) s (taking (branchOf (now (work .entry)) count)) r at)
-        (now (answer .entry)) (now (answer .exit)) o ⌝ }
+    ensures { λ o. ⌜ ((set : Set) → Decided (outcomeFrom (now (ticket .entry)) s (taking (branchOf (now (work .entry)) count)) r at)
+        set (now (answer .entry)) (now (answer .exit)) o) ⌝ }
 {
     let size = u32_at(ticket, at);
     let places = record_places(ticket, LITERALS_FROM, s.literals);
@@ -97,7 +103,7 @@ fn at_model(
 
 // ---- the whole ticket
 
-// The steps, and what stands behind them.
+// The steps, and what stands behind them. The sets of the facts are kept in a slice of their own.
 fn behind_claim(
     ticket: &[u8],
     s: Progress,
@@ -108,11 +114,13 @@ fn behind_claim(
     answer: &mut [u8],
 ) -> Outcome
     requires { ⌜ Loaded (now ticket) s (now work) × (r ≤ at) × (answerBytes ≤ length (now answer)) ⌝ }
-    ensures { λ o. ⌜ Decided (steppedFrom claim (now (ticket .entry)) s r at) (now (answer .entry)) (now (answer .exit)) o ⌝ }
+    ensures { λ o. ⌜ Decided (steppedFrom claim (now (ticket .entry)) s r at)
+        (coreIn (asked (now (ticket .entry)) s) (stepsFrom (now (ticket .entry)) at)) (now (answer .entry)) (now (answer .exit)) o ⌝ }
 {
-    match walk(ticket, s, claim, at, r, work) {
+    let mut sets = [0u64; SET_NUMBERS];
+    match walk(ticket, s, claim, at, r, work, &mut sets) {
         Walked::Refused(c, k) => Outcome::Refused(c, k),
-        Walked::Closed(to, k) => at_end(ticket, to, k),
+        Walked::Closed(to, k, low, high) => at_end(ticket, to, k, low, high),
         Walked::Model(to, k, count) => at_model(ticket, s, to, k, work, count, answer),
     }
 }
@@ -128,7 +136,7 @@ fn behind_question(
 ) -> Outcome
     requires { ⌜ ReadToClaim (now ticket) s at r ⌝ }
     requires { ⌜ (workNumbers ≤ length (now work)) × (answerBytes ≤ length (now answer)) ⌝ }
-    ensures { λ o. ⌜ Decided (claimedFrom (now (ticket .entry)) s at r) (now (answer .entry)) (now (answer .exit)) o ⌝ }
+    ensures { λ o. ⌜ Decided (claimedFrom (now (ticket .entry)) s at r) (core (now (ticket .entry))) (now (answer .entry)) (now (answer .exit)) o ⌝ }
 {
     let c = claim_fault(ticket, s, at);
     if c != 0 {
@@ -142,7 +150,7 @@ fn behind_question(
 // The outcome on buffers that are large enough. Anything may be left in the work area.
 pub fn decide(ticket: &[u8], work: &mut [i64], answer: &mut [u8]) -> Outcome
     requires { ⌜ (workNumbers ≤ length (now work)) × (answerBytes ≤ length (now answer)) ⌝ }
-    ensures { λ o. ⌜ Decided (readWhole (now (ticket .entry))) (now (answer .entry)) (now (answer .exit)) o ⌝ }
+    ensures { λ o. ⌜ Decided (readWhole (now (ticket .entry))) (core (now (ticket .entry))) (now (answer .entry)) (now (answer .exit)) o ⌝ }
 {
     match read_question(CHECKING, ticket) {
         Reading::Stopped(c, r) => Outcome::Refused(c, r),

@@ -13,7 +13,7 @@ use Rattle.format.proofs.Decoded.{at-least}
 use Rattle.rows.specs.Rows.{branchOf}
 use Rattle.rows.specs.Work.{Fine}
 use Rattle.rows.proofs.Branches.{length-branch, branch-take, branch-grown}
-use Rattle.rows.proofs.Small.{within-take}
+use Rattle.rows.proofs.Small.{fine-first}
 use Rattle.question.specs.declared.Progress.{Progress}
 use Rattle.question.specs.Posed.{asked}
 use Rattle.steps.specs.declared.Rule.{Rule}
@@ -28,7 +28,7 @@ use Rattle.derivation.specs.State.{childOn, waitings, walkOf, stateOf, K
 use Rattle.derivation.specs.Ok.{Splits, Pends, Ok, InOrder}
 use Rattle.derivation.proofs.Pending.{its-pends, ok-begun}
 use Rattle.derivation.proofs.Walks.{cut-back}
-use Rattle.derivation.proofs.Holding.{few-facts, Puts, puts}
+use Rattle.derivation.proofs.Holding.{fine, Puts, puts}
 
 -- with none pending, the last branch is closed
 pub none-left : (b : List ℕ) (s : Progress) (w : List ℤ) (c : code.Branch)
@@ -48,10 +48,10 @@ module _ {b : List ℕ} {s : Progress} {w : List ℤ} {c : code.Branch} (h : InO
   abbrev br : Branch
   br = branchOf w (c .count)
 
-  abbrev others : List Split
+  abbrev pub others : List Split
   others = lastFirst (c .depth - 1) (c .splits)
 
-  on-top : stack c ≡ t ∷ others
+  pub on-top : stack c ≡ t ∷ others
   unfolding stack latestOf
   on-top = let q = stack-top (c .depth) (c .splits) d in q ∙ ap (λ (x : Split). x ∷ others) (sym (top ∙ ap latestOf q))
 
@@ -65,7 +65,7 @@ module _ {b : List ℕ} {s : Progress} {w : List ℤ} {c : code.Branch} (h : InO
   pub rooted-mark : length (asked b s .constraints) ≤ t .mark
   rooted-mark = pends .rooted
 
-  mark-behind : t .mark ≤ c .count
+  pub mark-behind : t .mark ≤ c .count
   mark-behind = omega (arith, pends .behind, length-branch w (c .count))
 
   cut-rows : take (t .mark) br ≡ branchOf w (t .mark)
@@ -75,11 +75,7 @@ module _ {b : List ℕ} {s : Progress} {w : List ℤ} {c : code.Branch} (h : InO
   cut-splits = subst (λ (l : Branch). Splits b (asked b s) l (t .at) (t .last)) cut-rows (pends .splits)
 
   cut-fine : Fine w (t .mark)
-  cut-fine = record {
-    few = omega (arith, mark-behind, few-facts h);
-    room = h .room;
-    small = rw cut-rows at (within-take br (t .mark) (h .ok .small));
-  }
+  cut-fine = fine-first (t .mark) mark-behind (fine h)
 
   -- its record stands in the ticket
   pub record-stands : t .at + 4 ≤ length b

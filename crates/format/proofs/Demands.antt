@@ -8,6 +8,7 @@ use Rattle.format.proofs.Extended.{reads-alike, extended-refused}
 use Rattle.format.proofs.Absent.{extended-absent}
 use Rattle.format.proofs.Functions.{characters-turned, in-decimal}
 use Rattle.format.proofs.Before.{accepted-now, rules-before}
+use Rattle.format.proofs.Cores.{core-clashes, others-empty, words-hold-flags}
 use Rattle.format.proofs.ReadBack.{answers-judged}
 use Rattle.format.proofs.Proper.{no-solution-proper, strings-proper}
 use Rattle.format.proofs.NeedLimits.{within-limits}
@@ -32,6 +33,9 @@ demands = record {
   th-l3-decimals = in-decimal;
   th-l4 = accepted-now;
   th-l4-before = rules-before;
+  th-l5 = core-clashes;
+  th-l5-empty = others-empty;
+  th-l5-words = words-hold-flags;
   th-4 = no-solution-sound;
   th-5 = strings-hold;
   th-6 = leaves-exact;

@@ -16,6 +16,7 @@ pub mod Tickets
 pub mod Limits
 pub mod Checker
 pub mod NoSolution
+pub mod Cores
 pub mod Leaves
 pub mod Before
 pub mod Strings

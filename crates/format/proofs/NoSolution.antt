@@ -26,7 +26,7 @@ use Rattle.format.proofs.Claimed.{claimed-asked, claimed-in-range}
 use Rattle.format.proofs.Tickets.{Holding, steps-in-range, ReadAs, proper→, verdict→, →verdict}
 use Rattle.format.proofs.Checker.{bare, proved→walked, walked→proved, taken→reached}
 
-all-bare : (u : Question) (ts : List (Step × ℕ)) → All (λ t. StepInRange u (t .0)) ts → All (StepInRange u) (bare ts)
+pub all-bare : (u : Question) (ts : List (Step × ℕ)) → All (λ t. StepInRange u (t .0)) ts → All (StepInRange u) (bare ts)
 all-bare u [] h = tt
 all-bare u (t ∷ ts) (h, hs) = (h, all-bare u ts hs)
 

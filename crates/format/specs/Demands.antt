@@ -1,12 +1,12 @@
 -- The demands as statements about bytes. TH-1, `Checked`, is what checking promises of its result and the lent buffers; TH-2 to TH-6 and those of the
 -- change requests (02), TH-L1 and on, are theorems about the definitions, for every byte list.
-use Prim.Native.Nat.{ℕ, _+_, _*_, _<_, _≤_}
+use Prim.Native.Nat.{ℕ, _+_, _*_, _/_, _%_, _^_, _<_, _≤_}
 use mathlib.Core.Path.{_≡_}
-use mathlib.Core.Bool.{true, cond}
+use mathlib.Core.Bool.{true, false, cond}
 use mathlib.Core.Logic.{_≢_, _⊎_}
 use mathlib.Core.Option.{some}
 use mathlib.Core.List.{List, [], _∷_, _++_}
-use lib.ListN.{length, take, drop, replicate, getElem?}
+use lib.ListN.{length, take, drop, replicate, getD, getElem?}
 use lib.Dec.{eqb}
 use lib.IntN.{ℤ, pos, negsuc}
 use Rattle.lists.specs.Lists.{All}
@@ -17,6 +17,7 @@ use Rattle.calculus.specs.Children.{one}
 use Rattle.calculus.specs.Rules.{children, childrenBefore}
 use Rattle.calculus.specs.Instances.{HasRelation}
 use Rattle.calculus.specs.Walk.{Waiting, working, closed}
+use Rattle.calculus.specs.Cores.{Set, chosenFrom}
 use Rattle.calculus.specs.Chains.{OneClass}
 use Rattle.calculus.specs.Derivations.{Closes, WithinLimits, Path, PathWithinLimits}
 use Rattle.calculus.specs.Saturation.{AcceptedLeaf}
@@ -32,13 +33,14 @@ use Rattle.format.specs.Reading.{State, proving, taking, modelled, Metho
 use Rattle.format.specs.Needs as needs
 use Rattle.format.specs.Needs.{Needs, Report, report, needed}
 use Rattle.format.specs.ProperForm.{ProperNo, ProperStrings, steps, stepsWithChild}
+use Rattle.format.specs.Cores.{coreOf, flag, low, high}
 use Rattle.format.specs.Judging.{Judging, Judged, judging, Judgement, Refusal, AllMet, Unmet, said}
 use Rattle.format.specs.Judging.{Side, ofQuestion, ofAnswer, Shown, shownBy, partWithin}
 
 abbrev pub Iff : Type 0 → Type 0 → Type 0
 Iff A B = (A → B) × (B → A)
 
--- ---- TH-1, demand 1: what checking promises of its result, the work area and the answer buffer
+-- ---- TH-1, demand 1: what checking promises of its result with its set, of the work area and of the answer buffer
 
 -- "A refusal or an accepted "no solution" writes nothing to the answer buffer, and strings write nothing past the answer's length"
 abbrev pub written : Outcome → List ℕ
@@ -55,9 +57,10 @@ workAfter (Refused c r) w = cond (eqb c 1) w (replicate (length w) (pos 0))
 workAfter NoSolution w = replicate (length w) (pos 0)
 workAfter (Strings s) w = replicate (length w) (pos 0)
 
--- a ticket, the work area and the answer buffer before and after, and the outcome
-pub record Checked (ticket : List ℕ) (work work' : List ℤ) (answer answer' : List ℕ) (o : Outcome) : Type 0 where
+-- a ticket, the work area and the answer buffer before and after, the outcome, and the set that comes with it (02, L5)
+pub record Checked (ticket : List ℕ) (work work' : List ℤ) (answer answer' : List ℕ) (o : Outcome) (set : Set) : Type 0 where
   pub outcome : o ≡ verdict (length work) (length answer) ticket
+  pub took-part : set ≡ coreOf o ticket
   pub work-after : work' ≡ workAfter o work
   pub answer-after : answer' ≡ answerAfter o answer
 
@@ -256,11 +259,38 @@ TH-L4-before = (u : Question) (b : Branch) → RulesBefore u b
 
 -- ---- TH-4, demand 3: whatever the bytes, where checking says "no solution", no assignment meets all constraints
 
+-- no assignment of the question meets all of these constraints
+abbrev pub NoneMeets : Question → Branch → Type 0
+NoneMeets u cs = (a : Assignment) → For u a → Met u a cs → ⊥
+
 abbrev pub NoAssignment : Question → Type 0
-NoAssignment u = (a : Assignment) → For u a → Met u a (u .constraints) → ⊥
+NoAssignment u = NoneMeets u (u .constraints)
 
 abbrev pub TH-4 : Type 0
 TH-4 = (work answer : ℕ) (t : List ℕ) → verdict work answer t ≡ NoSolution → (u : Question) × (questionOf t ≡ some u) × NoAssignment u
+
+-- ---- TH-L5: "The constraints in that set, without the others, must have no solution either"; and every number in it is that of a constraint
+
+-- the set that comes with the outcome
+abbrev pub returnedSet : ℕ → ℕ → List ℕ → Set
+returnedSet work answer t = coreOf (verdict work answer t) t
+
+abbrev pub TH-L5 : Type 0
+TH-L5 = (work answer : ℕ) (t : List ℕ) → verdict work answer t ≡ NoSolution
+    → (u : Question) × (questionOf t ≡ some u) × (length (returnedSet work answer t) ≤ length (u .constraints))
+    × NoneMeets u (chosenFrom 0 (returnedSet work answer t) (u .constraints))
+
+-- "with every other outcome the empty set"
+abbrev pub TH-L5-empty : Type 0
+TH-L5-empty = (work answer : ℕ) (t : List ℕ) → verdict work answer t ≢ NoSolution → returnedSet work answer t ≡ []
+
+-- bit k of a number
+abbrev pub bit : ℕ → ℕ → ℕ
+bit k n = (n / 2 ^ k) % 2
+
+-- the two numbers that are returned for a set hold its flags, for each constraint below 128
+abbrev pub TH-L5-words : Type 0
+TH-L5-words = (s : Set) (k : ℕ) → k < 64 → (bit k (low s) ≡ flag (getD s k false)) × (bit k (high s) ≡ flag (getD s (64 + k) false))
 
 -- ---- TH-5, demand 3: whatever the bytes, where checking gives strings, they meet every constraint and differ wherever the leaf's classes differ
 
@@ -319,6 +349,9 @@ pub record Demands : Type 0 where
   pub th-l3-decimals : TH-L3-decimals
   pub th-l4 : TH-L4
   pub th-l4-before : TH-L4-before
+  pub th-l5 : TH-L5
+  pub th-l5-empty : TH-L5-empty
+  pub th-l5-words : TH-L5-words
   pub th-4 : TH-4
   pub th-5 : TH-5
   pub th-6 : TH-6

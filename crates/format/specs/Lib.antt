@@ -10,5 +10,6 @@ pub mod Checking
 pub mod ProperForm
 pub mod Judging
 pub mod Needs
+pub mod Cores
 pub mod Demands
 pub mod Cases

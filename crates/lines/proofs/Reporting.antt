@@ -6,6 +6,7 @@ use lib.ListN.{length, drop}
 use lib.Seq.{length-take-le}
 use lib.IntN.{ℤ}
 use Rattle.calculus.specs.Limits.{workNumbers, answerBytes}
+use Rattle.calculus.specs.Cores.{Set}
 use Rattle.format.specs.Checking as format
 use Rattle.format.specs.Checking.{verdict}
 use Rattle.format.specs.Demands.{written}
@@ -18,20 +19,20 @@ use Rattle.lines.specs.Reports.{linesOf, linesBy, Reports}
 use Rattle.lines.proofs.Answers.{answer-lines}
 
 -- the buffer that checking leaves has the answer at its front
-same-lines : (ticket buffer : List ℕ) (o : format.Outcome)
+same-lines : (ticket buffer : List ℕ) (o : format.Outcome) (set : Set)
     → verdict workNumbers answerBytes ticket ≡ o
-    → linesBy (told o) (written o ++ drop (length (written o)) buffer) ≡ linesOf o
+    → linesBy (told o set) (written o ++ drop (length (written o)) buffer) ≡ linesOf o
 unfolding told linesBy linesOf
-same-lines ticket buffer (format.Refused c r) e = refl
-same-lines ticket buffer format.NoSolution e = refl
-same-lines ticket buffer (format.Strings s) e = ap (λ l. stringsLine ++ l) (answer-lines workNumbers answerBytes ticket s (drop (length s) buffer) e)
+same-lines ticket buffer (format.Refused c r) set e = refl
+same-lines ticket buffer format.NoSolution set e = refl
+same-lines ticket buffer (format.Strings s) set e = ap (λ l. stringsLine ++ l) (answer-lines workNumbers answerBytes ticket s (drop (length s) buffer) e)
 
 pub reported : {ticket : List ℕ} {work work' : List ℤ} {answer answer' out out' : List ℕ} {o : Outcome} {to : ℕ} → Promised ticket work work' answer answer' o
     → length work ≡ workNumbers → length answer ≡ answerBytes → Put out 0 (linesBy o answer') out' to → to ≤ length out' → Reports ticket out' to
 reported {ticket} {answer = answer} {out' = out'} {to = to} k e f p h =
     let outcome : k .outcome ≡ verdict workNumbers answerBytes ticket = k .checked .outcome ∙ ap₂ (λ w a. verdict w a ticket) e f in
     record {
-      lines = p .front ∙ ap₂ linesBy (k .tells) (k .checked .answer-after) ∙ same-lines ticket answer (k .outcome) (sym outcome) ∙ ap linesOf outcome;
+      lines = p .front ∙ ap₂ linesBy (k .tells) (k .checked .answer-after) ∙ same-lines ticket answer (k .outcome) (k .set) (sym outcome) ∙ ap linesOf outcome;
       within = h;
       counted = sym (length-take-le to out' h);
     }

@@ -219,7 +219,7 @@ fn put_lines(out: &mut [u8], outcome: Outcome, answer: &[u8]) -> usize
 {
     match outcome {
         Outcome::Refused(c, r) => put_refused(out, 0, c, r),
-        Outcome::NoSolution => put_text(out, 0, b"verdict none\n"),
+        Outcome::NoSolution(_, _) => put_text(out, 0, b"verdict none\n"),
         Outcome::Strings => {
             let i = put_text(out, 0, b"verdict strings\n");
             put_records(out, i, answer)

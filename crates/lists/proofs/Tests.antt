@@ -22,6 +22,10 @@ pub and-both : (a b : Bool) → (a && b) ≡ true → (a ≡ true) × (b ≡ tru
 and-both true b e = (refl, e)
 and-both false b e = absurd (false≢true e)
 
+pub →and-both : (a b : Bool) → a ≡ true → b ≡ true → (a && b) ≡ true
+→and-both true b e f = f
+→and-both false b e f = e
+
 pub →and : (a b : Bool) → T a → T b → T (a && b)
 →and true b s t = t
 →and false b s t = absurd s
@@ -41,6 +45,10 @@ pub →or-right : (a b : Bool) → T b → T (a || b)
 pub nor→ : (a b : Bool) → T (not (a || b)) → T (not a) × T (not b)
 nor→ true b t = absurd t
 nor→ false b t = (tt, t)
+
+pub nor-both : (a b : Bool) → not (a || b) ≡ true → (not a ≡ true) × (not b ≡ true)
+nor-both true b e = absurd (false≢true e)
+nor-both false b e = (refl, e)
 
 pub →nor : (a b : Bool) → T (not a) → T (not b) → T (not (a || b))
 →nor true b s t = absurd s

@@ -7,6 +7,7 @@ use lib.IntN.{ℤ}
 use Rattle.calculus.specs.Limits.{workNumbers}
 use Rattle.format.specs.Checking as format
 use Rattle.format.specs.Checking.{verdict}
+use Rattle.format.specs.Cores.{word, coreOf}
 use Rattle.format.specs.Demands.{written}
 use Rattle.deciding.specs.declared.Outcome.{Outcome}
 use Rattle.deciding.specs.declared.Outcome.the-variants.{Refused, NoSolution, Strings}
@@ -32,29 +33,38 @@ judge-reply h en es el = rw (en, es, el) (ap₂ judgeReply (h .says) (h .shows))
 -- ---- checking
 
 abbrev pub replyTo : Outcome → Reply
-replyTo (Refused c r) = record { number = c; «record» = r }
-replyTo NoSolution = record { number = 0; «record» = 1 }
-replyTo Strings = record { number = 0; «record» = 2 }
+replyTo (Refused c r) = record { number = c; «record» = r; «core_low» = 0; «core_high» = 0 }
+replyTo (NoSolution x y) = record { number = 0; «record» = 1; «core_low» = x; «core_high» = y }
+replyTo Strings = record { number = 0; «record» = 2; «core_low» = 0; «core_high» = 0 }
 
-outcome-numbered : (x : format.Outcome) → replyTo (told x) ≡ checkReply x
-unfolding told checkReply
-outcome-numbered (format.Refused c r) = refl
-outcome-numbered format.NoSolution = refl
-outcome-numbered (format.Strings s) = refl
+outcome-numbered : (x : format.Outcome) (ticket : List ℕ) → replyTo (told x (coreOf x ticket)) ≡ checkReply x (coreOf x ticket)
+unfolding told checkReply word
+outcome-numbered (format.Refused c r) ticket = refl
+outcome-numbered format.NoSolution ticket = refl
+outcome-numbered (format.Strings s) ticket = refl
 
-pub replied : {o p : Outcome} → o ≡ p → (x : format.Outcome) → o ≡ told x → replyTo p ≡ checkReply x
-replied e x f = ap replyTo (sym e ∙ f) ∙ outcome-numbered x
+pub replied : {o p : Outcome} → o ≡ p → (x : format.Outcome) (ticket : List ℕ) → o ≡ told x (coreOf x ticket) → replyTo p ≡ checkReply x (coreOf x ticket)
+replied e x ticket f = ap replyTo (sym e ∙ f) ∙ outcome-numbered x ticket
 
--- a reply that numbers the outcome that was promised
+-- a reply that numbers the outcome that was promised, with its set
 module _ {ticket : List ℕ} {work work' : List ℤ} {answer answer' : List ℕ} {o : Outcome} {reply : Reply}
-    (k : Promised ticket work work' answer answer' o) (r : (x : format.Outcome) → o ≡ told x → reply ≡ checkReply x) where
+    (k : Promised ticket work work' answer answer' o)
+    (r : (x : format.Outcome) (t : List ℕ) → o ≡ told x (coreOf x t) → reply ≡ checkReply x (coreOf x t)) where
+  with-set : reply ≡ checkReply (k .outcome) (coreOf (k .outcome) ticket)
+  with-set = r (k .outcome) ticket (k .tells ∙ ap (told (k .outcome)) (k .checked .took-part))
+
   pub lent : LentReplies ticket work work' answer answer' reply
-  lent = record { outcome = k .outcome; checked = k .checked; numbered = r (k .outcome) (k .tells) }
+  lent = record {
+    outcome = k .outcome;
+    set = k .set;
+    checked = k .checked;
+    numbered = with-set ∙ ap (checkReply (k .outcome)) (sym (k .checked .took-part));
+  }
 
   pub own : length work ≡ workNumbers → CheckReplies ticket answer answer' reply
   own e =
       let outcome : k .outcome ≡ verdict workNumbers (length answer) ticket = k .checked .outcome ∙ ap (λ n. verdict n (length answer) ticket) e in
       record {
-        numbered = r (k .outcome) (k .tells) ∙ ap checkReply outcome;
+        numbered = with-set ∙ ap (λ o. checkReply o (coreOf o ticket)) outcome;
         answer-after = subst (λ x. answer' ≡ written x ++ drop (length (written x)) answer) outcome (k .checked .answer-after);
       }

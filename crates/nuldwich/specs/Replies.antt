@@ -5,7 +5,9 @@ use mathlib.Core.List.{List}
 use lib.ListN.{length}
 use lib.IntN.{ℤ}
 use Rattle.calculus.specs.Limits.{workNumbers}
+use Rattle.calculus.specs.Cores.{Set}
 use Rattle.format.specs.Checking.{Outcome, Refused, NoSolution, Strings, verdict}
+use Rattle.format.specs.Cores.{coreOf, low, high}
 use Rattle.format.specs.Demands.{Checked, answerAfter}
 use Rattle.format.specs.Judging.{Judgement, Refusal, AllMet, Unmet, judging, said, Shown, shownBy, bySide}
 use Rattle.format.specs.Needs as needs
@@ -34,22 +36,24 @@ judgeReply j s = record {
 abbrev pub JudgeReplies : List ℕ → List ℕ → JudgeReply → Type 0
 JudgeReplies question answer reply = reply ≡ judgeReply (said (judging question answer)) (shownBy question answer (judging question answer))
 
--- checking: number 0 where the ticket is accepted, with the claim as record, 1 for no solution and 2 for strings; else a refusal
-unfoldable pub checkReply : Outcome → Reply
-checkReply (Refused c r) = record { number = c; «record» = r }
-checkReply NoSolution = record { number = 0; «record» = 1 }
-checkReply (Strings s) = record { number = 0; «record» = 2 }
+-- checking: number 0 where the ticket is accepted, with the claim as record, 1 for no solution and 2 for strings; else a refusal. With it the set that
+-- comes with the outcome, in two numbers
+unfoldable pub checkReply : Outcome → Set → Reply
+checkReply (Refused c r) set = record { number = c; «record» = r; «core_low» = low set; «core_high» = high set }
+checkReply NoSolution set = record { number = 0; «record» = 1; «core_low» = low set; «core_high» = high set }
+checkReply (Strings s) set = record { number = 0; «record» = 2; «core_low» = low set; «core_high» = high set }
 
 -- what check promises of its reply and the answer buffer, before and after
 pub record CheckReplies (ticket answer answer' : List ℕ) (reply : Reply) : Type 0 where
-  pub numbered : reply ≡ checkReply (verdict workNumbers (length answer) ticket)
+  pub numbered : reply ≡ checkReply (verdict workNumbers (length answer) ticket) (coreOf (verdict workNumbers (length answer) ticket) ticket)
   pub answer-after : answer' ≡ answerAfter (verdict workNumbers (length answer) ticket) answer
 
 -- and with a lent work area
 pub record LentReplies (ticket : List ℕ) (work work' : List ℤ) (answer answer' : List ℕ) (reply : Reply) : Type 0 where
   pub outcome : Outcome
-  pub checked : Checked ticket work work' answer answer' outcome
-  pub numbered : reply ≡ checkReply outcome
+  pub set : Set
+  pub checked : Checked ticket work work' answer answer' outcome set
+  pub numbered : reply ≡ checkReply outcome set
 
 -- what a ticket will need: number 0 and record 0 with the report; else a refusal, and the three counts are 0 (docs/DECISIONS.md, 114)
 abbrev pub needReply : needs.Need → NeedReply

@@ -1,6 +1,9 @@
 // The host's entries, in C: "calls both operations on numbers and byte slices", and what a ticket will need (02, L2).
 ghost use mathlib.Core.Path.{_≡_};
+ghost use mathlib.Core.List.{List};
+ghost use Prim.Native.Nat.{ℕ};
 ghost use Rattle.format.specs.Checking as format;
+ghost use Rattle.format.specs.Cores.{coreOf};
 ghost use Rattle.deciding.specs.Outcomes.{told};
 ghost use Rattle.format.specs.Judging.{bySide};
 ghost use Rattle.judging.specs.Judgements.{judgementOf, sideOf};
@@ -84,28 +87,37 @@ pub extern "C" fn judge<'a>(question: &'a [u8], answer: &'a [u8]) -> JudgeReply
 
 // ---- checking
 
-// What check returns: a number and a record.
+// What check returns: a number and a record, and the constraints that took part in "no solution", in two numbers: constraint k is bit k of the first, constraint
+// 64 + k bit k of the second. With every other outcome both are 0 (02, L5).
 #[repr(C)]
 pub struct Reply {
     pub number: u64,
     pub record: u64,
+    pub core_low: u64,
+    pub core_high: u64,
 }
 
 fn reply_outcome(o: Outcome) -> Reply
-    ensures { λ r. ⌜ ((x : format.Outcome) → o ≡ told x → r ≡ checkReply x) ⌝ }
+    ensures { λ r. ⌜ ((x : format.Outcome) (ticket : List ℕ) → o ≡ told x (coreOf x ticket) → r ≡ checkReply x (coreOf x ticket)) ⌝ }
 {
     match o {
         Outcome::Refused(c, r) => Reply {
             number: c as u64,
             record: r as u64,
+            core_low: 0,
+            core_high: 0,
         },
-        Outcome::NoSolution => Reply {
+        Outcome::NoSolution(low, high) => Reply {
             number: 0,
             record: 1,
+            core_low: low,
+            core_high: high,
         },
         Outcome::Strings => Reply {
             number: 0,
             record: 2,
+            core_low: 0,
+            core_high: 0,
         },
     }
 }

@@ -24,7 +24,7 @@ use Rattle.format.specs.Checking.{factWithin, factsWithin}
 use Rattle.format.proofs.Limits.{within→}
 use Rattle.rows.specs.Rows.{rowLength, factOf, rowAt, branchOf}
 use Rattle.rows.specs.Work.{Within, Fine, single, difference}
-use Rattle.rows.proofs.Branches.{row-number, length-branch, branch-at}
+use Rattle.rows.proofs.Branches.{row-number, length-branch, branch-at, branch-take}
 
 -- small numbers, place by place
 pub all-small : (n : ℕ) (zs : List ℤ) → All (Small n) zs → Within n zs
@@ -154,3 +154,11 @@ behind-tag (x ∷ row) (suc j) e h = within-small numberLimit row e j
 pub row-small : (w : List ℤ) (k j : ℕ) → allWithin numberLimit (drop 1 (rowAt w k)) ≡ true → 1 ≤ j → j < rowLength
     → natAbs (getD w (rowLength * k + j) (pos 0)) ≤ numberLimit
 row-small w k j e h l = subst (λ z. natAbs z ≤ numberLimit) (row-number w k j l) (behind-tag (rowAt w k) j e h)
+
+-- the first n of fine rows are fine
+pub fine-first : {w : List ℤ} {count : ℕ} (n : ℕ) → n ≤ count → Fine w count → Fine w n
+fine-first {w} {count} n l f = record {
+  few = omega (arith, f .few);
+  room = f .room;
+  small = rw (branch-take w count n l) at (within-take (branchOf w count) n (f .small));
+}

@@ -1,4 +1,4 @@
-pub mod Variables
+pub mod Neighbours
 pub mod Pairs
 pub mod Forms
 pub mod Operands

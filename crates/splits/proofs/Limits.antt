@@ -32,9 +32,9 @@ use Rattle.steps.specs.Ready.{Ready}
 use Rattle.steps.proofs.Rule.{the-type}
 use Rattle.steps.proofs.Rules.{in-arm}
 use Rattle.steps.proofs.Bodies.{given, l-valid-variable, c-valid-variable}
-use Rattle.splits.proofs.Variables.{below-first}
+use Rattle.steps.proofs.Variables.{below-first, card-operands}
 use Rattle.splits.proofs.Forms.{c-valid-children, last-is, last-none}
-use Rattle.splits.proofs.Operands.{c-inj-operands, card-operands, branch-child, apart-child}
+use Rattle.splits.proofs.Operands.{c-inj-operands, branch-child, apart-child}
 use Rattle.splits.proofs.Operands.{l-valid-child, c-valid-child, c-inj-differ, c-inj-child, card-child}
 
 -- ---- one child of all

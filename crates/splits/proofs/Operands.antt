@@ -17,7 +17,7 @@ use Rattle.calculus.specs.Rules.{guard, distinct, neighbours, sameLength, lastC
 use Rattle.format.specs.Fields.{u16, u16s, i32, pairsAt, within}
 use Rattle.format.specs.Question.{rising, formRange, formOf}
 use Rattle.format.specs.Checking.{fits}
-use Rattle.format.specs.StepForms.{Rule, branch, apart, lValid, cValid, cInj, card, formFor, rule, areVariables, operandsInRange, stepOf}
+use Rattle.format.specs.StepForms.{Rule, branch, apart, lValid, cValid, cInj, card, rule, operandsInRange, stepOf}
 use Rattle.format.proofs.Decoded.{below→}
 use Rattle.constraints.proofs.Ranges.{form-rises}
 use Rattle.question.specs.declared.Progress.{Progress}
@@ -26,10 +26,10 @@ use Rattle.rows.specs.Rows.{factOf, rowAt}
 use Rattle.rows.specs.Work.{tagOf}
 use Rattle.rows.proofs.Tested.{guard-fits, guard-given}
 use Rattle.steps.specs.Ready.{Ready}
-use Rattle.steps.proofs.Table.{at-most}
-use Rattle.steps.proofs.Bodies.{before, given, fitting, long, ranged}
+use Rattle.steps.proofs.Bodies.{before, given, long, ranged}
 use Rattle.steps.proofs.Offered.{offered-by}
-use Rattle.splits.proofs.Variables.{card-children}
+use Rattle.steps.proofs.Variables.{card-operands}
+use Rattle.splits.proofs.Neighbours.{card-children}
 use Rattle.splits.proofs.Forms.{parted-is, parted-fits}
 
 -- ---- Card asks for the numbers of a question alone
@@ -87,20 +87,6 @@ module _ {b : List ℕ} {s : Progress} {body m : ℕ} {w : List ℤ} {count : �
       let (x, (y, _)) = below→ (s .p) (u16 b (body + 4) ∷ u16 b (body + 6) ∷ []) (ranged h cInj e) in
       (omega arith, x, y)
 
-  -- Card: the variables
-  pub card-operands : card ≡ rule b body
-      → (2 ≤ (m - 4) / 2)
-      × ((m - 4) / 2 ≤ 16)
-      × (body + 4 + 2 * ((m - 4) / 2) ≤ length b)
-      × (areVariables (s .p) (u16s b (body + 4) ((m - 4) / 2)) ≡ true)
-      × (4 ≤ m)
-  unfolding operandsInRange
-  card-operands e =
-      let l : 8 ≤ m = long h card e in
-      let most : (m - 8) / 2 ≤ 14 = at-most (formFor card) m (fitting h card e) in
-      let whole = h .formed .within in
-      (omega arith, omega arith, omega arith, ranged h card e, omega arith)
-
   -- ---- the children of each rule, where the step fits
 
   by : (r : Rule) → r ≡ rule b body → given h ≡ children (asked b s) (before h) (stepOf b r body m)
@@ -150,4 +136,4 @@ module _ {b : List ℕ} {s : Progress} {body m : ℕ} {w : List ℤ} {count : �
     unfolding stepOf asked
     card-child e =
         let q = by card e ∙ sym (card-same b s (before h) (u16s b (body + 4) ((m - 4) / 2))) in
-        q ∙ card-given s (before h) b (body + 4) ((m - 4) / 2) (card-operands e .0) (sym (ap fits q) ∙ f)
+        q ∙ card-given s (before h) b (body + 4) ((m - 4) / 2) (card-operands h e .0) (sym (ap fits q) ∙ f)

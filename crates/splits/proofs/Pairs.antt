@@ -8,7 +8,7 @@ use Rattle.calculus.specs.Facts.{Fact, same}
 use Rattle.calculus.specs.Children.{pairChildrenWith, pairChildren}
 use Rattle.format.specs.Fields.{u16, u16s}
 use Rattle.format.proofs.Fields.{length-u16s}
-use Rattle.splits.proofs.Variables.{u16s-one-more, u16s-at}
+use Rattle.steps.proofs.Variables.{u16s-one-more, u16s-at}
 
 with-here : (x : ℕ) (ys : List ℕ) (more : List (List Fact)) (j : ℕ) → j < length ys → getD (pairChildrenWith x ys more) j [] ≡ same x (getD ys j 0) ∷ []
 with-here x [] more j h = absurd (omega arith)

@@ -6,4 +6,5 @@ pub mod Faults
 pub mod Concluding
 pub mod Bodies
 pub mod Offered
+pub mod Variables
 pub mod Numbers

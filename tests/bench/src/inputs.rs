@@ -41,13 +41,14 @@ const SMALLEST_REFUSAL: Kind =
     Kind { name: "smallest refusal", sizes: &[0], counted: STEPS, accepted: false, make: |_| vec![Vec::new(); 2] };
 
 /// What is measured of checking.
-pub const TO_CHECK: [Kind; 13] = [
+pub const TO_CHECK: [Kind; 14] = [
     steps("small steps", &[100, 400, 1_600], small_steps),
     steps("8-pair Sums, 48 columns", &[50, 100, 200, 490], eight_pair_sums),
     steps("2-pair Sums, divisor 2", &[80, 160, 320, 640], two_pair_sums),
     steps("8-pair Sums of equations", &[50, 490], eight_pair_equations),
     steps("2-pair Sums of equations", &[80, 640], two_pair_equations),
     steps("S-Props over 44 ≈ constraints", &[80, 160, 320, 640], propagations),
+    steps("S-Confs over 88 string facts", &[3, 5, 7, 9], conflicts),
     steps("Joins, far columns", &[120, 240, 480, 960], joins),
     steps("C-Valid and L-Valid, a tree", &[3, 5, 7, 9], tree),
     steps("Card behind 90 facts", &[4, 8, 12, 16], card),
@@ -229,6 +230,18 @@ fn propagations(steps: usize) -> Vec<Vec<u8>> {
     })
 }
 
+/// All branches of a tree of Branches, so many deep, closed by S-Conf: 44 ≈ constraints join eight variables, and of 44 ≉ constraints the
+/// last is against them.
+fn conflicts(depth: usize) -> Vec<Vec<u8>> {
+    let mut question = frame(128, 16, 1);
+    question.constraints = (0..44).map(|number| Fact::Same(number % 7, number % 7 + 1)).collect();
+    question.constraints.extend((0..43).map(|number| Fact::Differ(number % 8, 8 + number % 8)));
+    question.constraints.push(Fact::Differ(0, 7));
+    let mut growing = Growing::new(question);
+    grow_tree(&mut growing, depth, |depth| branch_on_first(33, depth), |growing| growing.take(Rule::SConf));
+    growing.ticket()
+}
+
 /// Joins of facts with coefficients in the first and the last columns.
 fn joins(steps: usize) -> Vec<Vec<u8>> {
     let mut question = frame(128, 16, 16);
@@ -243,17 +256,19 @@ fn joins(steps: usize) -> Vec<Vec<u8>> {
 /// All branches of a tree of C-Valid and L-Valid by turns, so many deep.
 fn tree(depth: usize) -> Vec<Vec<u8>> {
     let mut growing = Growing::with_falsehood(frame(128, 16, 16));
-    grow_tree(&mut growing, depth);
+    let split = |depth| if depth % 2 == 1 { Rule::CValid(depth) } else { Rule::LValid(depth) };
+    grow_tree(&mut growing, depth, split, Growing::close);
     growing.ticket()
 }
 
-fn grow_tree(growing: &mut Growing, depth: usize) {
+/// A tree of splits with two children, so many deep, whose branches are all closed.
+fn grow_tree(growing: &mut Growing, depth: usize, split: fn(usize) -> Rule, close: fn(&mut Growing)) {
     if depth == 0 {
-        return growing.close();
+        return close(growing);
     }
-    growing.take(if depth % 2 == 1 { Rule::CValid(depth) } else { Rule::LValid(depth) });
-    grow_tree(growing, depth - 1);
-    grow_tree(growing, depth - 1);
+    growing.take(split(depth));
+    grow_tree(growing, depth - 1, split, close);
+    grow_tree(growing, depth - 1, split, close);
 }
 
 /// Card over so many variables, whose length equations stand behind other equations, 90 facts in all, and all its children.

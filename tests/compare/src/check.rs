@@ -5,8 +5,10 @@ use crate::operation::{Buffers, Entry, Input, Operation, Reply, Sizes};
 use crate::random::Random;
 use crate::report::{hex, refused, Report};
 use crate::vectors::{self, Vector};
-use crate::{edges, equations, models, proofs};
+use crate::walk::walk;
+use crate::{cores, edges, equations, far, models, proofs};
 use nuldwich_reference::checking::{ANSWER_BUFFER, WORK_AREA};
+use nuldwich_reference::cores::Set;
 use nuldwich_reference::program::lines;
 use nuldwich_reference::{check as reference, Outcome};
 use std::path::Path;
@@ -18,7 +20,7 @@ const GROWN: u64 = 50_000;
 const LEAST_TICKETS: usize = 100_000;
 const LEAST_ACCEPTED: usize = 30;
 
-/// How many tickets reach each case of request L4 at the least.
+/// How many tickets reach each case of requests L4 and L5 at the least.
 const LEAST_REACHED: usize = 50;
 
 /// Buffers that are just large enough.
@@ -74,9 +76,17 @@ impl Operation for Check {
     }
 
     fn examine(&self, parts: &[Vec<u8>], report: &mut Report) {
-        match equations::examine(&parts[0]) {
-            Ok(reached) => reached.into_iter().for_each(|label| report.reach(label)),
-            Err(lost) => report.fail(&format!("input {}\n{lost}", hex(&parts[0]))),
+        let ticket = &parts[0];
+        let (mut equations, mut cores) = (equations::Seen::default(), cores::Seen::default());
+        let walked = walk(ticket, &mut |shown| {
+            equations.look_at(shown);
+            cores.look_at(shown);
+        });
+        for examined in [equations.examine(ticket, &walked.outcome), cores.examine(ticket, &walked)] {
+            match examined {
+                Ok(reached) => reached.into_iter().for_each(|label| report.reach(label)),
+                Err(wrong) => report.fail(&format!("input {}\n{wrong}", hex(ticket))),
+            }
         }
     }
 
@@ -101,24 +111,29 @@ impl Operation for Check {
         }
         report.demand_met(&(1..=14).map(refused).collect::<Vec<_>>());
         report.demand_reached(&equations::to_be_reached(), LEAST_REACHED);
+        report.demand_reached(&cores::to_be_reached(), LEAST_REACHED);
     }
 }
 
-/// The columns of an outcome: the program's lines joined by `|`, and the answer in hexadecimal.
+/// The columns of an outcome: the program's lines joined by `|`, the answer in hexadecimal, and `core` with the constraints that took
+/// part.
 pub fn columns(outcome: &Outcome) -> Vec<String> {
-    let answer = match outcome {
-        Outcome::Strings { answer } => hex(answer),
-        _ => String::new(),
+    let (answer, core) = match outcome {
+        Outcome::Refused { .. } => (String::new(), &Set::new()),
+        Outcome::NoSolution { core } => (String::new(), core),
+        Outcome::Strings { answer } => (hex(answer), &Set::new()),
     };
-    vec![lines(outcome).trim_end().replace('\n', "|"), answer]
+    let core = core.iter().fold("core".to_string(), |text, number| format!("{text} {number}"));
+    vec![lines(outcome).trim_end().replace('\n', "|"), answer, core]
 }
 
 /// A ticket that is meant to be accepted, or one at an edge.
 pub fn grow(random: &mut Random) -> Vec<u8> {
     match random.below(100) {
-        0..=44 => proofs::grow(random),
-        45..=87 => models::grow(random),
-        _ => edges::grow(random),
+        0..=42 => proofs::grow(random),
+        43..=84 => models::grow(random),
+        85..=94 => edges::grow(random),
+        _ => far::grow(random),
     }
 }
 
@@ -155,10 +170,19 @@ fn check_in(parts: &[Vec<u8>], lent: &mut Buffers) -> Reply {
 fn write(outcome: &Outcome, buffer: &mut [u8]) -> Reply {
     match outcome {
         Outcome::Refused { number, record } => [*number, *record as u64, 0, 0, 0],
-        Outcome::NoSolution => [0, 1, 0, 0, 0],
+        Outcome::NoSolution { core } => {
+            let [low, high] = words(core);
+            [0, 1, low, high, 0]
+        }
         Outcome::Strings { answer } => {
             buffer[..answer.len()].copy_from_slice(answer);
             [0, 2, 0, 0, 0]
         }
     }
+}
+
+/// The two words of a set in a reply: constraint k is bit k of the first, or bit k − 64 of the second.
+fn words(set: &Set) -> [u64; 2] {
+    let word = |from: usize| (0..64).filter(|bit| set.contains(&(from + bit))).fold(0, |word, bit| word | 1 << bit);
+    [word(0), word(64)]
 }

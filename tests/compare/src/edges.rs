@@ -14,9 +14,9 @@ use nuldwich_reference::rules::Place;
 use nuldwich_reference::steps::{Rule, Step};
 
 /// All edges.
-const EDGES: [fn(&mut Random) -> Vec<u8>; 9] = [
-    many_facts, many_pending, large_sums, chained_sums, two_sums_and_a_join, large_constants, full_ticket, many_steps,
-    full_lengths,
+const EDGES: [fn(&mut Random) -> Vec<u8>; 10] = [
+    many_facts, many_pending, large_sums, chained_sums, chained_sums, two_sums_and_a_join, large_constants,
+    full_ticket, many_steps, full_lengths,
 ];
 
 /// A ticket at some edge, accepted or refused by a little.

@@ -1,12 +1,11 @@
 //! Request L4, "Sums that remain equations": what tickets reach of it, and that all that was accepted before is accepted still.
 
-use nuldwich_reference::checking::{check_watched, Outcome, Ticket};
-use nuldwich_reference::classes::Classes;
+use crate::walk::Shown;
+use nuldwich_reference::checking::{check_watched, Outcome};
 use nuldwich_reference::facts::Relation::{AtLeast, Equal};
 use nuldwich_reference::facts::{Fact, Relation};
-use nuldwich_reference::records::{whole_records, Record};
 use nuldwich_reference::rules::{Conclusion, Place, Rules};
-use nuldwich_reference::steps::{read_step, Rule};
+use nuldwich_reference::steps::Rule;
 use std::collections::BTreeSet;
 
 /// What a step does by request L4. A Sum's equation or ≥ fact is one that a Sum of equations has added.
@@ -80,70 +79,45 @@ pub fn to_be_reached() -> Vec<String> {
     both.chain(closing).chain(accepted.map(str::to_string)).collect()
 }
 
-/// The labels of all that a ticket reaches. "A ticket accepted before is accepted now", with the same answer; else what has become
-/// of it, in words.
-pub fn examine(ticket: &[u8]) -> Result<BTreeSet<String>, String> {
-    let mut reached = reached(ticket);
-    let [before, now] = [Rules::Before, Rules::Now].map(|rules| check_watched(rules, ticket, &mut |_, _| {}));
-    let joins = [1, 2].iter().any(|claim| reached.contains(&Case::EquationJoined.under(*claim)));
-    let accepted = match (&before, &now) {
-        (Outcome::Refused { .. }, Outcome::Refused { .. }) => None,
-        (Outcome::Refused { .. }, Outcome::NoSolution) => Some(NONE_BY_L4),
-        (Outcome::Refused { .. }, Outcome::Strings { .. }) => Some(STRINGS_BY_L4),
-        _ if before != now => return Err(format!("accepted before as {before:?}, now {now:?}")),
-        (_, Outcome::NoSolution) => joins.then_some(NONE_AS_BEFORE),
-        _ => joins.then_some(STRINGS_AS_BEFORE),
-    };
-    reached.extend(accepted.map(str::to_string));
-    Ok(reached)
-}
-
-/// The labels of what the steps of a ticket do, up to the first record that is refused.
-fn reached(ticket: &[u8]) -> BTreeSet<String> {
-    let mut walk = Walk { ticket: Ticket::default(), sums: Vec::new(), reached: BTreeSet::new() };
-    let mut records = whole_records(ticket).into_iter();
-    while records.next().is_some_and(|record| walk.take(&record, ticket.len())) {}
-    walk.reached
-}
-
-/// A ticket that is read record by record.
-struct Walk {
-    ticket: Ticket,
+/// What the steps of a ticket do.
+#[derive(Default)]
+pub struct Seen {
     /// The facts of the branch that are Sums of equations, by number.
     sums: Vec<usize>,
     reached: BTreeSet<String>,
 }
 
-impl Walk {
-    /// Takes a record; whether it is not refused.
-    fn take(&mut self, record: &Record, ticket_length: usize) -> bool {
-        if record.kind == 6 && self.ticket.answer.is_none() {
-            let step = read_step(&self.ticket.question, self.ticket.claim, record.body);
-            step.iter().for_each(|step| self.look_at(&step.rule));
+impl Seen {
+    /// Notes what a step does where it stands, if it fits.
+    pub fn look_at(&mut self, shown: &Shown) {
+        let cases = self.cases(shown.claim, shown.place, shown.rule, shown.conclusion);
+        self.reached.extend(cases.iter().map(|case| case.under(shown.claim)));
+        if shown.conclusion == Some(&Conclusion::Closes) {
+            self.sums.retain(|fact| *fact < shown.mark);
+        } else if cases.contains(&Case::EquationAdded) || cases.contains(&Case::BoundAdded) {
+            self.sums.push(shown.place.branch.len());
         }
-        self.ticket.take(record, ticket_length).is_ok()
     }
 
-    /// Notes what a step does where it stands, if it fits.
-    fn look_at(&mut self, rule: &Rule) {
-        let Some(derivation) = self.ticket.derivation.as_ref().filter(|derivation| !derivation.closed) else {
-            return;
+    /// The labels of all that is reached by a ticket whose outcome now is known. "A ticket accepted before is accepted now", with the
+    /// same answer, though the set of L5 may be another; else what has become of it, in words.
+    pub fn examine(mut self, ticket: &[u8], now: &Outcome) -> Result<BTreeSet<String>, String> {
+        let before = check_watched(Rules::Before, ticket, &mut |_, _| {});
+        let joins = [1, 2].iter().any(|claim| self.reached.contains(&Case::EquationJoined.under(*claim)));
+        let accepted = match (&before, now) {
+            (Outcome::Refused { .. }, Outcome::Refused { .. }) => None,
+            (Outcome::Refused { .. }, Outcome::NoSolution { .. }) => Some(NONE_BY_L4),
+            (Outcome::Refused { .. }, Outcome::Strings { .. }) => Some(STRINGS_BY_L4),
+            (Outcome::NoSolution { .. }, Outcome::NoSolution { .. }) => joins.then_some(NONE_AS_BEFORE),
+            _ if before == *now => joins.then_some(STRINGS_AS_BEFORE),
+            _ => return Err(format!("accepted before as {before:?}, now {now:?}")),
         };
-        let classes = Classes::of(&self.ticket.question, &derivation.branch);
-        let place = Place { question: &self.ticket.question, branch: &derivation.branch, classes: &classes };
-        let conclusion = place.conclude(rule);
-        let cases = self.cases(&place, rule, conclusion.as_ref());
-        self.reached.extend(cases.iter().map(|case| case.under(self.ticket.claim)));
-        if conclusion == Some(Conclusion::Closes) {
-            let mark = derivation.pending.last().map_or(0, |split| split.mark);
-            self.sums.retain(|fact| *fact < mark);
-        } else if cases.contains(&Case::EquationAdded) || cases.contains(&Case::BoundAdded) {
-            self.sums.push(derivation.branch.len());
-        }
+        self.reached.extend(accepted.map(str::to_string));
+        Ok(self.reached)
     }
 
     /// What a step does; one that does not fit may turn a Sum's ≥ fact.
-    fn cases(&self, place: &Place, rule: &Rule, conclusion: Option<&Conclusion>) -> Vec<Case> {
+    fn cases(&self, claim: u16, place: &Place, rule: &Rule, conclusion: Option<&Conclusion>) -> Vec<Case> {
         let is_sum = |fact: usize| self.sums.contains(&fact) && place.relation(fact) == Some(Equal);
         let cases = match (rule, conclusion) {
             (Rule::Sum { pairs, .. }, None) => [self.turns(place, pairs, AtLeast).then_some(Case::BoundTurned), None],
@@ -160,7 +134,7 @@ impl Walk {
                 let joined = relations.map(|(first, second)| Case::Joined(first, second));
                 [joined, (is_sum(*first) || is_sum(*second)).then_some(Case::EquationJoined)]
             }
-            (Rule::AConf(fact), Some(_)) if is_sum(*fact) && self.ticket.claim == 1 => [closed(place, *fact), None],
+            (Rule::AConf(fact), Some(_)) if is_sum(*fact) && claim == 1 => [closed(place, *fact), None],
             _ => [None, None],
         };
         cases.into_iter().flatten().collect()
@@ -202,7 +176,7 @@ mod tests {
         assert!(of_base.len() > 400);
         for vector in of_base {
             let outcome = check_watched(Rules::Before, &vector.input.parts[0], &mut |_, _| {});
-            assert_eq!(columns(&outcome), vector.columns, "{}", vector.name);
+            assert!(Check.fits(&vector.columns, &columns(&outcome)), "{}: {outcome:?}", vector.name);
         }
     }
 }

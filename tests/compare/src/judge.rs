@@ -21,7 +21,7 @@ const WITH_EXTENDED: usize = 45;
 const LEAST_SEVERAL: usize = 20;
 
 /// The number of a reply for a constraint that is not met.
-const UNMET: u64 = 255;
+pub const UNMET: u64 = 255;
 
 pub struct Judge;
 

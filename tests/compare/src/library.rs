@@ -22,11 +22,13 @@ mod linked {
     struct Replied {
         number: u64,
         record: u64,
+        core_low: u64,
+        core_high: u64,
     }
 
     impl From<Replied> for Reply {
         fn from(replied: Replied) -> Reply {
-            [replied.number, replied.record, 0, 0, 0]
+            [replied.number, replied.record, replied.core_low, replied.core_high, 0]
         }
     }
 

@@ -6,6 +6,7 @@ use crate::records::{i32_at, record, record_at, u32_at};
 use crate::Refusal;
 
 /// Strings and integers for the variables of a question.
+#[derive(Clone)]
 pub struct Answer {
     pub strings: Vec<Vec<u32>>,
     pub integers: Vec<i128>,

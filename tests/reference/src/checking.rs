@@ -1,6 +1,7 @@
 //! Checking: a whole ticket to its verdict or refusal.
 
 use crate::answer::{write_answer, Answer};
+use crate::cores::Set;
 use crate::derivation::Derivation;
 use crate::leaf::{read_model, strings_of};
 use crate::question::Question;
@@ -18,11 +19,12 @@ pub const ANSWER_BUFFER: usize = 4_268;
 /// "a ticket has at most 32,768 bytes"
 pub const LONGEST_TICKET: usize = 32_768;
 
-/// What checking answers.
+/// What checking answers. "With "no solution" the checker returns the union over all closing steps, with every other outcome
+/// the empty set."
 #[derive(Clone, Debug, PartialEq)]
 pub enum Outcome {
     Refused { number: Refusal, record: usize },
-    NoSolution,
+    NoSolution { core: Set },
     Strings { answer: Vec<u8> },
 }
 
@@ -86,8 +88,13 @@ impl Ticket {
     pub fn accepted(self) -> Outcome {
         match self.answer {
             Some(answer) => Outcome::Strings { answer },
-            None => Outcome::NoSolution,
+            None => Outcome::NoSolution { core: self.derivation.expect("an end stands behind a claim").core },
         }
+    }
+
+    /// Whether every branch is closed.
+    pub fn is_closed(&self) -> bool {
+        self.derivation.as_ref().is_some_and(|derivation| derivation.closed)
     }
 
     /// Takes one whole record; 4 to 14 in this order.

@@ -1,6 +1,7 @@
-//! The walk over the steps: the branch, the pending splits, and the limits 8 to 10.
+//! The walk over the steps: the branch, the pending splits, the limits 8 to 10, and what facts and closing steps rest on.
 
 use crate::classes::Classes;
+use crate::cores::{roots, Set};
 use crate::facts::Fact;
 use crate::question::{Question, MOST_FACTS};
 use crate::rules::{Conclusion, Place, Rules};
@@ -10,11 +11,12 @@ use crate::{demand, Refusal};
 /// "at most 64 splits have children pending, that is, not yet begun"
 pub const MOST_PENDING: usize = 64;
 
-/// A split with children not yet begun, and the number of facts at its mark.
+/// A split with children not yet begun, the number of facts at its mark, and what it rests on.
 #[derive(Clone)]
 pub struct Split {
     pub mark: usize,
     waiting: Vec<Vec<Fact>>,
+    set: Set,
 }
 
 /// The branch where the next step stands.
@@ -22,14 +24,25 @@ pub struct Split {
 pub struct Derivation {
     pub rules: Rules,
     pub branch: Vec<Fact>,
+    /// "Every fact shall carry the set of question constraints that it rests on": that of each fact of the branch.
+    pub sets: Vec<Set>,
     pub pending: Vec<Split>,
     pub closed: bool,
+    /// "the union over all closing steps" so far
+    pub core: Set,
 }
 
 impl Derivation {
     /// "Its constraints are facts 0, 1 and on."
     pub fn new(question: &Question) -> Derivation {
-        Derivation { rules: Rules::default(), branch: question.constraints.clone(), pending: Vec::new(), closed: false }
+        Derivation {
+            rules: Rules::default(),
+            branch: question.constraints.clone(),
+            sets: roots(question.constraints.len()),
+            pending: Vec::new(),
+            closed: false,
+            core: Set::new(),
+        }
     }
 
     /// Takes one step: 8, 9 and 10, in this order.
@@ -40,16 +53,24 @@ impl Derivation {
             Rules::Before => place.conclude_before(&step.rule),
             Rules::Now => place.conclude(&step.rule),
         };
+        let Some(conclusion) = conclusion else { return Err(8) };
+        let set = place.rests_on(&self.sets, &step.rule);
         match (conclusion, claim) {
-            (None, _) => Err(8),
-            (Some(Conclusion::Closes), 1) => {
+            (Conclusion::Closes, 1) => {
+                self.core.extend(set);
                 self.close();
                 Ok(())
             }
-            (Some(Conclusion::Closes), _) => Err(8),
-            (Some(Conclusion::Children(children)), 1) => self.split(children),
-            (Some(Conclusion::Children(children)), _) => self.follow(&children[step.child - 1]),
+            (Conclusion::Closes, _) => Err(8),
+            (Conclusion::Children(children), 1) => self.split(children, set),
+            (Conclusion::Children(children), _) => self.follow(&children[step.child - 1], &set),
         }
+    }
+
+    /// Adds facts to the branch, all of which rest on one set.
+    fn add(&mut self, facts: &[Fact], set: &Set) {
+        self.branch.extend_from_slice(facts);
+        self.sets.resize(self.branch.len(), set.clone());
     }
 
     /// "a closed branch is cut back to the mark of its last pending split"
@@ -59,31 +80,32 @@ impl Derivation {
             return;
         };
         self.branch.truncate(split.mark);
-        self.branch.extend(split.waiting.remove(0));
+        self.sets.truncate(split.mark);
+        self.add(&split.waiting.remove(0), &split.set);
         if !split.waiting.is_empty() {
             self.pending.push(split);
         }
     }
 
     /// "Under claim 1 all children of a split are tried for 9 and 10 at the split's own record."
-    fn split(&mut self, mut children: Vec<Vec<Fact>>) -> Result<(), Refusal> {
+    fn split(&mut self, mut children: Vec<Vec<Fact>>, set: Set) -> Result<(), Refusal> {
         demand(children.iter().flatten().all(Fact::within_limit), 9)?;
         let room = children.iter().all(|child| self.has_room(child));
         let pends = children.len() > 1;
         demand(room && !(pends && self.pending.len() == MOST_PENDING), 10)?;
-        let first = children.remove(0);
+        let (mark, first) = (self.branch.len(), children.remove(0));
+        self.add(&first, &set);
         if pends {
-            self.pending.push(Split { mark: self.branch.len(), waiting: children });
+            self.pending.push(Split { mark, waiting: children, set });
         }
-        self.branch.extend(first);
         Ok(())
     }
 
     /// "under claim 2 only the one taken"
-    fn follow(&mut self, child: &[Fact]) -> Result<(), Refusal> {
+    fn follow(&mut self, child: &[Fact], set: &Set) -> Result<(), Refusal> {
         demand(child.iter().all(Fact::within_limit), 9)?;
         demand(self.has_room(child), 10)?;
-        self.branch.extend_from_slice(child);
+        self.add(child, set);
         Ok(())
     }
 

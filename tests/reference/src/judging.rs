@@ -106,7 +106,7 @@ pub fn read_question(bytes: &[u8]) -> Result<Question, (Refusal, usize)> {
 }
 
 /// "Columns: the q integer variables, then len of each string variable, then code of each", by the answer.
-fn column_values(answer: &Answer) -> Vec<i128> {
+pub fn column_values(answer: &Answer) -> Vec<i128> {
     let mut values = answer.integers.clone();
     values.extend(answer.strings.iter().map(|text| text.len() as i128));
     values.extend(answer.strings.iter().map(|text| code_of(text)));
@@ -114,7 +114,7 @@ fn column_values(answer: &Answer) -> Vec<i128> {
 }
 
 /// "it meets a constraint when the relation holds for those values with their len and code"
-fn meets(question: &Question, answer: &Answer, values: &[i128], fact: &Fact) -> bool {
+pub fn meets(question: &Question, answer: &Answer, values: &[i128], fact: &Fact) -> bool {
     match fact {
         Fact::Same(a, b) => answer.strings[*a] == answer.strings[*b],
         Fact::Differ(a, b) => answer.strings[*a] != answer.strings[*b],

@@ -5,6 +5,7 @@
 pub mod answer;
 pub mod checking;
 pub mod classes;
+pub mod cores;
 pub mod derivation;
 pub mod extended;
 pub mod facts;

@@ -66,7 +66,7 @@ pub fn met(ticket: &[u8]) -> Option<Needs> {
     });
     match outcome {
         Outcome::Refused { .. } => None,
-        Outcome::NoSolution | Outcome::Strings { .. } => Some(met),
+        Outcome::NoSolution { .. } | Outcome::Strings { .. } => Some(met),
     }
 }
 

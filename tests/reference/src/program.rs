@@ -12,7 +12,7 @@ pub fn program(ticket: &[u8]) -> String {
 pub fn lines(outcome: &Outcome) -> String {
     match outcome {
         Outcome::Refused { number, record } => format!("refused {number} at {record}\n"),
-        Outcome::NoSolution => "verdict none\n".to_string(),
+        Outcome::NoSolution { .. } => "verdict none\n".to_string(),
         Outcome::Strings { answer } => format!("verdict strings\n{}end\n", value_lines(answer)),
     }
 }

@@ -18,6 +18,7 @@ pub fn json(account: &Account, verdict: &Verdict) -> String {
         ("record", verdict.reply.record.to_string()),
         ("strings", array(&strings, |text| array(text, u32::to_string))),
         ("integers", array(&integers, i128::to_string)),
+        ("core", array(&verdict.core.iter().collect::<Vec<_>>(), |constraint| constraint.to_string())),
     ]);
     let agrees = verdict.agrees(&account.outcome);
     format!(

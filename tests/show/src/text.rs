@@ -4,7 +4,7 @@ use crate::account::{Account, Begun, Entry, Note, State};
 use crate::fields::Field;
 use crate::layout::kind_name;
 use crate::refusals::Refused;
-use crate::summary::{summary, DIFFERS, NOT_PROVED};
+use crate::summary::{partakers, summary, DIFFERS, NOT_PROVED};
 use crate::verdict::Verdict;
 use crate::words;
 
@@ -53,6 +53,7 @@ pub fn text(account: &Account, verdict: &Verdict) -> String {
         page.line(0, DIFFERS);
     }
     page.line(0, "");
+    partakers(account, verdict).iter().for_each(|words| page.line(0, words));
     page.line(0, &format!("{SAYS}{}", verdict.words()));
     page.text
 }

@@ -4,6 +4,7 @@ use compare::check::Check;
 use compare::library::linked;
 use compare::operation::{Buffers, Operation};
 use nuldwich_reference::checking::ANSWER_BUFFER;
+use nuldwich_reference::cores::Set;
 use nuldwich_reference::records::{i32_at, record_at, u32_at};
 use nuldwich_reference::Outcome;
 
@@ -14,12 +15,14 @@ pub struct Reply {
     pub record: u64,
 }
 
-/// The reply to a ticket that is accepted with strings.
+/// The replies to a ticket that is accepted as without a solution, and to one that is accepted with strings.
+pub const NONE: Reply = Reply { number: 0, record: 1 };
 const STRINGS: Reply = Reply { number: 0, record: 2 };
 
-/// What the library's `check` returned, and the answer buffer after it.
+/// What the library's `check` returned, the constraints that took part among it, and the answer buffer after it.
 pub struct Verdict {
     pub reply: Reply,
+    pub core: Set,
     answer: Vec<u8>,
 }
 
@@ -27,8 +30,9 @@ pub struct Verdict {
 pub fn verdict(ticket: &[u8]) -> Verdict {
     let check = linked(&Check.entries()[0]).expect("the library is linked");
     let mut lent = Buffers { work: Vec::new(), answer: vec![0; ANSWER_BUFFER] };
-    let [number, record, ..] = check(&[ticket.to_vec()], &mut lent);
-    Verdict { reply: Reply { number, record }, answer: lent.answer }
+    let [number, record, low, high, _] = check(&[ticket.to_vec()], &mut lent);
+    let core = (0..128).filter(|k| [low, high][k / 64] >> (k % 64) & 1 == 1).collect();
+    Verdict { reply: Reply { number, record }, core, answer: lent.answer }
 }
 
 impl Verdict {
@@ -56,12 +60,15 @@ impl Verdict {
         (strings, integers)
     }
 
-    /// Whether the reference comes to the same, to the bytes of the answer.
+    /// Whether the reference comes to the same, to the bytes of the answer and the constraints that took part.
     pub fn agrees(&self, outcome: &Outcome) -> bool {
+        let none = self.core.is_empty();
         match outcome {
-            Outcome::Refused { number, record } => self.reply == Reply { number: *number, record: *record as u64 },
-            Outcome::NoSolution => self.reply == Reply { number: 0, record: 1 },
-            Outcome::Strings { answer } => self.reply == STRINGS && self.answer.starts_with(answer),
+            Outcome::Refused { number, record } => {
+                self.reply == Reply { number: *number, record: *record as u64 } && none
+            }
+            Outcome::NoSolution { core } => self.reply == NONE && self.core == *core,
+            Outcome::Strings { answer } => self.reply == STRINGS && self.answer.starts_with(answer) && none,
         }
     }
 }

@@ -6,61 +6,73 @@ use mir.Syntax.{w64}
 use mir.Val.{Fits}
 use lib.IntN.{ℤ}
 use lib.ListN.{length}
-use mathlib.Core.Path.{_≡_, sym, _∙_, ap, subst}
-use mathlib.Core.Bool.{false}
+use mathlib.Core.Path.{_≡_, refl, sym, _∙_, ap, subst}
 use mathlib.Core.Logic.{⊎-elim}
 use mathlib.Core.List.{List, []}
 use native.Mathlib.Omega.{arith}
+use Rattle.calculus.specs.Cores.{coreIn}
+use Rattle.calculus.specs.Limits.{ticketBytes, factLimit}
 use Rattle.calculus.specs.Classes.{labels}
-use Rattle.calculus.specs.Limits.{ticketBytes}
-use Rattle.format.specs.Records.{kind, size}
-use Rattle.format.specs.StepForms.{ruleOf, rule, formFor}
-use Rattle.format.proofs.Decoded.{at-least}
-use Rattle.format.specs.Reading.{stepsOn}
-use Rattle.format.specs.Checking.{checker}
 use Rattle.rows.specs.Rows.{branchOf}
-use Rattle.records.proofs.Finding.{found-whole, not-whole, all-there}
+use Rattle.rows.proofs.Branches.{length-branch}
 use Rattle.classes.specs.declared.Known.{Known}
 use Rattle.classes.specs.Classes.{Knows}
 use Rattle.classes.proofs.Laws.{knows-back}
 use Rattle.conclusions.proofs.Labels.{known-for}
-use Rattle.question.specs.Posed.{asked}
-use Rattle.steps.specs.Faults.{faultUnder}
-use Rattle.steps.proofs.Table.{least-four}
-use Rattle.steps.proofs.Numbers.{form-refused, its-kind, its-form, its-field, its-trial}
-use Rattle.delimiters.specs.Claims.{openUnder, endsAt}
-use Rattle.delimiters.specs.Numbers.{openFault}
-use Rattle.delimiters.proofs.Open.{open-end}
+use Rattle.steps.specs.declared.Rule.{Rule}
 use Rattle.branch.specs.declared.Split.{Split}
+use Rattle.branch.specs.declared.Branch as code
 use Rattle.branch.specs.Stack.{stack, latestOf}
 use Rattle.derivation.specs.declared.Action.the-variants.{Closes}
 use Rattle.derivation.specs.Ok.{InOrder}
 use Rattle.derivation.specs.Actions.{numberOf, Acts, ReadyUnder}
-use Rattle.derivation.proofs.Holding.{few-splits}
+use Rattle.derivation.proofs.Holding.{few-facts, few-splits}
 use Rattle.derivation.proofs.Closing.{open-depth}
-use Rattle.claims.specs.Outcomes.{firstUpto, LeafAt}
-use Rattle.claims.proofs.Walking.{first-few, fine-rows, pendingOn, Going, going-same, starts, going-none}
-use Rattle.claims.proofs.Walking.{going-refused, going-model, leaf-here, Stepped, same-pending}
-use Rattle.claims.proofs.Walking.{going-closed, still-open, going-next, few-extended, going-one, can-mark, going-more, known-below}
+use Rattle.cores.specs.declared.Words.{Words}
+use Rattle.cores.specs.Sets.{Roomy}
+use Rattle.format.specs.Reading.{stepsOn}
+use Rattle.format.specs.Checking.{checker}
+use Rattle.question.specs.Posed.{asked}
+use Rattle.delimiters.specs.declared.Claim.the-variants.{NoSolution}
+use Rattle.delimiters.specs.Claims.{openUnder}
+use Rattle.claims.specs.Outcomes.{firstUpto, walkedOf, LeafAt, stepsFrom, CoreAt}
+use Rattle.claims.specs.declared.Grounds.{Grounds}
+use Rattle.claims.specs.Steps.{StepAt, NextAt, groundsBack, Added}
+use Rattle.claims.proofs.Walking.{first-few, fine-rows, pendingOn, Going, starts, going-same, going-ended, going-refused}
+use Rattle.claims.proofs.Walking.{Stepped, as-pending, going-closed, still-open, going-next, few-extended, going-one, can-mark, going-more, known-below}
 use Rattle.claims.proofs.Walking as laws
+use Rattle.claims.proofs.Keeping.{upto-grown}
+use Rattle.claims.proofs.Gathering.{Gathering, gathering-first, gathering-for, Rests, gathering-all, no-split, fact-at-mark}
+use Rattle.claims.proofs.Gathering.{gathering-same, added-one, gathering-one, added-several, gathering-several, added-next-child, gathering-next}
+use Rattle.rows.proofs.Small.{fine-first}
+use Rattle.cores.proofs.Standing.{filled-as}
 use Rattle.claims.proofs.walk.Statement.{statement}
 use Rattle.claims.proofs.walk.Tie as tie
 
 abbrev Inv-loop : tie.InvT-loop
-Inv-loop ticket s claim at r work₀ first known₀ b₀ i₀ k₀ work known b i k =
+Inv-loop ticket s claim at r work₀ sets₀ first known₀ grounds₀ b₀ i₀ k₀ work sets known grounds b i k =
     Going ticket s claim (length work₀) (stepsOn (checker (asked ticket s)) ticket (asked ticket s) (openUnder claim (asked ticket s .constraints) []) r at)
     work b known i k
+    × Gathering ticket s claim (coreIn (asked ticket s) (stepsFrom ticket at)) work sets b known grounds i
+    × (length sets ≡ length sets₀)
 
 abbrev μ-loop : tie.MeasureT-loop
-μ-loop ticket s claim at r work₀ first known₀ b₀ i₀ k₀ work known b i k = length ticket - i
+μ-loop ticket s claim at r work₀ sets₀ first known₀ grounds₀ b₀ i₀ k₀ work sets known grounds b i k = length ticket - i
 
 -- ---- places
 
 abbrev Loop : Type 0
 Loop = tie.At-loop Inv-loop μ-loop
 
+-- the sets at first, and the labels
+abbrev groundsAt : Loop → tie.After-first-grounds Inv-loop μ-loop
+groundsAt l = l .before .before .before .before
+
+abbrev firstOf : Loop → tie.After-first-known Inv-loop μ-loop
+firstOf l = groundsAt l .before .before .before
+
 abbrev startOf : Loop → tie.Start Inv-loop μ-loop
-startOf l = l .before .before .before .before .before
+startOf l = firstOf l .before .before .before .before
 
 abbrev bytes : Loop → List ℕ
 bytes l = now (startOf l .args .ticket)
@@ -68,17 +80,20 @@ bytes l = now (startOf l .args .ticket)
 -- ---- the start
 
 first-known-requires : tie.Need-first-known-requires Inv-loop μ-loop
-first-known-requires c κs = c .before .before .pre .0 .1
+first-known-requires c κs = c .before .before .before .pre .0 .1
+
+first-grounds-requires : tie.Need-first-grounds-requires Inv-loop μ-loop
+first-grounds-requires c κs = let pre = c .before .before .before .before .before .before .pre in (pre .0 .1, pre .2)
 
 new-requires : tie.Need-new-requires Inv-loop μ-loop
-new-requires c κs = c .before .before .before .pre .0 .1 .few
+new-requires c κs = c .before .before .before .before .before .before .before .before .before .pre .0 .1 .few
 
 -- what is known at first
 known-first : (c : tie.After-first-known Inv-loop μ-loop) →
-    let a = c .before .before .before .args in
+    let a = c .before .before .before .before .args in
     Knows (now (a .work)) (a .s .constraints) (c .first-known .result)
 known-first c =
-    let a = c .before .before .before .args in
+    let a = c .before .before .before .before .args in
     let first = c .first-known in
     let few : firstUpto (a .claim) (a .s .constraints) ≤ a .s .constraints = first-few (a .claim) (a .s .constraints) in
     record {
@@ -88,250 +103,244 @@ known-first c =
 
 loop-holds : tie.Need-loop-holds Inv-loop μ-loop
 loop-holds c =
-    let s = c .before .before .before .before in
-    let w = now (s .args .work) in
-    starts (now (s .args .ticket)) (s .args .s) w (c .new .result) (s .pre .0 .0) (s .pre .0 .1) (s .pre .0 .2) (c .new .ensures .0) (c .new .ensures .1)
-    (s .args .claim) (s .args .r) (s .args .«record») (c .before .first-known .result) (s .pre .1) (known-first (c .before))
-
-read-at-requires : tie.Need-read-at-requires Inv-loop μ-loop
-read-at-requires c κs = search needs
-
-enum-known-kind : tie.Need-enum-known-kind Inv-loop μ-loop
-enum-known-kind c = search needs
-
-same-length : tie.Need-same-length Inv-loop μ-loop
-same-length c = c .before .before .loop .inv .kept
-
-returns : tie.Need-returns Inv-loop μ-loop
-unfolding LeafAt
-returns c =
-    let l = c .before .before in
-    let b = bytes l in (
-      going-none b (startOf l .args .s) (l .loop .inv) _ (not-whole b (l .loop .i) _ (c .before .read-at .ensures) (c .match .keys2)),
-      tt,
+    let grounds = c .before .before .before in
+    let first = grounds .before .before .before in
+    let s = first .before .before .before .before in
+    let b = now (s .args .ticket) in
+    let root = s .pre .0 .2 in
+    let new = c .new in (
+      starts b (s .args .s) (now (s .args .work)) (new .result) (s .pre .0 .0) (s .pre .0 .1) root (new .ensures .0) (new .ensures .1)
+          (s .args .claim) (s .args .r) (s .args .«record») (first .first-known .result) (s .pre .1) (known-first first),
+      gathering-first b (s .args .s) (s .args .claim) (now (s .args .work)) _ (new .result) (first .first-known .result) (grounds .first-grounds .result)
+          (s .args .«record») (new .ensures .0) (new .ensures .1) root (first .first-known .ensures .0) (grounds .first-grounds .ensures),
+      refl,
     )
-
--- ---- a whole record
-
-abbrev atLoop : tie.After-kind Inv-loop μ-loop → Loop
-atLoop c = c .before .before .before
-
-whole : (c : tie.After-kind Inv-loop μ-loop) →
-    let b = bytes (atLoop c) in
-    let i = atLoop c .loop .i in
-    (c .kind .given .0 .0 ≡ kind b i) × (c .kind .given .0 .1 .0 ≡ size b i) × (i + 6 + c .kind .given .0 .1 .0 ≤ length b)
-whole c = found-whole (bytes (atLoop c)) (atLoop c .loop .i) _ _ (sym (c .before .before .read-at .ensures) ∙ c .kind .given .1)
 
 cast-count : tie.Need-cast-count Inv-loop μ-loop
 cast-count c = search needs
 
-ends-steps-requires : tie.Need-ends-steps-requires Inv-loop μ-loop
-ends-steps-requires c κs = search needs
+next-record-requires : tie.Need-next-record-requires Inv-loop μ-loop
+next-record-requires c κs = startOf (c .before) .pre .0 .0
+
+-- the slice of the sets is as long as it was lent
+same-sets : (l : Loop) → length (l .loop .sets) ≡ length (now (startOf l .args .sets))
+same-sets l = l .loop .inv .2 ∙ groundsAt l .first-grounds .kept .1 .1 .0
+
+roomy : (l : Loop) → Roomy (l .loop .sets)
+roomy l = omega (arith, same-sets l, startOf l .pre .2)
+
+-- ---- a record that ends the steps
+
+enum-known-found : tie.Need-enum-known-found Inv-loop μ-loop
+enum-known-found c = search needs
+
+ended-requires : tie.Need-ended-requires Inv-loop μ-loop
+ended-requires c κs = search needs
+
+same-length : tie.Need-same-length Inv-loop μ-loop
+same-length c = c .before .before .before .before .loop .inv .0 .kept
 
 same-length-2 : tie.Need-same-length-2 Inv-loop μ-loop
-same-length-2 c = let l = c .before .before .before .before .before .before .before in l .loop .inv .kept
+same-length-2 c = same-sets (c .before .before .before .before)
 
-returns-2 : tie.Need-returns-2 Inv-loop μ-loop
-returns-2 c =
-    let found = c .before .before .before .before in
-    let l = atLoop found in
-    let b = bytes l in
+returns : tie.Need-returns Inv-loop μ-loop
+returns c =
+    let l = c .before .before .before .before in
     let a = startOf l .args in
-    let r = whole found in
+    let b = now (a .ticket) in
     let o = l .loop in
-    let ends = sym (c .before .ends-steps .ensures) ∙ c .if1 .taken in (
-      going-model b (a .s) (a .claim) _ _ (o .work) (o .b) (o .known) (o .i) (o .k) _ (o .inv) ends,
-      leaf-here b (a .s) (a .claim) _ _ (o .work) (o .b) (o .known) (o .i) (o .k) _ (o .inv) ends (r .0) (all-there b (o .i) _ _ r),
-    )
-
-record-fault-requires : tie.Need-record-fault-requires Inv-loop μ-loop
-record-fault-requires c κs =
-    let found = c .before .before .before .before in
-    let stands = startOf (atLoop found) .pre .0 .0 .stands in
-    (whole found, stands .few-strings, stands .few-integers)
-
--- it does not end the steps
-going-on : (c : tie.Else1 Inv-loop μ-loop) →
-    let found = c .before .before .before .before in
-    endsAt (startOf (atLoop found) .args .claim) (found .kind .given .0 .0) ≡ false
-going-on c = sym (c .before .ends-steps .ensures) ∙ c .if1 .left
-
-same-length-3 : tie.Need-same-length-3 Inv-loop μ-loop
-same-length-3 c = let found = c .before .before .before .before .before .before in atLoop found .loop .inv .kept
-
-returns-3 : tie.Need-returns-3 Inv-loop μ-loop
-unfolding LeafAt
-returns-3 c =
-    let else1 = c .before .before in
-    let found = else1 .before .before .before .before in
-    let l = atLoop found in
-    let b = bytes l in
-    let a = startOf l .args in
-    let o = l .loop in
-    let r = whole found in
-    let f = c .before .record-fault in (
-      going-refused b (a .s) (o .inv) _ (all-there b (o .i) _ _ r) (f .result)
-          (form-refused (checker (asked b (a .s))) b (a .s) (branchOf (o .work) (o .b .count)) (pendingOn b (a .s) (o .work) (o .b)) (o .i) (a .claim)
-          (open-end (a .claim) _ _) _ _ r (going-on else1) (f .result) (f .ensures)
-          (c .if2 .taken))
-          (c .if2 .taken),
-      tt,
+    let found = c .before .before .next-record in
+    let (walked, leaf, core) =
+    going-ended b (a .s) (a .claim) _ _ (o .work) (o .b) (o .known) (o .i) (o .k) (a .«record») (found .result) (o .inv .0) (found .ensures)
+    (c .before .match .keys2) in
+    let e = sym (c .ended .ensures) in (
+      ap (walkedOf b (a .s) (o .work)) (c .ended .ensures) ∙ walked,
+      (subst (LeafAt b (o .work)) e leaf, subst (CoreAt b (a .s) (a .«record»)) e core),
     )
 
 -- ---- a step of proper form
 
-abbrev foundAt : tie.Else2 Inv-loop μ-loop → tie.After-kind Inv-loop μ-loop
-foundAt c = c .before .before .before .before .before .before
+abbrev Ruled : Type 0
+Ruled = tie.After-found Inv-loop μ-loop
 
-passed : (c : tie.Else2 Inv-loop μ-loop) →
-    let a = startOf (atLoop (foundAt c)) .args in
-    let b = now (a .ticket) in
-    let i = atLoop (foundAt c) .loop .i in
-    let m = foundAt c .kind .given .0 .1 .0 in
-    0 ≡ openFault (length b) (i + 6 + m) (foundAt c .kind .given .0 .0) m (faultUnder (a .claim) b (a .s) (i + 6) m)
-passed c = sym (c .if2 .left) ∙ c .before .record-fault .ensures
+abbrev ruleOf : Ruled → Rule
+ruleOf c = c .found .given .0 .0
 
-ready : (c : tie.After-rule-of Inv-loop μ-loop) →
-    let found = foundAt (c .before .before) in
-    let a = startOf (atLoop found) .args in
-    let o = atLoop found .loop in
-    ReadyUnder (a .claim) (c .rule-of .result) (now (a .ticket)) (a .s) (o .i) (found .kind .given .0 .1 .0) (o .work) (o .b .count)
-ready c =
-    let else2 = c .before .before in
-    let found = foundAt else2 in
-    let l = atLoop found in
-    let b = bytes l in
+abbrev bodyOf : Ruled → ℕ
+bodyOf c = c .found .given .0 .1 .0
+
+abbrev atLoop : Ruled → Loop
+atLoop c = c .before .before .before .before
+
+step-here : (c : Ruled) →
+    let a = startOf (atLoop c) .args in
+    StepAt (a .claim) (now (a .ticket)) (a .s) (atLoop c .loop .i) (ruleOf c) (bodyOf c)
+unfolding NextAt
+step-here c =
+    let l = atLoop c in
     let a = startOf l .args in
-    let o = l .loop in
-    let ss = pendingOn b (a .s) (o .work) (o .b) in
-    let on = going-on (else2 .before .before) in
+    subst (NextAt (a .claim) (now (a .ticket)) (a .s) (l .loop .i)) (c .found .given .1) (c .before .before .next-record .ensures)
+
+-- the record ends within the longest ticket
+ends-within : (c : Ruled) → atLoop c .loop .i + 6 + bodyOf c ≤ ticketBytes
+ends-within c = omega (arith, step-here c .sized, step-here c .whole, startOf (atLoop c) .pre .0 .0 .short)
+
+fits : (n : ℕ) → n ≤ ticketBytes → Fits w64 n
+fits n h = omega arith
+
+ready : (c : Ruled) →
+    let a = startOf (atLoop c) .args in
+    let o = atLoop c .loop in
+    ReadyUnder (a .claim) (ruleOf c) (now (a .ticket)) (a .s) (o .i) (bodyOf c) (o .work) (o .b .count)
+ready c =
+    let l = atLoop c in
+    let a = startOf l .args in
+    let step = step-here c in
     record {
       ready = record {
         posed = startOf l .pre .0 .0;
-        formed =
-            its-form (checker (asked b (a .s))) b (a .s) (branchOf (o .work) (o .b .count)) ss (o .i) (a .claim) (open-end (a .claim) _ _) _ _ (whole found) on
-            (passed else2);
-        fine = fine-rows (a .claim) b (a .s) (o .work) (o .b) (o .inv .holds);
+        formed = step .formed;
+        fine = fine-rows (a .claim) (bytes l) (a .s) (l .loop .work) (l .loop .b) (l .loop .inv .0 .holds);
       };
-      named = c .rule-of .ensures ∙ ap ruleOf (c .before .u16-at .ensures .0);
-      sized = whole found .1;
-      field =
-          its-field (checker (asked b (a .s))) b (a .s) (branchOf (o .work) (o .b .count)) ss (o .i) (a .claim) (open-end (a .claim) _ _) _ _ (whole found) on
-          (passed else2);
+      named = step .named;
+      sized = step .sized;
+      field = step .field;
     }
 
-add-u16-at : tie.Need-add-u16-at Inv-loop μ-loop
-add-u16-at c = omega (arith, whole (foundAt c) .2)
+add-next : tie.Need-add-next Inv-loop μ-loop
+add-next c = let r = c .before in fits (atLoop r .loop .i + 6) (omega (arith, ends-within r))
 
-u16-at-requires : tie.Need-u16-at-requires Inv-loop μ-loop
-u16-at-requires c κs =
-    let found = foundAt c in
-    let l = atLoop found in
-    let a = startOf l .args in
-    let o = l .loop in
-    let b = bytes l in
-    let f =
-    its-form (checker (asked b (a .s))) b (a .s) (branchOf (o .work) (o .b .count)) (pendingOn b (a .s) (o .work) (o .b)) (o .i) (a .claim)
-    (open-end (a .claim) _ _) _ _ (whole found) (going-on (c .before .before))
-    (passed c) in
-    omega (arith, f .within, at-least (formFor (rule b (o .i + 6))) _ (f .fits), least-four (rule b (o .i + 6)))
-
-rule-of-requires : tie.Need-rule-of-requires Inv-loop μ-loop
-rule-of-requires c κs = search needs
+add-next-2 : tie.Need-add-next-2 Inv-loop μ-loop
+add-next-2 c = let r = c .before in fits (atLoop r .loop .i + 6 + bodyOf r) (ends-within r)
 
 classes-for-requires : tie.Need-classes-for-requires Inv-loop μ-loop
 classes-for-requires c κs =
-    let o = atLoop (foundAt (c .before .before .before)) .loop in
-    (o .inv .knows, ready (c .before) .ready .fine)
+    let r = c .before .before in
+    (atLoop r .loop .inv .0 .knows, ready r .ready .fine)
+
+-- labels cover as many facts as before, or all
+grown : (c : tie.After-classes-for Inv-loop μ-loop) →
+    let o = atLoop (c .before .before .before) .loop in
+    (o .known .upto ≤ c .classes-for .result .upto) × (c .classes-for .result .upto ≤ o .b .count)
+grown c = upto-grown (atLoop (c .before .before .before) .loop .inv .0 .knows) (c .classes-for .ensures)
+
+grounds-upto-requires : tie.Need-grounds-upto-requires Inv-loop μ-loop
+grounds-upto-requires c κs =
+    let known = c .before .before in
+    let r = known .before .before .before in
+    (grown known .0, fine-first (known .classes-for .result .upto) (grown known .1) (ready r .ready .fine), roomy (atLoop r))
+
+set-of-requires : tie.Need-set-of-requires Inv-loop μ-loop
+set-of-requires c κs = let r = c .before .before .before .before .before .before .before .before in (ready r, roomy (atLoop r))
 
 cast-depth : tie.Need-cast-depth Inv-loop μ-loop
 cast-depth c = search needs
 
 take-step-requires : tie.Need-take-step-requires Inv-loop μ-loop
 take-step-requires c κs =
-    let kept = c .before .before .before in
-    (ready (kept .before .before), known-for (atLoop (foundAt (kept .before .before .before .before)) .loop .inv .knows) (kept .classes-for .ensures) .1)
+    let known = c .before .before .before .before .before .before .before .before .before in
+    let r = known .before .before .before in
+    (ready r, known-for (atLoop r .loop .inv .0 .knows) (known .classes-for .ensures) .1)
 
 -- ---- the step is taken
 
-abbrev ruled : tie.After-take-step Inv-loop μ-loop → tie.After-rule-of Inv-loop μ-loop
-ruled c = c .before .before .before .before .before .before
+abbrev Taken : Type 0
+Taken = tie.After-take-step Inv-loop μ-loop
 
-abbrev stoodAt : tie.After-take-step Inv-loop μ-loop → Loop
-stoodAt c = atLoop (foundAt (ruled c .before .before))
+abbrev knownAt : Taken → tie.After-classes-for Inv-loop μ-loop
+knownAt t = t .before .before .before .before .before .before .before .before .before .before
 
-abbrev bodyOf : tie.After-take-step Inv-loop μ-loop → ℕ
-bodyOf c = foundAt (ruled c .before .before) .kind .given .0 .1 .0
+abbrev groundsOf : Taken → tie.After-grounds-upto Inv-loop μ-loop
+groundsOf t = t .before .before .before .before .before .before .before
+
+abbrev ruledAt : Taken → Ruled
+ruledAt t = knownAt t .before .before .before
+
+abbrev stoodAt : Taken → Loop
+stoodAt t = atLoop (ruledAt t)
+
+abbrev labelsOf : Taken → Known
+labelsOf t = knownAt t .classes-for .result
+
+abbrev broughtOf : Taken → Grounds
+broughtOf t = groundsOf t .grounds-upto .result
+
+abbrev setOf : Taken → Words
+setOf t = t .before .before .before .before .set-of .result
 
 -- the work area behind it
-abbrev workOf : tie.After-take-step Inv-loop μ-loop → List ℤ
-workOf c = c .take-step .last .1 .1 .1 .1 .1 .1 .0
+abbrev workOf : Taken → List ℤ
+workOf t = t .take-step .last .1 .1 .1 .1 .1 .1 .0
 
-same-work : (c : tie.After-take-step Inv-loop μ-loop) → length (workOf c) ≡ length (stoodAt c .loop .work)
-same-work c = c .take-step .kept .1 .1 .1 .1 .1 .1 .0
+same-work : (t : Taken) → length (workOf t) ≡ length (stoodAt t .loop .work)
+same-work t = t .take-step .kept .1 .1 .1 .1 .1 .1 .0
 
--- the record ends within the longest ticket
-ends-within : (c : tie.After-take-step Inv-loop μ-loop) → stoodAt c .loop .i + 6 + bodyOf c ≤ ticketBytes
-ends-within c = omega (arith, whole (foundAt (ruled c .before .before)) .2, startOf (stoodAt c) .pre .0 .0 .short)
-
-fits : (n : ℕ) → n ≤ ticketBytes → Fits w64 n
-fits n h = omega arith
-
--- where the loop stands, with the classes that the rule asks for
-going : (c : tie.After-take-step Inv-loop μ-loop) →
-    let a = startOf (stoodAt c) .args in
-    let o = stoodAt c .loop in
+-- where the loop stands, with what is kept for the rule
+going : (t : Taken) →
+    let a = startOf (stoodAt t) .args in
+    let o = stoodAt t .loop in
     Going (now (a .ticket)) (a .s) (a .claim) (length (now (a .work)))
     (stepsOn (checker (asked (now (a .ticket)) (a .s))) (now (a .ticket)) (asked (now (a .ticket)) (a .s))
     (openUnder (a .claim) (asked (now (a .ticket)) (a .s) .constraints) []) (a .r) (a .«record»))
-    (o .work) (o .b) (c .before .before .before .before .classes-for .result) (o .i) (o .k)
-going c =
-    let g = stoodAt c .loop .inv in
+    (o .work) (o .b) (labelsOf t) (o .i) (o .k)
+going t =
+    let g = stoodAt t .loop .inv .0 in
     record {
       kept = g .kept;
       low = g .low;
       holds = g .holds;
-      knows = known-for (g .knows) (c .before .before .before .before .classes-for .ensures) .0;
+      knows = known-for (g .knows) (knownAt t .classes-for .ensures) .0;
       rest = g .rest;
     }
 
-stepped : (c : tie.After-take-step Inv-loop μ-loop) →
-    let a = startOf (stoodAt c) .args in
-    let o = stoodAt c .loop in
-    Stepped (now (a .ticket)) (a .s) (a .claim) (o .work) (o .b) (o .i) (bodyOf c) (workOf c) (c .take-step .result)
-stepped c =
-    let else2 = ruled c .before .before in
-    let found = foundAt else2 in
-    let l = atLoop found in
+gathering : (t : Taken) →
+    let a = startOf (stoodAt t) .args in
+    let o = stoodAt t .loop in
+    Gathering (now (a .ticket)) (a .s) (a .claim) (coreIn (asked (now (a .ticket)) (a .s)) (stepsFrom (now (a .ticket)) (a .«record»)))
+    (o .work) (o .sets) (o .b) (labelsOf t) (broughtOf t) (o .i)
+gathering t =
+    let a = startOf (stoodAt t) .args in
+    gathering-for (now (a .ticket)) (a .s) (a .claim) (labelsOf t) (broughtOf t) (stoodAt t .loop .inv .1) (grown (knownAt t))
+    (groundsOf t .grounds-upto .ensures)
+
+stepped : (t : Taken) →
+    let a = startOf (stoodAt t) .args in
+    let o = stoodAt t .loop in
+    Stepped (now (a .ticket)) (a .s) (a .claim) (o .work) (o .b) (o .i) (bodyOf (ruledAt t)) (workOf t) (t .take-step .result)
+stepped t =
+    let l = stoodAt t in
     let b = bytes l in
     let a = startOf l .args in
     let o = l .loop in
-    let ss = pendingOn b (a .s) (o .work) (o .b) in
-    let r = whole found in
-    let on = going-on (else2 .before .before) in
+    let step = step-here (ruledAt t) in
     record {
-      sized = r .1;
-      whole = all-there b (o .i) _ _ r;
-      step =
-          its-kind (checker (asked b (a .s))) b (a .s) (branchOf (o .work) (o .b .count)) ss (o .i) (a .claim) (open-end (a .claim) _ _) _ _ r on
-          (passed else2);
-      number =
-          c .take-step .ensures .0
-          ∙ same-pending b (a .s) (a .claim) (o .work) (o .b) (o .i) (o .inv .holds)
-          ∙ its-trial (checker (asked b (a .s))) b (a .s) (branchOf (o .work) (o .b .count)) ss (o .i) (a .claim) (open-end (a .claim) _ _) _ _ r on
-          (passed else2);
-      acts = c .take-step .ensures .1;
+      sized = step .sized;
+      whole = step .whole;
+      step = step .step;
+      number = t .take-step .ensures .0
+          ∙ as-pending b (a .s) (a .claim) (o .work) (o .b) (o .i) (o .inv .0 .holds)
+          ∙ step .tried (o .work) (o .b .count) (pendingOn b (a .s) (o .work) (o .b));
+      acts = t .take-step .ensures .1;
     }
+
+resting : (t : Taken) →
+    let a = startOf (stoodAt t) .args in
+    let o = stoodAt t .loop in
+    Rests (now (a .ticket)) (a .s) (a .claim) (ruleOf (ruledAt t)) (o .work) (o .sets) (o .b) (labelsOf t) (broughtOf t) (o .i) (bodyOf (ruledAt t)) (setOf t)
+resting t = record { brought = λ asks. knownAt t .classes-for .ensures .brought asks .0; rests = t .before .before .before .before .set-of .ensures }
 
 enum-known-c : tie.Need-enum-known-c Inv-loop μ-loop
 enum-known-c c = search needs
 
-same-length-4 : tie.Need-same-length-4 Inv-loop μ-loop
-same-length-4 c = let t = c .before .before .before .before in same-work t ∙ stoodAt t .loop .inv .kept
+same-length-3 : tie.Need-same-length-3 Inv-loop μ-loop
+same-length-3 c = let t = c .before .before .before .before in same-work t ∙ stoodAt t .loop .inv .0 .kept
 
-returns-4 : tie.Need-returns-4 Inv-loop μ-loop
-unfolding LeafAt Acts
-returns-4 c =
+same-length-4 : tie.Need-same-length-4 Inv-loop μ-loop
+same-length-4 c = let t = c .before .before .before .before in same-sets (stoodAt t)
+
+returns-2 : tie.Need-returns-2 Inv-loop μ-loop
+unfolding LeafAt CoreAt Acts
+returns-2 c =
     let t = c .before .before .before .before in
     let l = stoodAt t in
     let b = bytes l in
@@ -341,7 +350,7 @@ returns-4 c =
     let st = stepped t in (
       going-refused b (a .s) (going t) _ (st .whole) _ (ap numberOf (sym e) ∙ st .number)
           (subst (Acts (a .claim) b (asked b (a .s)) (o .i) (o .b .depth) (o .work) (o .b .count) (workOf t)) e (st .acts)),
-      tt,
+      (tt, tt),
     )
 
 -- ---- the branch is closed
@@ -349,63 +358,85 @@ returns-4 c =
 enum-told : tie.Need-enum-told Inv-loop μ-loop
 enum-told c = search needs
 
-add-t37 : tie.Need-add-t37 Inv-loop μ-loop
-add-t37 c = let t = c .before .before .before .before in fits (stoodAt t .loop .i + 6) (omega (arith, ends-within t))
+with-closing-requires : tie.Need-with-closing-requires Inv-loop μ-loop
+with-closing-requires c κs = search needs
 
-add-t38 : tie.Need-add-t38 Inv-loop μ-loop
-add-t38 c = let t = c .before .before .before .before in fits (stoodAt t .loop .i + 6 + bodyOf t) (ends-within t)
-
-add-t39 : tie.Need-add-t39 Inv-loop μ-loop
-add-t39 c =
-    let t = c .before .before .before .before in
-    fits (stoodAt t .loop .k + 1) (omega (arith, stoodAt t .loop .inv .low, ends-within t))
+add-t49 : tie.Need-add-t49 Inv-loop μ-loop
+add-t49 c =
+    let taken = c .before .before .before .before .before in
+    let r = ruledAt taken in
+    fits (atLoop r .loop .k + 1) (omega (arith, atLoop r .loop .inv .0 .low, ends-within r))
 
 same-length-5 : tie.Need-same-length-5 Inv-loop μ-loop
-same-length-5 c = let t = c .before .before .before .before in same-work t ∙ stoodAt t .loop .inv .kept
+same-length-5 c = let t = c .before .before .before .before .before in same-work t ∙ stoodAt t .loop .inv .0 .kept
 
-returns-5 : tie.Need-returns-5 Inv-loop μ-loop
-unfolding LeafAt
-returns-5 c =
-    let t = c .before .before .before .before in
+same-length-6 : tie.Need-same-length-6 Inv-loop μ-loop
+same-length-6 c = let t = c .before .before .before .before .before in same-sets (stoodAt t)
+
+returns-3 : tie.Need-returns-3 Inv-loop μ-loop
+unfolding LeafAt CoreAt
+returns-3 c =
+    let t = c .before .before .before .before .before in
     let a = startOf (stoodAt t) .args in
-    (going-closed (now (a .ticket)) (a .s) (a .claim) (going t) (stepped t) (c .before .enum-told .given .1) (c .if3 .taken) _, tt)
+    let b = now (a .ticket) in
+    let q = c .before .before .enum-told .given .1 in
+    let all =
+    ap (λ (x : Grounds). x .core) (c .before .with-closing .ensures)
+    ∙ gathering-all b (a .s) (a .claim) (gathering t) (stepped t) (resting t) q (no-split (stoodAt t .loop .b) (c .if1 .taken)) in (
+      going-closed b (a .s) (a .claim) (going t) (stepped t) q (c .if1 .taken) _ _ _,
+      (tt, (ap (λ (x : Words). x .low) all, ap (λ (x : Words). x .high) all)),
+    )
 
 -- the state to cut back from
-opened : (t : tie.After-take-step Inv-loop μ-loop) → t .take-step .result ≡ Closes →
+opened : (t : Taken) → t .take-step .result ≡ Closes →
     let a = startOf (stoodAt t) .args in
     let o = stoodAt t .loop in
-    InOrder (now (a .ticket)) (a .s) (workOf t) (o .b) × Knows (workOf t) (o .b .count) (t .before .before .before .before .classes-for .result)
+    InOrder (now (a .ticket)) (a .s) (workOf t) (o .b) × Knows (workOf t) (o .b .count) (labelsOf t)
 opened t q =
     let a = startOf (stoodAt t) .args in
     still-open (now (a .ticket)) (a .s) (a .claim) (going t) (stepped t) q (same-work t)
 
 -- what is known of the question's constraints holds at the mark of its last pending split
-first-there : (t : tie.After-take-step Inv-loop μ-loop) → t .take-step .result ≡ Closes → 0 < stoodAt t .loop .b .depth →
-    let first = stoodAt t .before .before .first-known .result in
-    Knows (workOf t) (latestOf (stack (stoodAt t .loop .b)) .mark) first
+first-there : (t : Taken) → t .take-step .result ≡ Closes → 0 < stoodAt t .loop .b .depth →
+    Knows (workOf t) (latestOf (stack (stoodAt t .loop .b)) .mark) (firstOf (stoodAt t) .first-known .result)
 first-there t q d =
     let s = startOf (stoodAt t) in
     let a = s .args in
-    let first = stoodAt t .before .before in
+    let first = firstOf (stoodAt t) in
     laws.first-known (now (a .ticket)) (a .s) (now (a .work)) (workOf t) (stoodAt t .loop .b) (first .first-known .result) (s .pre .0 .2) (known-first first)
     (opened t q .0) d
 
 latest-requires : tie.Need-latest-requires Inv-loop μ-loop
 latest-requires c κs =
-    let t = c .before .before .before .before in
-    (open-depth (stoodAt t .loop .b) (c .if3 .left), few-splits (opened t (c .before .enum-told .given .1) .0))
+    let t = c .before .before .before .before .before in
+    (open-depth (stoodAt t .loop .b) (c .if1 .left), few-splits (opened t (c .before .before .enum-told .given .1) .0))
 
-cast-set-back : tie.Need-cast-set-back Inv-loop μ-loop
-cast-set-back c = search needs
+cast-count-2 : tie.Need-cast-count-2 Inv-loop μ-loop
+cast-count-2 c = search needs
+
+set-at-requires : tie.Need-set-at-requires Inv-loop μ-loop
+set-at-requires c κs =
+    let else1 = c .before .before .before in
+    let t = else1 .before .before .before .before .before in
+    let q = else1 .before .before .enum-told .given .1 in
+    let deep = open-depth (stoodAt t .loop .b) (else1 .if1 .left) in
+    let a = startOf (stoodAt t) .args in
+    let latest = c .before .before .latest in
+    let below = fact-at-mark (now (a .ticket)) (a .s) (a .claim) (gathering t) (going t) (stepped t) q deep (latest .result) (latest .ensures) in
+    (omega (arith, few-facts (opened t q .0), below), roomy (stoodAt t))
+
+grounds-back-requires : tie.Need-grounds-back-requires Inv-loop μ-loop
+grounds-back-requires c κs = search needs
 
 set-back-requires : tie.Need-set-back-requires Inv-loop μ-loop
 set-back-requires c κs = search needs
 
 next-child-requires : tie.Need-next-child-requires Inv-loop μ-loop
 next-child-requires c κs =
-    let else3 = c .before .before .before .before in
-    let t = else3 .before .before .before .before in
-    (opened t (else3 .before .enum-told .given .1) .0, open-depth (stoodAt t .loop .b) (else3 .if3 .left), c .before .before .before .latest .ensures)
+    let latest = c .before .before .before .before .before .before .latest in
+    let else1 = c .before .before .before .before .before .before .before in
+    let t = else1 .before .before .before .before .before in
+    (opened t (else1 .before .before .enum-told .given .1) .0, open-depth (stoodAt t .loop .b) (else1 .if1 .left), latest .ensures)
 
 -- ---- the branch goes on
 
@@ -433,46 +464,122 @@ extend-requires-2 c κs =
     let a = startOf (stoodAt t) .args in
     can-mark (now (a .ticket)) (a .s) (a .claim) _ _ (going t) (stepped t) (c .before .before .facts2 .given .1) .1
 
+-- ---- the sets of the facts that came
+
+cast-keep-set : tie.Need-cast-keep-set Inv-loop μ-loop
+cast-keep-set c = search needs
+
+few-there : (c : tie.At-match2-came Inv-loop μ-loop) → c .match2 .b .count ≤ factLimit
+few-there c =
+    let t = c .before .before in
+    let a = startOf (stoodAt t) .args in
+    let b = now (a .ticket) in
+    ⊎-elim
+    (λ w. subst (λ (x : code.Branch). x .count ≤ factLimit) (sym (w .16)) (few-facts (w .11 .ensures .1 .0)))
+    (⊎-elim
+    (λ w. subst (λ (x : code.Branch). x .count ≤ factLimit) (sym (w .7))
+    (omega (arith, few-extended b (a .s) (a .claim) _ (going t) (stepped t) (w .1 .given .1), w .3 .ensures .0)))
+    (λ w. subst (λ (x : code.Branch). x .count ≤ factLimit) (sym (w .8))
+    (omega (arith, can-mark b (a .s) (a .claim) _ _ (going t) (stepped t) (w .1 .given .1) .1, w .4 .ensures .0))))
+    (c .match2 .came)
+
+added-there : (c : tie.At-match2-came Inv-loop μ-loop)
+    → startOf (stoodAt (c .before .before)) .args .claim ≡ NoSolution
+    → Added (c .match2 .count) (c .match2 .b .count)
+added-there c e =
+    let t = c .before .before in
+    let a = startOf (stoodAt t) .args in
+    let b = now (a .ticket) in
+    let o = stoodAt t .loop in
+    ⊎-elim
+    (λ w. rw (w .17, w .16)
+    (added-next-child b (a .s) (w .1 .given .1) (open-depth (o .b) (w .3 .left)) (w .4 .result) (w .4 .ensures) _ (w .11 .result) (w .11 .ensures .0) (a .claim)
+    (gathering t) (going t) (stepped t) e))
+    (⊎-elim
+    (λ w. rw (w .8, w .7)
+    (added-one b (a .s) _ (w .1 .given .1) (w .3 .result) (w .3 .ensures .0) (w .3 .ensures .1) (a .claim) (gathering t) (going t) (stepped t) e))
+    (λ w. rw (w .9, w .8)
+    (added-several b (a .s) _ _ (w .1 .given .1) (w .4 .result) (w .4 .ensures .0) (w .4 .ensures .1 ∙ w .3 .ensures .1) (a .claim) (gathering t) (going t)
+    (stepped t) e)))
+    (c .match2 .came)
+
+keep-set-requires : tie.Need-keep-set-requires Inv-loop μ-loop
+keep-set-requires c κs = let join = c .before .before in (added-there join, few-there join, roomy (stoodAt (join .before .before)))
+
 -- ---- the next record
 
-add-i : tie.Need-add-i Inv-loop μ-loop
-add-i c = let t = c .before .before in fits (stoodAt t .loop .i + 6) (omega (arith, ends-within t))
-
-add-i-2 : tie.Need-add-i-2 Inv-loop μ-loop
-add-i-2 c = let t = c .before .before in fits (stoodAt t .loop .i + 6 + bodyOf t) (ends-within t)
-
 add-k : tie.Need-add-k Inv-loop μ-loop
-add-k c = let t = c .before .before in fits (stoodAt t .loop .k + 1) (omega (arith, stoodAt t .loop .inv .low, ends-within t))
+add-k c =
+    let taken = c .before .before .before .before .before .before .before in
+    let r = ruledAt taken in
+    fits (atLoop r .loop .k + 1) (omega (arith, atLoop r .loop .inv .0 .low, ends-within r))
 
 loop-less : tie.Need-loop-less Inv-loop μ-loop
-loop-less c = let t = c .before .before in omega (arith, whole (foundAt (ruled t .before .before)) .2)
+loop-less c =
+    let taken = c .before .before .before .before .before .before .before in
+    let r = ruledAt taken in omega (arith, step-here r .sized, step-here r .whole)
+
+-- the question's constraints are in the first rows
+all-roots : (l : Loop) →
+    let a = startOf l .args in
+    a .s .constraints ≡ length (asked (now (a .ticket)) (a .s) .constraints)
+all-roots l =
+    let s = startOf l in
+    sym (length-branch (now (s .args .work)) (s .args .s .constraints)) ∙ ap length (s .pre .0 .2)
 
 loop-again : tie.Need-loop-again Inv-loop μ-loop
 loop-again c =
-    let t = c .before .before in
+    let match2 = c .before .before .before .before .before .match2 in
+    let t = c .before .before .before .before .before .before .before in
     let l = stoodAt t in
     let a = startOf l .args in
     let b = bytes l in
     let o = l .loop in
+    let n = all-roots l in
+    let filled = c .before .before .keep-set .ensures in
+    let same = c .before .before .keep-set .kept .1 .0 ∙ o .inv .2 in
     ⊎-elim
     (λ w.
     let q = w .1 .given .1 in
-    let first = l .before .before .first-known .result in
-    let mark = w .3 .result .mark in
+    let deep = open-depth (o .b) (w .3 .left) in
+    let first = firstOf l .first-known in
+    let split = w .4 in
+    let mark = split .result .mark in
     let known =
-    subst (λ (x : Known). Knows (workOf t) mark x) (sym (w .5 .ensures))
-    (knows-back (workOf t) (o .b .count) mark _ first (opened t q .1)
-    (subst (λ (x : Split). Knows (workOf t) (x .mark) first) (sym (w .3 .ensures)) (first-there t q (open-depth (o .b) (w .2 .left))))) in
-    going-same b (a .s) (w .9) (w .11) (w .10)
-    (going-next b (a .s) (a .claim) (going t) (stepped t) q _ (w .7 .result) (w .5 .result) (w .7 .ensures .0) (w .7 .ensures .1 .0)
-    (known-below b (a .s) (workOf t) _ mark (w .7 .result) (w .5 .result) (w .7 .ensures .1 .1) known) (w .7 .kept .1 .1 .0 ∙ same-work t)))
+    subst (λ (x : Known). Knows (workOf t) mark x) (sym (w .9 .ensures))
+    (knows-back (workOf t) (o .b .count) mark (labelsOf t) (first .result) (opened t q .1)
+    (subst (λ (x : Split). Knows (workOf t) (x .mark) (first .result)) (sym (split .ensures)) (first-there t q deep))) in (
+      going-same b (a .s) (w .13) (w .16) (w .14)
+          (going-next b (a .s) (a .claim) (going t) (stepped t) q _ (w .11 .result) (w .9 .result) (w .11 .ensures .0) (w .11 .ensures .1 .0)
+          (known-below b (a .s) (workOf t) _ mark (w .11 .result) (w .9 .result) (w .11 .ensures .1 .1) known) (w .11 .kept .1 .1 .0 ∙ same-work t)),
+      gathering-same b (a .s) (w .13) refl (w .16) (w .14 ∙ w .9 .ensures)
+          (w .15 ∙ w .8 .ensures ∙ ap (λ (x : Grounds). groundsBack x (labelsOf t .upto) mark) (w .2 .ensures))
+          (gathering-next b (a .s) q deep (split .result) (split .ensures) _ (w .11 .result) (w .11 .ensures .0) (a .claim) (gathering t) (going t) (stepped t)
+          (resting t) n _ (λ e. filled-as (w .17) (ap (λ (x : code.Branch). x .count) (w .16)) (w .18 ∙ w .7 .ensures) (filled e))
+          (first .result) (first .ensures .0)),
+      same,
+    ))
     (⊎-elim
-    (λ w. going-same b (a .s) (w .4) (w .6) (w .5)
-    (going-one b (a .s) (a .claim) _ (going t) (stepped t) (w .1 .given .1) (w .3 .result) (w .3 .ensures .0) (w .3 .ensures .1) (same-work t)))
-    (λ w. going-same b (a .s) (w .5) (w .7) (w .6)
-    (going-more b (a .s) (a .claim) _ _ (going t) (stepped t) (w .1 .given .1) (w .4 .result) (w .4 .ensures .0) (w .4 .ensures .1 ∙ w .3 .ensures .1)
-    (same-work t))))
-    (c .match2 .came)
+    (λ w. (
+      going-same b (a .s) (w .4) (w .7) (w .5)
+          (going-one b (a .s) (a .claim) _ (going t) (stepped t) (w .1 .given .1) (w .3 .result) (w .3 .ensures .0) (w .3 .ensures .1) (same-work t)),
+      gathering-same b (a .s) (w .4) refl (w .7) (w .5) (w .6)
+          (gathering-one b (a .s) _ (w .1 .given .1) (w .3 .result) (w .3 .ensures .0) (w .3 .ensures .1) (a .claim) (gathering t) (going t) (stepped t)
+          (resting t) n _
+          (λ e. filled-as (w .8) (ap (λ (x : code.Branch). x .count) (w .7)) (w .9) (filled e))),
+      same,
+    ))
+    (λ w. (
+      going-same b (a .s) (w .5) (w .8) (w .6)
+          (going-more b (a .s) (a .claim) _ _ (going t) (stepped t) (w .1 .given .1) (w .4 .result) (w .4 .ensures .0) (w .4 .ensures .1 ∙ w .3 .ensures .1)
+          (same-work t)),
+      gathering-same b (a .s) (w .5) refl (w .8) (w .6) (w .7)
+          (gathering-several b (a .s) _ _ (w .1 .given .1) (w .4 .result) (w .4 .ensures .0) (w .4 .ensures .1 ∙ w .3 .ensures .1) (a .claim) (gathering t)
+          (going t)
+          (stepped t) (resting t) n _ (λ e. filled-as (w .9) (ap (λ (x : code.Branch). x .count) (w .8)) (w .10) (filled e))),
+      same,
+    )))
+    (match2 .came)
 
 pub walk-spec : {M : Type 1} → statement M
 walk-spec =
@@ -481,36 +588,37 @@ walk-spec =
     Inv-loop
     μ-loop
     first-known-requires
+    first-grounds-requires
     new-requires
     loop-holds
-    read-at-requires
-    enum-known-kind
-    same-length
-    returns
     cast-count
-    ends-steps-requires
+    next-record-requires
+    enum-known-found
+    ended-requires
+    same-length
     same-length-2
-    returns-2
-    record-fault-requires
-    same-length-3
-    returns-3
-    add-u16-at
-    u16-at-requires
-    rule-of-requires
+    returns
+    add-next
+    add-next-2
     classes-for-requires
+    grounds-upto-requires
+    set-of-requires
     cast-depth
     take-step-requires
     enum-known-c
+    same-length-3
     same-length-4
-    returns-4
+    returns-2
     enum-told
-    add-t37
-    add-t38
-    add-t39
+    with-closing-requires
+    add-t49
     same-length-5
-    returns-5
+    same-length-6
+    returns-3
     latest-requires
-    cast-set-back
+    cast-count-2
+    set-at-requires
+    grounds-back-requires
     set-back-requires
     next-child-requires
     enum-known-facts
@@ -518,8 +626,8 @@ walk-spec =
     enum-known-facts-2
     mark-requires
     extend-requires-2
-    add-i
-    add-i-2
+    cast-keep-set
+    keep-set-requires
     add-k
     loop-less
     loop-again)

@@ -18,15 +18,15 @@ returns c =
     let a = c .before .before .before .args in
     let b = now (a .ticket) in
     let f = c .before .end-fault in
-    λ s answer. refused answer
+    λ s answer set low high. refused answer
     (nonzero (closed-refused (checker (asked b s)) b (asked b s) (a .r) (a .at) refl) (f .result) (f .ensures) (c .if1 .taken))
 
 returns-2 : tie.Need-returns-2
 returns-2 c =
     let a = c .before .before .before .args in
     let b = now (a .ticket) in
-    λ s answer. no-solution answer
-    (closed-done (checker (asked b s)) b (asked b s) (a .r) (a .at) refl (sym (c .before .end-fault .ensures) ∙ c .if1 .left))
+    λ s answer set low high. no-solution set answer
+    (closed-done (checker (asked b s)) b (asked b s) (a .r) (a .at) refl (sym (c .before .end-fault .ensures) ∙ c .if1 .left)) low high
 
 pub at-end-spec : {M : Type 1} → statement M
 at-end-spec = tie.close (tie.spec end-fault-requires returns returns-2)

@@ -46,7 +46,7 @@ returns c =
     let u32-at = c .before .before .before .before .before .before .u32-at in
     let s = c .before .before .before .before .before .before .before .before .before in
     let b = now (s .args .ticket) in
-    refused (now (s .args .answer))
+    λ set. refused (now (s .args .answer))
     (unsettled (checker (asked b (s .args .s))) (λ br v. refl) b (asked b (s .args .s)) (branchOf (now (s .args .work)) (s .args .count)) (s .args .r) (s .args .at) (u32-at .result)
     (u32-at .ensures .0) (s .pre .1) (s .pre .2) _ (c .before .before .settle .ensures .0) (c .if1 .taken))
 
@@ -68,7 +68,7 @@ returns-2 c =
     let u32-at = c .before .before .before .before .before .before .before .before .u32-at in
     let s = c .before .before .before .before .before .before .before .before .before .before .before in
     let b = now (s .args .ticket) in
-    refused (now (s .args .answer))
+    λ set. refused (now (s .args .answer))
     (unended (checker (asked b (s .args .s))) (λ br v. refl) b (asked b (s .args .s)) (branchOf (now (s .args .work)) (s .args .count)) (s .args .r) (s .args .at) (u32-at .result)
     (u32-at .ensures .0) (s .pre .1) (s .pre .2)
     (sym (settle .ensures .0) ∙ c .before .before .if1 .left) _ (c .before .end-fault .ensures) (c .if2 .taken))
@@ -105,7 +105,7 @@ returns-3 c =
     let b = now (s .args .ticket) in
     let u = asked b (s .args .s) in
     let br = branchOf (now (s .args .work)) (s .args .count) in
-    strings (now (s .args .answer)) _
+    λ set. strings (now (s .args .answer)) _
     (ended (checker u) (λ br v. refl) b u br (s .args .r) (s .args .at) (u32-at .result) (u32-at .ensures .0) (s .pre .1) (s .pre .2)
     (sym (settle .ensures .0) ∙ if1 .left) (sym (end-fault .ensures) ∙ if2 .left))
     (c .before .before .write .ensures br (modelAt b u (s .args .at + 6)) (settle .ensures .1 (if1 .left)))

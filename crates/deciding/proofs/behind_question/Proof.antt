@@ -3,8 +3,8 @@ use borrow.Author.Needs.{needs}
 use denote.Ref.{now}
 use mathlib.Core.Path.{_∙_, ap, sym}
 use native.Mathlib.Omega.{arith}
-use Rattle.deciding.proofs.Outcomes.{decided-by, refused}
-use Rattle.deciding.proofs.Posing.{posed}
+use Rattle.deciding.proofs.Outcomes.{decided-by, with-set, refused}
+use Rattle.deciding.proofs.Posing.{posed, core-behind}
 use Rattle.delimiters.proofs.Claiming.{claim-good, claims-so}
 use Rattle.format.proofs.StepTurns.{nonzero, claim-faulty}
 use Rattle.format.specs.Checking.{checker}
@@ -76,10 +76,12 @@ returns-2 : tie.Need-returns-2
 returns-2 c =
     let claim-of = c .before .before .before .before .before .before in
     let tested = claim-of .before .before .before .before .before in
-    let s = tested .before .before .before .before .args in
-    decided-by (claims-so checker (now (s .ticket)) (s .s) (s .at) (s .r) (sym (tested .before .claim-fault .ensures) ∙ tested .if1 .left) (claim-of .claim-of .result)
+    let s = tested .before .before .before .before in
+    let b = now (s .args .ticket) in
+    let good = sym (tested .before .claim-fault .ensures) ∙ tested .if1 .left in
+    decided-by (claims-so checker b (s .args .s) (s .args .at) (s .args .r) good (claim-of .claim-of .result)
     (claim-of .claim-of .ensures ∙ ap claimOf (claim-of .before .u16-at .ensures .0)))
-    (c .before .before .before .behind-claim .ensures)
+    (with-set (core-behind b (s .args .s) (s .args .at) (s .args .r) (s .pre .0) good) (c .before .before .before .behind-claim .ensures))
 
 pub behind-question-spec : {M : Type 1} → statement M
 behind-question-spec =

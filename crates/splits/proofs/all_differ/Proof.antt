@@ -7,7 +7,7 @@ use mathlib.Core.Path.{_∙_, _≡_, sym, ap}
 use native.Mathlib.Omega.{arith}
 use Rattle.calculus.specs.Rules.{among, distinct}
 use Rattle.format.specs.Fields.{u16s}
-use Rattle.splits.proofs.Variables.{u16s-done, distinct-no, distinct-yes}
+use Rattle.steps.proofs.Variables.{u16s-done, distinct-no, distinct-yes}
 use Rattle.splits.proofs.all_differ.Statement.{statement}
 use Rattle.splits.proofs.all_differ.Tie as tie
 

@@ -13,7 +13,7 @@ use Rattle.format.specs.StepForms.{areVariables}
 use Rattle.format.specs.Checking.{fits}
 use Rattle.rows.specs.Rows.{branchOf}
 use Rattle.rows.proofs.Tested.{guard-fits}
-use Rattle.splits.proofs.Variables.{card-children}
+use Rattle.splits.proofs.Neighbours.{card-children}
 use Rattle.splits.proofs.card_fits.Statement.{statement}
 use Rattle.splits.proofs.card_fits.Tie as tie
 

@@ -19,7 +19,8 @@ use Rattle.rows.proofs.Tested.{guard-fits}
 use Rattle.steps.proofs.Bodies.{is-rule}
 use Rattle.steps.proofs.Offered.{offered-by}
 use Rattle.steps.proofs.Rules.{not-several}
-use Rattle.splits.proofs.Operands.{card-same, apart-operands, c-inj-operands, card-operands}
+use Rattle.steps.proofs.Variables.{card-operands}
+use Rattle.splits.proofs.Operands.{card-same, apart-operands, c-inj-operands}
 use Rattle.splits.proofs.fits.Statement.{statement}
 use Rattle.splits.proofs.fits.Tie as tie
 

@@ -12,8 +12,8 @@ use Rattle.format.specs.StepForms.{areVariables}
 use Rattle.question.specs.Columns.{columnAt}
 use Rattle.question.specs.Posed.{numbered}
 use Rattle.rows.specs.Rows.{branchOf}
-use Rattle.splits.proofs.Variables.{distinct-rest, neighbours-differ, below-first, below-second}
-use Rattle.splits.proofs.Variables.{below-rest, neighbours-no, neighbours-yes, neighbours-done}
+use Rattle.steps.proofs.Variables.{distinct-rest, neighbours-differ, below-first, below-second, below-rest}
+use Rattle.splits.proofs.Neighbours.{neighbours-no, neighbours-yes, neighbours-done}
 use Rattle.splits.proofs.lengths_agree.Statement.{statement}
 use Rattle.splits.proofs.lengths_agree.Tie as tie
 

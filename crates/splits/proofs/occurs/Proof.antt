@@ -7,7 +7,7 @@ use mathlib.Core.Path.{_∙_, _≡_, sym, ap}
 use native.Mathlib.Omega.{arith}
 use Rattle.calculus.specs.Rules.{among}
 use Rattle.format.specs.Fields.{u16s}
-use Rattle.splits.proofs.Variables.{u16s-done, among-yes, among-no}
+use Rattle.steps.proofs.Variables.{u16s-done, among-yes, among-no}
 use Rattle.splits.proofs.occurs.Statement.{statement}
 use Rattle.splits.proofs.occurs.Tie as tie
 

@@ -17,7 +17,7 @@ use Rattle.format.specs.StepForms.{areVariables}
 use Rattle.format.specs.Checking.{orNone}
 use Rattle.rows.specs.Rows.{branchOf}
 use Rattle.steps.proofs.Offered.{child-at}
-use Rattle.splits.proofs.Variables.{below-first, below-later, below-rest}
+use Rattle.steps.proofs.Variables.{below-first, below-later, below-rest}
 use Rattle.splits.proofs.Pairs.{pair-here, pair-there, pair-count, pairs-none}
 use Rattle.splits.proofs.Forms.{last-short, last-some}
 use Rattle.splits.proofs.put_card.Statement.{statement}

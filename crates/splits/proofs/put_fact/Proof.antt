@@ -23,7 +23,8 @@ use Rattle.steps.specs.Rules.{ruleNamed, oneEach}
 use Rattle.steps.proofs.Bodies.{given, four-bytes, l-valid-variable, is-rule}
 use Rattle.steps.proofs.Offered.{step-fits, number-of}
 use Rattle.steps.proofs.Rules.{not-several}
-use Rattle.splits.proofs.Operands.{branch-operands, apart-operands, c-inj-operands, card-operands, branch-child}
+use Rattle.steps.proofs.Variables.{card-operands}
+use Rattle.splits.proofs.Operands.{branch-operands, apart-operands, c-inj-operands, branch-child}
 use Rattle.splits.proofs.Operands.{apart-fact, apart-child, l-valid-child, c-inj-differ, c-inj-child, card-child}
 use Rattle.splits.proofs.put_fact.Statement.{statement}
 use Rattle.splits.proofs.put_fact.Tie as tie

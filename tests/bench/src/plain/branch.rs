@@ -1,4 +1,4 @@
-//! The facts of a branch, and the classes that its ≈ facts make.
+//! The facts of a branch, the classes that its ≈ facts make, and the constraints that each fact rests on.
 
 use super::question::MOST_FACTS;
 use super::records::{i32_at, index_at, pair};
@@ -44,10 +44,32 @@ type Labels = [u8; 32];
 /// Where the labels of literals begin.
 const LITERALS: usize = 16;
 
+/// Constraints of the question: k is bit k of the first word, or bit k − 64 of the second.
+#[derive(Clone, Copy, Default)]
+pub struct Set(pub [u64; 2]);
+
+impl Set {
+    fn only(constraint: usize) -> Set {
+        let mut set = Set::default();
+        set.0[constraint / 64] = 1 << (constraint % 64);
+        set
+    }
+
+    pub fn with(self, other: Set) -> Set {
+        Set([self.0[0] | other.0[0], self.0[1] | other.0[1]])
+    }
+}
+
 #[derive(Default)]
 pub struct Branch {
     pub facts: Vec<Fact>,
     pub labels: Labels,
+    /// What each fact rests on, with room for the most facts; under claim 1 alone.
+    sets: Vec<Set>,
+    /// What all ≈ facts rest on.
+    pub same: Set,
+    /// What all ≉ facts rest on; no step adds one.
+    pub differ: Set,
     /// The rows one behind another: a constant, then a coefficient for each column of the question.
     numbers: Vec<i32>,
     pub width: usize,
@@ -55,9 +77,10 @@ pub struct Branch {
 
 /// What a branch is cut back to.
 pub struct Mark {
-    facts: usize,
+    pub facts: usize,
     numbers: usize,
     labels: Labels,
+    same: Set,
 }
 
 impl Branch {
@@ -68,6 +91,7 @@ impl Branch {
             labels: std::array::from_fn(|node| node as u8),
             numbers: Vec::with_capacity(MOST_FACTS * width),
             width,
+            ..Branch::default()
         }
     }
 
@@ -150,13 +174,41 @@ impl Branch {
     }
 
     pub fn mark(&self) -> Mark {
-        Mark { facts: self.facts.len(), numbers: self.numbers.len(), labels: self.labels }
+        Mark { facts: self.facts.len(), numbers: self.numbers.len(), labels: self.labels, same: self.same }
     }
 
     pub fn cut_back(&mut self, mark: &Mark) {
         self.facts.truncate(mark.facts);
         self.numbers.truncate(mark.numbers);
         self.labels = mark.labels;
+        self.same = mark.same;
+    }
+
+    /// Every constraint rests on itself.
+    pub fn set_roots(&mut self) {
+        self.sets = vec![Set::default(); MOST_FACTS];
+        for (number, fact) in self.facts.iter().enumerate() {
+            let set = Set::only(number);
+            self.sets[number] = set;
+            match fact {
+                Fact::Arithmetic(..) => {}
+                Fact::Differ(..) => self.differ = self.differ.with(set),
+                _ => self.same = self.same.with(set),
+            }
+        }
+    }
+
+    /// The facts from a number on, all of one step, rest on a set.
+    pub fn set_from(&mut self, number: usize, set: Set) {
+        self.sets[number..self.facts.len()].fill(set);
+        if let Some(Fact::Same(..) | Fact::IsLiteral(..)) = self.facts.get(number) {
+            self.same = self.same.with(set);
+        }
+    }
+
+    /// What a fact rests on. The set of a split's first fact still stands when its branch is cut back to the mark.
+    pub fn set_of(&self, number: usize) -> Set {
+        self.sets.get(number).copied().unwrap_or_default()
     }
 
     /// Whether two of so many literals share a class, or a ≉ fact has both sides in one.

@@ -1,6 +1,6 @@
 //! Checking: a whole ticket to its verdict or refusal.
 
-use super::branch::Branch;
+use super::branch::{Branch, Set};
 use super::forms::StepReader;
 use super::leaf::{read_model, Leaf};
 use super::question::Question;
@@ -21,6 +21,8 @@ pub struct Checker<'a> {
     pub pending: Vec<Split<'a>>,
     /// Whether every branch is closed.
     pub closed: bool,
+    /// What the closing steps rest on.
+    pub core: Set,
     /// The model's values, once it has settled the leaf.
     model: Option<Vec<i32>>,
 }
@@ -46,7 +48,8 @@ pub fn check(ticket: &[u8], answer: &mut [u8]) -> Reply {
     if let Some(model) = &checker.model {
         checker.leaf(model).write_answer(answer);
     }
-    reply(0, u64::from(checker.claim))
+    let Set([low, high]) = checker.core;
+    [0, u64::from(checker.claim), low, high, 0]
 }
 
 impl<'a> StepReader<'a> for Checker<'a> {
@@ -104,6 +107,9 @@ impl<'a> Checker<'a> {
         demand(self.question.has_head() && self.claim == 0, 4)?;
         demand(body.len() == 2, 5)?;
         self.claim = u16_at(body, 0);
+        if self.claim == 1 {
+            self.branch.set_roots();
+        }
         demand(self.claim == 1 || self.claim == 2, 6)
     }
 }

@@ -1,7 +1,7 @@
 //! Splits: whether they fit, and the facts of their children.
 
 use super::branch::Relation::{self, AtLeast, Equal, NotEqual};
-use super::branch::{Fact, Mark};
+use super::branch::{Fact, Mark, Set};
 use super::checking::Checker;
 use super::question::within_limit;
 use super::records::{i32_at, index_at};
@@ -22,7 +22,7 @@ impl<'a> Checker<'a> {
     /// Takes a split: under claim 1 all its children, under claim 2 one, counted from 1.
     pub fn split(&mut self, body: &'a [u8], children: usize, child: usize) -> Checked {
         let (rule, operands) = (index_at(body, 0), &body[4..]);
-        demand(self.split_fits(rule, operands), 8)?;
+        let set = self.split_set(rule, operands).ok_or(8u64)?;
         let (first, second) = (child != 2, child != 1);
         demand(self.split_within_limit(rule, operands, first, second), 9)?;
         let facts = match (rule, second) {
@@ -35,16 +35,23 @@ impl<'a> Checker<'a> {
         if pends {
             self.pending.push(Split { body, next: 1, children, mark: self.branch.mark() });
         }
+        let first = self.branch.facts.len();
         self.begin(body, child.saturating_sub(1));
+        if self.claim == 1 {
+            self.branch.set_from(first, set);
+        }
         Ok(())
     }
 
-    fn split_fits(&self, rule: usize, operands: &[u8]) -> bool {
+    /// What a split rests on, if it fits.
+    fn split_set(&self, rule: usize, operands: &[u8]) -> Option<Set> {
+        let x = index_at(operands, 0);
         match rule {
-            3 => matches!(self.branch.arithmetic(index_at(operands, 0)), Some((NotEqual, _))),
-            11 => index_at(operands, 0) != index_at(operands, 2),
-            12 => self.card_fits(operands),
-            _ => true,
+            3 if !matches!(self.branch.arithmetic(x), Some((NotEqual, _))) => None,
+            3 => Some(self.branch.set_of(x)),
+            11 if x == index_at(operands, 2) => None,
+            12 => self.card_set(operands),
+            _ => Some(Set::default()),
         }
     }
 
@@ -58,19 +65,24 @@ impl<'a> Checker<'a> {
         (!first || within_limit(constant + below)) && (!second || within_limit(-constant - 1))
     }
 
-    fn card_fits(&self, operands: &[u8]) -> bool {
+    /// What Card rests on, if it fits: for each neighbouring pair the lowest fact that states equal lengths.
+    fn card_set(&self, operands: &[u8]) -> Option<Set> {
         let mut seen = 0u32;
         for at in (0..operands.len()).step_by(2) {
             seen |= 1 << index_at(operands, at);
         }
-        let equal = |at: usize| self.lengths_equal(index_at(operands, at - 2), index_at(operands, at));
-        seen.count_ones() as usize == operands.len() / 2 && (2..operands.len()).step_by(2).all(equal)
+        let mut set = Set::default();
+        for at in (2..operands.len()).step_by(2) {
+            let lowest = self.equal_lengths(index_at(operands, at - 2), index_at(operands, at))?;
+            set = set.with(self.branch.set_of(lowest));
+        }
+        (seen.count_ones() as usize == operands.len() / 2).then_some(set)
     }
 
-    /// Whether a fact states that the difference of two lengths is 0.
-    fn lengths_equal(&self, x: usize, y: usize) -> bool {
+    /// The lowest fact which states that the difference of two lengths is 0.
+    fn equal_lengths(&self, x: usize, y: usize) -> Option<usize> {
         let (x, y) = (self.question.len_place(x), self.question.len_place(y));
-        self.branch.facts.iter().any(|fact| match fact {
+        self.branch.facts.iter().position(|fact| match fact {
             Fact::Arithmetic(Equal, start) => {
                 let row = self.branch.row(*start);
                 let others = || row.iter().enumerate().all(|(place, number)| place == x || place == y || *number == 0);

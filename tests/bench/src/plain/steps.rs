@@ -1,6 +1,7 @@
 //! Steps that are taken: the rules with one conclusion or none.
 
 use super::branch::Relation::{AtLeast, Equal};
+use super::branch::Set;
 use super::checking::Checker;
 use super::forms::{Step, StepReader};
 use super::question::{code_of, within_limit};
@@ -15,8 +16,14 @@ impl<'a> Checker<'a> {
         let Step { rule, child, children, operands } = self.read_step(body)?;
         match rule {
             1 => self.sum(operands),
-            4 => self.close(self.is_false(index_at(operands, 0))),
-            5 => self.close(self.branch.strings_conflict(self.question.literal_count)),
+            4 => {
+                let fact = index_at(operands, 0);
+                self.close(self.is_false(fact), self.branch.set_of(fact))
+            }
+            5 => {
+                let fits = self.branch.strings_conflict(self.question.literal_count);
+                self.close(fits, self.branch.same.with(self.branch.differ))
+            }
             6 => self.propagate(operands),
             7 | 9 => self.take_from_literal(rule, index_at(operands, 0)),
             13 => self.join(index_at(operands, 0), index_at(operands, 2)),
@@ -24,22 +31,32 @@ impl<'a> Checker<'a> {
         }
     }
 
+    /// The newest fact rests on a set.
+    fn rest_on(&mut self, set: Set) {
+        if self.claim == 1 {
+            self.branch.set_from(self.branch.facts.len() - 1, set);
+        }
+    }
+
     fn sum(&mut self, operands: &[u8]) -> Checked {
         let mut sums = [0; 1 + MOST_COLUMNS];
         let sums = &mut sums[..self.branch.width];
-        let mut equations = true;
+        let (mut equations, mut set) = (true, Set::default());
         for (fact, multiplier) in operands[4..].as_chunks().0.iter().map(pair) {
             let (relation, row) = self.branch.arithmetic(fact).ok_or(8u64)?;
             demand((relation == AtLeast && multiplier >= 1) || (relation == Equal && multiplier != 0), 8)?;
             equations &= relation == Equal;
             add_times(sums, multiplier, row);
+            set = set.with(self.branch.set_of(fact));
         }
         let divisor = i64::from(i32_at(operands, 0));
         let relation = if equations && sums[0] % divisor == 0 { Equal } else { AtLeast };
         // A refusal ends the check, so the row may stand before it is tried.
         let room = self.branch.has_room(1);
         divide(sums, divisor, self.branch.add_row(relation))?;
-        demand(room, 10)
+        demand(room, 10)?;
+        self.rest_on(set);
+        Ok(())
     }
 
     fn is_false(&self, fact: usize) -> bool {
@@ -47,15 +64,18 @@ impl<'a> Checker<'a> {
         !relation.holds(i64::from(row[0])) && row[1..].iter().fold(0, |bits, coefficient| bits | coefficient) == 0
     }
 
-    /// Closes the branch if the rule fits, and begins the next child of the last pending split.
-    fn close(&mut self, fits: bool) -> Checked {
+    /// Closes the branch if the rule fits, which rests on a set, and begins the next child of the last pending split.
+    fn close(&mut self, fits: bool, set: Set) -> Checked {
         demand(fits && self.claim == 1, 8)?;
+        self.core = self.core.with(set);
         let Some(mut split) = self.pending.pop() else {
             self.closed = true;
             return Ok(());
         };
+        let (first, set) = (split.mark.facts, self.branch.set_of(split.mark.facts));
         self.branch.cut_back(&split.mark);
         self.begin(split.body, split.next);
+        self.branch.set_from(first, set);
         split.next += 1;
         if split.next < split.children {
             self.pending.push(split);
@@ -74,6 +94,7 @@ impl<'a> Checker<'a> {
         };
         let (x, y) = (place(x), place(y));
         self.add_difference(Equal, x, y);
+        self.rest_on(self.branch.same);
         Ok(())
     }
 
@@ -86,6 +107,7 @@ impl<'a> Checker<'a> {
             7 => self.add_one(Equal, self.question.len_place(x), 1, -(text.len() as i32 / 4)),
             _ => self.add_one(Equal, self.question.code_place(x), 1, -code_of(text)),
         }
+        self.rest_on(self.branch.same);
         Ok(())
     }
 
@@ -100,6 +122,8 @@ impl<'a> Checker<'a> {
         demand(opposite, 8)?;
         demand(branch.has_room(1), 10)?;
         branch.add_copy(Equal, first);
+        let set = branch.set_of(first).with(branch.set_of(second));
+        self.rest_on(set);
         Ok(())
     }
 }

@@ -10,8 +10,9 @@ use compare::random::Random;
 use compare::report::{self, hex, refused, Report};
 use show::account::{account, Account, State};
 use show::json::json;
+use show::summary::TOOK_PART;
 use show::text::{text, SAYS, WIDTH};
-use show::verdict::{verdict, Verdict};
+use show::verdict::{verdict, Verdict, NONE};
 use std::fs;
 use std::path::{Path, PathBuf};
 use std::process::ExitCode;
@@ -20,7 +21,7 @@ use std::process::ExitCode;
 const GROWN: u64 = 1_000;
 
 /// The least number of tickets whose whole output is on file.
-const LEAST_HELD: usize = 14;
+const LEAST_HELD: usize = 15;
 
 /// An account with its text and JSON.
 struct Shown {
@@ -103,15 +104,18 @@ fn examine(name: &str, ticket: &[u8], report: &mut Report) {
 /// What must hold of an output, and what is wrong where it does not.
 fn faults(shown: &Shown) -> Vec<(bool, &'static str)> {
     let said = shown.verdict.words();
+    let core: Vec<String> = shown.verdict.core.iter().map(usize::to_string).collect();
     vec![
         (shown.verdict.agrees(&shown.account.outcome), "the account and the library differ"),
         (is_explained(shown), "the record refused is not the library's, or is not explained"),
         (printed_refusals(&shown.text) == due_refusals(&shown.verdict), "the refusal printed is not the library's"),
         (shown.text.lines().last() == Some(&format!("{SAYS}{said}")), "the last line is not the library's verdict"),
         (shown.text.lines().all(|line| line.chars().count() <= WIDTH), "a line is too long"),
+        (printed_core(&shown.text) == due_core(shown), "the constraints that took part are not the library's"),
         (is_complete(&shown.account), "some bytes are not shown"),
         (valid::is_json(&shown.json), "the JSON is not valid"),
         (shown.json.contains(&format!("\"verdict\":{{\"text\":\"{said}\"")), "the JSON has not the library's verdict"),
+        (shown.json.ends_with(&format!("\"core\":[{}]}}}}\n", core.join(","))), "the JSON has not the library's core"),
     ]
 }
 
@@ -149,6 +153,28 @@ fn printed_refusals(text: &str) -> Vec<String> {
 
 fn due_refusals(verdict: &Verdict) -> Vec<String> {
     verdict.words().strip_prefix("refused ").map(str::to_string).into_iter().collect()
+}
+
+/// The constraints in a text that took part, each with its record; nothing where no line names them.
+fn printed_core(text: &str) -> Option<Vec<(usize, usize)>> {
+    let start = text.find(TOOK_PART)? + TOOK_PART.len();
+    let mut core = Vec::new();
+    for name in text[start..text.rfind(SAYS)?].split([',', ';']).filter(|name| name.contains("constraint")) {
+        let numbers: Vec<usize> = name.split_whitespace().filter_map(|word| word.parse().ok()).collect();
+        let half = numbers.len() / 2;
+        if half > 0 {
+            core.extend((numbers[0]..=numbers[half - 1]).zip(numbers[half]..=numbers[2 * half - 1]));
+        }
+    }
+    Some(core)
+}
+
+/// The constraints that took part, where the library accepts the ticket as without a solution.
+fn due_core(shown: &Shown) -> Option<Vec<(usize, usize)>> {
+    let constraints = shown.account.entries.iter().filter(|entry| matches!(entry.kind, Some(3 | 4)));
+    let numbered = constraints.enumerate().map(|(constraint, entry)| (constraint, entry.number));
+    let core = numbered.filter(|(constraint, _)| shown.verdict.core.contains(constraint)).collect();
+    (shown.verdict.reply == NONE).then_some(core)
 }
 
 /// The entries stand one behind another and reach from the first byte to the last.

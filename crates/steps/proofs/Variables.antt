@@ -1,22 +1,25 @@
--- Tests on the variables of a step, read one after another from the bytes.
-use Prim.Native.Nat.{ℕ, zero, suc, _+_, _*_, _-_, _≤_, _<_}
+-- The variables of a step, read one after another from the bytes.
+use Prim.Native.Nat.{ℕ, zero, suc, _+_, _*_, _-_, _/_, _≤_, _<_}
 use native.Mathlib.Numerals.{add-one}
 use native.Mathlib.Omega.{arith}
 use mathlib.Core.Path.{_≡_, refl, sym, _∙_, ap, subst}
 use mathlib.Core.Bool.{true, false, not, _&&_, _||_}
 use mathlib.Core.List.{List, [], _∷_}
 use borrow.Author.Tests.{eq-eqb, ne-eqb, ltb-true, not-true}
-use lib.ListN.{getD}
+use lib.ListN.{length, getD}
 use lib.Dec.{ltb}
+use lib.IntN.{ℤ}
 use Rattle.lists.proofs.Lists.{down}
 use Rattle.lists.proofs.Tests.{and-both}
-use Rattle.calculus.specs.Facts.{Question, Branch}
-use Rattle.calculus.specs.Children.{pairChildren}
-use Rattle.calculus.specs.Rules.{guard, among, distinct, neighbours, sameLength, lastChild, cardChildren, statesEqual}
+use Rattle.calculus.specs.Rules.{among, distinct}
 use Rattle.format.specs.Fields.{u16, u16s}
-use Rattle.format.specs.StepForms.{areVariables}
+use Rattle.format.specs.StepForms.{card, formFor, rule, areVariables, operandsInRange}
 use Rattle.format.proofs.Faults.{not-both}
-use Rattle.format.proofs.Fields.{field-at, length-u16s}
+use Rattle.format.proofs.Fields.{field-at}
+use Rattle.question.specs.declared.Progress.{Progress}
+use Rattle.steps.specs.Ready.{Ready}
+use Rattle.steps.proofs.Table.{at-most}
+use Rattle.steps.proofs.Bodies.{fitting, long, ranged}
 
 -- the first of them and the others
 pub u16s-more : (b : List ℕ) (i left : ℕ) → 0 < left → u16s b i left ≡ u16 b i ∷ u16s b (i + 2) (left - 1)
@@ -64,7 +67,8 @@ distinct-parts b i others e =
     and-both (not (among (u16 b i) (u16s b (i + 2) others))) (distinct (u16s b (i + 2) others)) (sym (ap distinct (u16s-one-more b i others)) ∙ e) in
     (not-true _ p, q)
 
-recount : (others : ℕ) → 0 < others → others - 1 + 1 ≡ others
+-- one fewer, and one
+pub recount : (others : ℕ) → 0 < others → others - 1 + 1 ≡ others
 recount others h = omega arith
 
 pub distinct-rest : (b : List ℕ) (i others : ℕ) → 0 < others → distinct (u16s b i (others + 1)) ≡ true → distinct (u16s b (i + 2) (others - 1 + 1)) ≡ true
@@ -110,42 +114,18 @@ below-rest b p i others h e =
     let q : others + 1 - 1 ≡ others - 1 + 1 = omega arith in
     subst (λ n. areVariables p (u16s b (i + 2) n) ≡ true) q (below-others b p i (others + 1) (omega arith) e)
 
--- ---- neighbours
+-- ---- those of Card
 
-module _ (u : Question) (br : Branch) where
-  states-same : (x y : ℕ) → sameLength u br x y ≡ statesEqual br (u .q + x) (u .q + y)
-  unfolding statesEqual
-  states-same x y = refl
-
-  neighbours-more : (b : List ℕ) (i others : ℕ) → 0 < others
-      → neighbours u br (u16 b i) (u16s b (i + 2) others)
-      ≡ (statesEqual br (u .q + u16 b i) (u .q + u16 b (i + 2)) && neighbours u br (u16 b (i + 2)) (u16s b (i + 2 + 2) (others - 1)))
-  neighbours-more b i others h =
-      ap (neighbours u br (u16 b i)) (u16s-more b (i + 2) others h)
-      ∙ ap (λ t. t && neighbours u br (u16 b (i + 2)) (u16s b (i + 2 + 2) (others - 1))) (states-same (u16 b i) (u16 b (i + 2)))
-
-  pub neighbours-no : (b : List ℕ) (i others : ℕ)
-      → 0 < others
-      → statesEqual br (u .q + u16 b i) (u .q + u16 b (i + 2)) ≡ false
-      → neighbours u br (u16 b i) (u16s b (i + 2) others) ≡ false
-  neighbours-no b i others h e = neighbours-more b i others h ∙ rw e
-
-  pub neighbours-yes : (b : List ℕ) (i others : ℕ) → 0 < others → statesEqual br (u .q + u16 b i) (u .q + u16 b (i + 2)) ≡ true
-      → neighbours u br (u16 b i) (u16s b (i + 2) others) ≡ neighbours u br (u16 b (i + 2)) (u16s b (i + 2 + 2) (others - 1))
-  neighbours-yes b i others h e = neighbours-more b i others h ∙ rw e
-
-  pub neighbours-done : (b : List ℕ) (i others : ℕ) → others ≤ 0 → neighbours u br (u16 b i) (u16s b (i + 2) others) ≡ true
-  neighbours-done b i others h = ap (neighbours u br (u16 b i)) (u16s-done b (i + 2) others h)
-
-  -- Card's children, of two variables or more
-  pub card-children : (b : List ℕ) (at m : ℕ) → 2 ≤ m
-      → cardChildren u br (u16s b at m)
-      ≡ guard (distinct (u16s b at m) && neighbours u br (u16 b at) (u16s b (at + 2) (m - 1))) (pairChildren (u16s b at m) (lastChild u (u16 b at) m))
-  unfolding u16s
-  card-children b at zero h = absurd (omega arith)
-  card-children b at (suc zero) h = absurd (omega arith)
-  card-children b at (suc (suc m)) h =
-      let e : suc (suc m) - 1 ≡ suc m = omega arith in
-      rw e (ap (λ n. guard (distinct (u16s b at (suc (suc m))) && neighbours u br (u16 b at) (u16s b (at + 2) (suc m)))
-      (pairChildren (u16s b at (suc (suc m))) (lastChild u (u16 b at) n)))
-      (length-u16s b at (suc (suc m))))
+module _ {b : List ℕ} {s : Progress} {body m : ℕ} {w : List ℤ} {count : ℕ} (h : Ready b s body m w count) where
+  pub card-operands : card ≡ rule b body
+      → (2 ≤ (m - 4) / 2)
+      × ((m - 4) / 2 ≤ 16)
+      × (body + 4 + 2 * ((m - 4) / 2) ≤ length b)
+      × (areVariables (s .p) (u16s b (body + 4) ((m - 4) / 2)) ≡ true)
+      × (4 ≤ m)
+  unfolding operandsInRange
+  card-operands e =
+      let l : 8 ≤ m = long h card e in
+      let most : (m - 8) / 2 ≤ 14 = at-most (formFor card) m (fitting h card e) in
+      let whole = h .formed .within in
+      (omega arith, omega arith, omega arith, ranged h card e, omega arith)
