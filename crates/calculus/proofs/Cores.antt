@@ -5,7 +5,7 @@ use mathlib.Core.Path.{_≡_, refl, sym, _∙_, ap, ap₂, subst}
 use mathlib.Core.Logic.{_⊎_, inl, inr}
 use mathlib.Core.Bool.{Bool, true, false, cond, and-true, false≢true}
 use mathlib.Core.Option.{Option, none, some, Option·getD}
-use mathlib.Core.List.{List, [], _∷_, _++_, map}
+use mathlib.Core.List.{List, [], _∷_, _++_, map, map-append, map-map, map-id}
 use lib.ListN.{length, getD}
 use lib.IntN.{ℤ, pos}
 use lib.Signed.{_≤ℤ_, ≤ℤ-refl}
@@ -31,12 +31,10 @@ use Rattle.calculus.proofs.Kept.{within, within-both, within-itself, no
 -- ---- a walk over facts with sets, and over the facts alone
 
 pub facts-append : (r s : Rested) → facts (r ++ s) ≡ facts r ++ facts s
-facts-append [] s = refl
-facts-append (f ∷ r) s = ap (λ l. f .0 ∷ l) (facts-append r s)
+facts-append r s = map-append (λ (f : Fact × Set). f .0) r s
 
 pub facts-resting : (s : Set) (c : List Fact) → facts (resting s c) ≡ c
-facts-resting s [] = refl
-facts-resting s (f ∷ c) = ap (λ l. f ∷ l) (facts-resting s c)
+facts-resting s c = map-map (λ (f : Fact × Set). f .0) (λ (f : Fact). (f, s)) c ∙ map-id c
 
 pub facts-rooted : (k : ℕ) (b : Branch) → facts (rootedFrom k b) ≡ b
 unfolding rootedFrom
@@ -67,10 +65,6 @@ erase-enter r (c ∷ cs) ss = ap₂ (λ (b : Branch) (p : List (Waiting Branch (
 
 -- ---- an assignment that meets what a set keeps
 
-keep-append : (c : Set) (r s : Rested) → keep c (r ++ s) ≡ keep c r ++ keep c s
-keep-append c [] s = refl
-keep-append c (f ∷ r) s = ap (λ l. keepOne c f ∷ l) (keep-append c r s)
-
 module _ (u : Question) (c : Set) (a : Assignment) where
   abbrev Kept : Rested → Type 0
   Kept r = Met u a (keep c r)
@@ -88,7 +82,7 @@ module _ (u : Question) (c : Set) (a : Assignment) where
   Alive closed = ⊥
 
   both-kept : (r s : Rested) → Kept r → Kept s → Kept (r ++ s)
-  both-kept r s m n = subst (Met u a) (sym (keep-append c r s)) (all-append (Meets u a) (keep c r) (keep c s) m n)
+  both-kept r s m n = subst (Met u a) (sym (map-append (keepOne c) r s)) (all-append (Meets u a) (keep c r) (keep c s) m n)
 
   wait-hopes : (r : Rested) (cs : List Rested) (ss : List (Waiting Rested Rested)) → (Kept r × KeptSome cs) ⊎ Any Hopes ss → Any Hopes (wait r cs ss)
   wait-hopes r [] ss (inl (m, h)) = absurd h

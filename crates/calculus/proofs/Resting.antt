@@ -3,15 +3,16 @@ use Prim.Native.Nat.{ℕ, zero, suc, _≤_, _<_}
 use native.Mathlib.Omega.{arith}
 use mathlib.Core.Path.{_≡_, refl, sym, _∙_, ap, ap₂}
 use mathlib.Core.Option.{some, Option·getD}
-use mathlib.Core.List.{List, [], _∷_, _++_, map}
-use lib.ListN.{length, take, length-append, length-map}
-use lib.Seq.{take-append-seam, take-append-le, take-take, length-take-le, take-length}
+use mathlib.Core.List.{List, [], _∷_, _++_, map, map-append}
+use lib.ListN.{length, getD, take, length-append, length-map, List·getD-append}
+use lib.Seq.{getD-take, take-append-seam, take-append-le, take-take, length-take-le, take-length}
 use Rattle.lists.specs.Lists.{All}
+use Rattle.lists.proofs.Lists.{map-take}
 use Rattle.calculus.specs.Facts.{Question, Fact, Branch}
 use Rattle.calculus.specs.Steps.{Step}
 use Rattle.calculus.specs.Rules.{children}
 use Rattle.calculus.specs.Walk.{Waiting, Walk, working, closed, wait, enter}
-use Rattle.calculus.specs.Cores.{Set, union, Rested, facts, resting, setAt, restsOn, ofClosing, enterResting, coreFrom}
+use Rattle.calculus.specs.Cores.{Set, union, Rested, facts, sets, resting, setAt, restsOn, ofClosing, enterResting, coreFrom}
 use Rattle.calculus.proofs.Walks.{Pending}
 use Rattle.calculus.proofs.Shapes.{OneToThree}
 use Rattle.calculus.proofs.Cores.{facts-append, facts-resting}
@@ -74,16 +75,12 @@ restedNext r s [] [] = r
 -- ---- sets by their places
 
 pub set-taken : (r : Rested) (m k : ℕ) → k < m → setAt (take m r) k ≡ setAt r k
-set-taken [] zero k h = refl
-set-taken [] (suc m) k h = refl
-set-taken (f ∷ r) zero k h = absurd (omega arith)
-set-taken (f ∷ r) (suc m) zero h = refl
-set-taken (f ∷ r) (suc m) (suc k) h = set-taken r m k (omega arith)
+set-taken r m k h = ap (λ l. getD l k []) (map-take (λ (f : Fact × Set). f .1) m r) ∙ getD-take m (sets r) k [] h
 
 pub set-before : (r q : Rested) (k : ℕ) → k < length r → setAt (r ++ q) k ≡ setAt r k
-set-before [] q k h = absurd (omega arith)
-set-before (f ∷ r) q zero h = refl
-set-before (f ∷ r) q (suc k) h = set-before r q k (omega arith)
+set-before r q k h =
+    ap (λ l. getD l k []) (map-append (λ (f : Fact × Set). f .1) r q)
+    ∙ List·getD-append (sets r) (sets q) [] k (omega (arith, length-map r (λ (f : Fact × Set). f .1)))
 
 set-resting : (s : Set) (c : List Fact) (k : ℕ) → k < length c → setAt (resting s c) k ≡ s
 set-resting s [] k h = absurd (omega arith)
@@ -155,9 +152,7 @@ standing (working b ps) = b
 standing closed = []
 
 pub facts-taken : (m : ℕ) (r : Rested) → facts (take m r) ≡ take m (facts r)
-facts-taken zero r = refl
-facts-taken (suc m) [] = refl
-facts-taken (suc m) (f ∷ r) = ap (λ l. f .0 ∷ l) (facts-taken m r)
+facts-taken m r = map-take (λ (f : Fact × Set). f .0) m r
 
 pub facts-next : (r : Rested) (s : Set) (b : Branch) (p : Waiting Branch (List Fact)) (ps : Pending) → facts r ≡ b → Grown b (p ∷ ps)
     → facts (restedNext r s [] (p ∷ ps)) ≡ p .mark ++ p .child

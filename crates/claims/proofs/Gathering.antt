@@ -46,7 +46,7 @@ use Rattle.derivation.proofs.Closing.{others, on-top, rooted-mark, mark-behind}
 use Rattle.cores.specs.declared.Words.{Words}
 use Rattle.cores.specs.Words.{wordsOf, unionOf, unionsOf}
 use Rattle.cores.specs.Sets.{wordsAt, Carries, Stands, Filled}
-use Rattle.cores.proofs.Laws.{union-assoc, union-nil, words-union}
+use Rattle.cores.proofs.Resting.{Gathers, gathers-all, gathers-more, gathers-done}
 use Rattle.claims.specs.declared.Grounds.{Grounds}
 use Rattle.derivation.specs.declared.Action.{Action}
 use Rattle.derivation.specs.declared.Action.the-variants.{Closes, Extends, Splits as SplitsUp}
@@ -85,17 +85,19 @@ module _ (b : List ℕ) (s : Progress) where
   abbrev pending : List ℤ → code.Branch → List (Waiting Branch (List Fact))
   pending w c = waitings b u (br w c) (stack c)
 
+  -- what the steps from a position on give to the core, where the facts of the branch have their sets
+  abbrev leftFrom : Rested → List ℤ → code.Branch → ℕ → Set
+  leftFrom r w c i = coreFrom u (restedWalk r (working (br w c) (pending w c))) (stepsFrom b i)
+
   -- the facts of the branch with their sets, and what was gathered of the core; whole is the core of all steps
   pub record Gathered (whole : Set) (w : List ℤ) (v : List ℕ) (c : code.Branch) (known : Known) (grounds : Grounds) (i : ℕ) : Type 0 where
     pub rested : Rested
-    pub gathered : Set
     pub stands : Stands w v (c .count) rested
     pub rooted : take (s .constraints) rested ≡ rootedFrom 0 (u .constraints)
     pub covers : grounds .unions ≡ unionsOf (take (known .upto) rested)
     pub roots : grounds .roots ≡ unionsOf (rootedFrom 0 (u .constraints))
     pub grown : Grown (br w c) (pending w c)
-    pub core-is : grounds .core ≡ wordsOf gathered
-    pub left : union gathered (coreFrom u (restedWalk rested (working (br w c) (pending w c))) (stepsFrom b i)) ≡ whole
+    pub core : Gathers (grounds .core) (leftFrom rested w c i) whole
 
   -- ---- the start
 
@@ -106,7 +108,7 @@ module _ (b : List ℕ) (s : Progress) where
       → known .upto ≡ s .constraints
       → FirstGrounds NoSolution w v (s .constraints) grounds
       → Gathered (coreIn u (stepsFrom b at)) w v c known grounds at
-  unfolding FirstGrounds Grown waitings union
+  unfolding FirstGrounds Grown waitings
   gathered-first w v c known grounds at n none e up (h, g, f, z) =
       let r : Rested = rootedFrom 0 (branchOf w (s .constraints)) in
       let long : length r ≡ s .constraints = h .carried .all in
@@ -115,16 +117,14 @@ module _ (b : List ℕ) (s : Progress) where
       let no-waiting : pending w c ≡ [] = ap (waitings b u (br w c)) none in
       record {
         rested = r;
-        gathered = [];
         stands = subst (λ (k : ℕ). Stands w v k r) (sym n) h;
         rooted = all ∙ same;
         covers = g ∙ ap unionsOf (sym (ap (λ (k : ℕ). take k r) up ∙ all));
         roots = f ∙ ap unionsOf same;
         grown = subst (Grown (br w c)) (sym no-waiting) tt;
-        core-is = z;
-        left =
-            ap (λ (ps : List (Waiting Branch (List Fact))). coreFrom u (restedWalk r (working (br w c) ps)) (stepsFrom b at)) no-waiting
-            ∙ ap (λ (x : Rested). coreFrom u (working x []) (stepsFrom b at)) same;
+        core = gathers-all (grounds .core) (leftFrom r w c at) (coreIn u (stepsFrom b at)) z
+            (ap (λ (ps : List (Waiting Branch (List Fact))). coreFrom u (restedWalk r (working (br w c) ps)) (stepsFrom b at)) no-waiting
+            ∙ ap (λ (x : Rested). coreFrom u (working x []) (stepsFrom b at)) same);
       }
 
   -- ---- the last pending split
@@ -164,13 +164,11 @@ module _ (b : List ℕ) (s : Progress) where
       abbrev restedBehind : Rested
       restedBehind = restedNext (g .rested) restSet cs (pending w c)
 
-      left-stepped : union (union (g .gathered) (ofClosing cs restSet)) (coreFrom u (restedWalk restedBehind behind) (stepsFrom b (next b i))) ≡ whole
+      left-stepped : leftFrom (g .rested) w c i ≡ union (ofClosing cs restSet) (coreFrom u (restedWalk restedBehind behind) (stepsFrom b (next b i)))
       unfolding offered
       left-stepped =
-          union-assoc (g .gathered) (ofClosing cs restSet) (coreFrom u (restedWalk restedBehind behind) (stepsFrom b (next b i)))
-          ∙ ap (union (g .gathered)) (sym (core-stepped u (g .rested) (br w c) (pending w c) its (stepsFrom b (next b i)) cs (g .stands .rows) offer adding (g .grown)))
-          ∙ ap (λ sts. union (g .gathered) (coreFrom u (restedWalk (g .rested) (working (br w c) (pending w c))) sts)) (sym (steps-next b i there step))
-          ∙ g .left
+          ap (coreFrom u (restedWalk (g .rested) (working (br w c) (pending w c)))) (steps-next b i there step)
+          ∙ core-stepped u (g .rested) (br w c) (pending w c) its (stepsFrom b (next b i)) cs (g .stands .rows) offer adding (g .grown)
 
       grown-behind : GrownIn behind
       grown-behind = enter-grown (br w c) cs (pending w c) adding (g .grown)
@@ -184,10 +182,10 @@ module _ (b : List ℕ) (s : Progress) where
         grown-there : Grown (br x d) (pending x d)
         grown-there = subst GrownIn (sym stands-on) grown-behind
 
-        left-there : union (union (g .gathered) (ofClosing cs restSet)) (coreFrom u (restedWalk restedBehind (working (br x d) (pending x d))) (stepsFrom b (next b i))) ≡ whole
+        left-there : leftFrom (g .rested) w c i ≡ union (ofClosing cs restSet) (leftFrom restedBehind x d (next b i))
         left-there =
-            ap (λ (k : Walk Branch (List Fact)). union (union (g .gathered) (ofClosing cs restSet)) (coreFrom u (restedWalk restedBehind k) (stepsFrom b (next b i)))) stands-on
-            ∙ left-stepped
+            left-stepped
+            ∙ ap (λ (k : Walk Branch (List Fact)). union (ofClosing cs restSet) (coreFrom u (restedWalk restedBehind k) (stepsFrom b (next b i)))) (sym stands-on)
 
     long : length (g .rested) ≡ c .count
     long = g .stands .carried .all
@@ -215,13 +213,13 @@ module _ (b : List ℕ) (s : Progress) where
         → known .upto ≤ c .count
         → s .constraints ≤ c .count
         → Gathered whole x v' d known grounds (next b i)
+    unfolding union
     gathered-more child rest offer x d state set e v' f up root =
         let r : Rested = g .rested in
         let (stood, n) = more-there child rest offer x d state in
         let all : take (c .count) r ≡ r = ap (λ (k : ℕ). take k r) (sym long) ∙ take-length r in
         record {
           rested = r ++ resting restSet child;
-          gathered = g .gathered;
           stands = record {
             rows = facts-append r (resting restSet child) ∙ ap₂ _++_ (g .stands .rows) (facts-resting restSet child) ∙ sym stood;
             carried = subst (λ (q : Rested). Carries v' (d .count) (q ++ resting restSet child)) all
@@ -231,29 +229,25 @@ module _ (b : List ℕ) (s : Progress) where
           covers = g .covers ∙ ap unionsOf (sym (take-append-le (known .upto) r (resting restSet child) (omega (arith, long))));
           roots = g .roots;
           grown = grown-there (child ∷ rest) offer x d state;
-          core-is = g .core-is;
-          left =
-              ap (λ (q : Set). union q (coreFrom u (restedWalk (r ++ resting restSet child) (working (br x d) (pending x d))) (stepsFrom b (next b i))))
-              (sym (union-nil (g .gathered)))
-              ∙ left-there (child ∷ rest) offer x d state;
+          core = subst (λ (l : Set). Gathers (grounds .core) l whole) (left-there (child ∷ rest) offer x d state) (g .core);
         }
 
     module _ (offer : offeredIn b u (br w c) i ≡ some []) (set : Words) (e : set ≡ wordsOf restSet) where
       -- the branch closes, and what it rests on is gathered
-      gathered-set : unionOf (grounds .core) set ≡ wordsOf (union (g .gathered) restSet)
-      gathered-set = ap₂ unionOf (g .core-is) e ∙ sym (words-union (g .gathered) restSet)
+      gathered-set : (next-core : Words) (behind : Set) → next-core ≡ unionOf (grounds .core) set → leftFrom (g .rested) w c i ≡ union restSet behind
+          → Gathers next-core behind whole
+      gathered-set next-core behind n l = gathers-more (grounds .core) set next-core (leftFrom (g .rested) w c i) restSet behind whole l e n (g .core)
 
       -- it was the last
       pub gathered-all : stack c ≡ [] → unionOf (grounds .core) set ≡ wordsOf whole
       unfolding waitings
       gathered-all none =
-          let no-split : pending w c ≡ [] = ap (waitings b u (br w c)) none in
-          gathered-set
-          ∙ ap wordsOf (sym (union-nil (union (g .gathered) restSet))
-          ∙ ap (union (union (g .gathered) restSet)) (sym (core-closed u (stepsFrom b (next b i))))
-          ∙ sym (ap (λ (ps : List (Waiting Branch (List Fact))).
-          union (union (g .gathered) restSet) (coreFrom u (restedWalk (restedNext (g .rested) restSet [] ps) (enter _++_ (br w c) [] ps)) (stepsFrom b (next b i)))) no-split)
-          ∙ left-stepped [] offer)
+          let last : Set = coreFrom u (restedWalk (restedBehind [] offer) (behind [] offer)) (stepsFrom b (next b i)) in
+          let nothing-left : last ≡ [] =
+          ap (λ (ps : List (Waiting Branch (List Fact))).
+          coreFrom u (restedWalk (restedNext (g .rested) restSet [] ps) (enter _++_ (br w c) [] ps)) (stepsFrom b (next b i))) (ap (waitings b u (br w c)) none)
+          ∙ core-closed u (stepsFrom b (next b i)) in
+          gathers-done (unionOf (grounds .core) set) last whole nothing-left (gathered-set (unionOf (grounds .core) set) last refl (left-stepped [] offer))
 
       -- the next child of the last pending split begins, on what is left of the branch at its mark; what it rests on stands there
       module _ (p : Waiting Branch (List Fact)) (ps : List (Waiting Branch (List Fact))) (top : pending w c ≡ p ∷ ps) where
@@ -282,7 +276,7 @@ module _ (b : List ℕ) (s : Progress) where
 
         abbrev KeptThere : Known → Grounds → Type 0
         KeptThere f x =
-            (x .unions ≡ unionsOf (take (f .upto) cut)) × (x .roots ≡ unionsOf (rootedFrom 0 (u .constraints))) × (x .core ≡ wordsOf (union (g .gathered) restSet))
+            (x .unions ≡ unionsOf (take (f .upto) cut)) × (x .roots ≡ unionsOf (rootedFrom 0 (u .constraints))) × (x .core ≡ unionOf (grounds .core) set)
 
         kept-there : (first : Known) → first .upto ≡ s .constraints → s .constraints ≤ m → KeptThere (setBack known first m) back
         kept-there first up root = go (leb (known .upto) m) refl
@@ -290,9 +284,9 @@ module _ (b : List ℕ) (s : Progress) where
             go : (t : Bool) → leb (known .upto) m ≡ t
                 → KeptThere (cond t known first)
                 (cond t (withClosing grounds set) (record { unions = grounds .roots; roots = grounds .roots; core = unionOf (grounds .core) set }))
-            go true e = (g .covers ∙ ap unionsOf (sym (kept-front (known .upto) (leb-true (known .upto) m e))), g .roots, gathered-set)
+            go true e = (g .covers ∙ ap unionsOf (sym (kept-front (known .upto) (leb-true (known .upto) m e))), g .roots, refl)
             go false e =
-                (g .roots ∙ ap unionsOf (sym (ap (λ (k : ℕ). take k cut) up ∙ kept-front (s .constraints) root ∙ g .rooted)), g .roots, gathered-set)
+                (g .roots ∙ ap unionsOf (sym (ap (λ (k : ℕ). take k cut) up ∙ kept-front (s .constraints) root ∙ g .rooted)), g .roots, refl)
 
         cut-there : (x : List ℤ) (d : code.Branch) → stateOf b u x d ≡ enter _++_ (br w c) [] (pending w c)
             → (br x d ≡ p .mark ++ p .child) × (d .count ≡ m + length (p .child))
@@ -312,7 +306,6 @@ module _ (b : List ℕ) (s : Progress) where
             let (stood, n) = cut-there x d state in
             record {
               rested = cut;
-              gathered = union (g .gathered) restSet;
               stands = record {
                 rows = facts-next (g .rested) restSet (br w c) p ps (g .stands .rows) top-grown ∙ sym stood;
                 carried = carried-next v v' (c .count) m (d .count) (wordsAt v m) (g .rested) (setAt (g .rested) m) (p .child) (g .stands .carried) f
@@ -322,11 +315,10 @@ module _ (b : List ℕ) (s : Progress) where
               covers = kept-there first up root .0;
               roots = kept-there first up root .1;
               grown = grown-there [] offer x d state;
-              core-is = kept-there first up root .2;
-              left =
-                  ap (λ (qs : List (Waiting Branch (List Fact))). union (union (g .gathered) restSet)
-                  (coreFrom u (restedWalk (restedNext (g .rested) restSet [] qs) (working (br x d) (pending x d))) (stepsFrom b (next b i)))) (sym top)
-                  ∙ left-there [] offer x d state;
+              core = gathered-set (back .core) (leftFrom cut x d (next b i)) (kept-there first up root .2)
+                  (left-there [] offer x d state
+                  ∙ ap (λ (qs : List (Waiting Branch (List Fact))). union restSet
+                  (coreFrom u (restedWalk (restedNext (g .rested) restSet [] qs) (working (br x d) (pending x d))) (stepsFrom b (next b i)))) top);
             }
 
       added-next : (o : InOrder b s w c) (deep : 0 < c .depth) (t : Split) (last : t ≡ latestOf (stack c)) (x : List ℤ) (d : code.Branch)
@@ -357,16 +349,14 @@ module _ (b : List ℕ) (s : Progress) where
       → BroughtUp NoSolution w v (known .upto) (more .upto) grounds brought
       → Gathered whole w v c more brought i
   unfolding BroughtUp
-  gathered-for {known = known} {more = more} {grounds = grounds} {brought = brought} g (grows, few) (h, r, z) = record {
+  gathered-for {whole} {w} {v} {c} {known} {more} {grounds} {brought} {i} g (grows, few) (h, r, z) = record {
     rested = g .rested;
-    gathered = g .gathered;
     stands = g .stands;
     rooted = g .rooted;
     covers = unions-grown (known .upto) (more .upto) (grounds .unions) (brought .unions) grows few h (g .rested) (g .stands) (g .covers);
     roots = r ∙ g .roots;
     grown = g .grown;
-    core-is = z ∙ g .core-is;
-    left = g .left;
+    core = subst (λ (x : Words). Gathers x (leftFrom (g .rested) w c i) whole) (sym z) (g .core);
   }
 
   -- ---- under each claim: under claim 2 no set is kept

@@ -209,6 +209,11 @@ pub map-same : {A : Type 0} (f : A → A) (xs : List A) → All (λ x. f x ≡ x
 map-same f [] h = refl
 map-same f (x ∷ xs) (h, hs) = ap₂ _∷_ h (map-same f xs hs)
 
+pub map-take : {A B : Type 0} (f : A → B) (k : ℕ) (xs : List A) → map f (take k xs) ≡ take k (map f xs)
+map-take f zero xs = refl
+map-take f (suc k) [] = refl
+map-take f (suc k) (x ∷ xs) = ap (λ ys. f x ∷ ys) (map-take f k xs)
+
 -- an element that is there does not depend on the default
 pub getD-any : {A : Type 0} (l : List A) (i : ℕ) (d e : A) → i < length l → getD l i d ≡ getD l i e
 getD-any [] i d e h = absurd (omega arith)
