@@ -45,7 +45,7 @@ library: $(LIBRARY)
 $(LIBRARY): $(SOURCES)
 	@rt staticlib nuldwich >&2
 
-# The example of a host program: target/host TICKET counts needs and checks, target/host TICKET ANSWER judges
+# The example of a host program: target/host TICKET counts needs and checks, target/host TICKET ANSWER judges, target/host same QUESTION QUESTION compares
 host: library
 	@gcc -std=c11 -Wall -Wextra -Werror -O2 -Iinclude examples/host.c $(LIBRARY) -o target/host
 

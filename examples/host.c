@@ -1,9 +1,11 @@
 /* A host program, in C and C++ alike: says how much checking the ticket in a file needs, checks it and, when it brings strings, judges them by the same ticket's
-   question, or, when there is no solution, says which constraints took part. Given the file of an answer too, it judges that answer by the ticket's question instead. */
+   question, or, when there is no solution, says which constraints took part. Given the file of an answer too, it judges that answer by the ticket's question instead.
+   Asked with the word same, it says of the questions in two files whether they are the same. */
 
 #include <inttypes.h>
 #include <stdio.h>
 #include <stdlib.h>
+#include <string.h>
 
 #include "nuldwich.h"
 
@@ -106,6 +108,19 @@ static void check_and_print(const uint8_t *ticket, size_t ticket_len) {
     }
 }
 
+/* Prints whether two questions are the same: whether what is known of the first can be told of the second. */
+static void compare_and_print(const uint8_t *first, size_t first_len, const uint8_t *second, size_t second_len) {
+    nuldwich_sameness sameness = nuldwich_same(first, first_len, second, second_len);
+    if (sameness.number != NULDWICH_DONE) {
+        printf("the %s question is ", sameness.which == NULDWICH_WHICH_FIRST ? "first" : "second");
+        print_refusal(sameness.number, sameness.record);
+    } else if (sameness.same) {
+        printf("the same question: the same strings and integers solve both\n");
+    } else {
+        printf("not the same question\n");
+    }
+}
+
 static void fail(const char *path) {
     perror(path);
     exit(2);
@@ -133,21 +148,34 @@ static uint8_t *read_file(const char *path, size_t *length) {
     return exact != NULL ? exact : bytes;
 }
 
+/* Checks the ticket in a file. */
+static void check_file(const char *path) {
+    size_t ticket_len;
+    uint8_t *ticket = read_file(path, &ticket_len);
+    print_needs(ticket, ticket_len);
+    check_and_print(ticket, ticket_len);
+    free(ticket);
+}
+
+/* Judges an answer by a question, or compares two questions, which stand in two files. */
+static void on_two_files(void (*operation)(const uint8_t *, size_t, const uint8_t *, size_t), const char *first_path, const char *second_path) {
+    size_t first_len, second_len;
+    uint8_t *first = read_file(first_path, &first_len), *second = read_file(second_path, &second_len);
+    operation(first, first_len, second, second_len);
+    free(first);
+    free(second);
+}
+
 int main(int argc, char **argv) {
-    if (argc != 2 && argc != 3) {
-        fprintf(stderr, "usage: %s TICKET [ANSWER]\n", argv[0]);
+    if (argc == 2) {
+        check_file(argv[1]);
+    } else if (argc == 3) {
+        on_two_files(judge_and_print, argv[1], argv[2]);
+    } else if (argc == 4 && strcmp(argv[1], "same") == 0) {
+        on_two_files(compare_and_print, argv[2], argv[3]);
+    } else {
+        fprintf(stderr, "usage: %s TICKET [ANSWER] | same QUESTION QUESTION\n", argv[0]);
         return 2;
     }
-    size_t ticket_len, answer_len;
-    uint8_t *ticket = read_file(argv[1], &ticket_len);
-    if (argc == 2) {
-        print_needs(ticket, ticket_len);
-        check_and_print(ticket, ticket_len);
-    } else {
-        uint8_t *answer = read_file(argv[2], &answer_len);
-        judge_and_print(ticket, ticket_len, answer, answer_len);
-        free(answer);
-    }
-    free(ticket);
     return 0;
 }

@@ -1,4 +1,5 @@
-/* The C interface of nuldwich: checking solver tickets, saying beforehand how much that needs, and judging answers. For C99 and C++11, and later. */
+/* The C interface of nuldwich: checking solver tickets, saying beforehand how much that needs, judging answers, and telling whether two questions are the
+   same. For C99 and C++11, and later. */
 
 #ifndef NULDWICH_H
 #define NULDWICH_H
@@ -15,12 +16,12 @@ extern "C" {
  *
  * always                   a constant keeps its value, a number of a reply its meaning, a field of a struct its name, its type and its place
  * at a new minor version   entries, constants and refusal numbers may come: a caller needs a default for numbers that it does not know.
- *                          What was accepted stays accepted, with the same answer, but the set of a "no solution" may become another one;
- *                          what was refused may be accepted, or get another number
+ *                          What was accepted stays accepted, with the same answer, but the set of a "no solution" may become another one,
+ *                          and questions that were the same may be different; what was refused may be accepted, or get another number
  * at a new major version   structs may get further fields behind those they have, and what is accepted may change
  */
-#define NULDWICH_VERSION 3000
-#define NULDWICH_VERSION_STRING "3.0"
+#define NULDWICH_VERSION 3001
+#define NULDWICH_VERSION_STRING "3.1"
 
 /* The least size of the answer buffer that check is lent, in bytes. It holds every answer. */
 #define NULDWICH_ANSWER_BYTES 4268
@@ -36,9 +37,11 @@ extern "C" {
 #define NULDWICH_CHECK_STACK_BYTES 81920
 #define NULDWICH_JUDGE_STACK_BYTES 8192
 #define NULDWICH_NEED_STACK_BYTES 32768
+#define NULDWICH_SAME_STACK_BYTES 114688
 
 /* Numbers of a reply that are no refusals. */
-#define NULDWICH_DONE 0    /* check: the ticket is accepted; judge: all constraints are met; nuldwich_need: the counts are there */
+#define NULDWICH_DONE 0    /* check: the ticket is accepted; judge: all constraints are met; nuldwich_need: the counts are there;
+                              nuldwich_same: both questions are read, and same is there */
 #define NULDWICH_UNMET 255 /* judge: record names the lowest-numbered constraint that is not met */
 
 /* Claims of an accepted ticket: the reply's record when check returns number 0. */
@@ -48,6 +51,10 @@ extern "C" {
 /* Whose part judge shows. */
 #define NULDWICH_SHOWN_QUESTION 0
 #define NULDWICH_SHOWN_ANSWER 1
+
+/* Which question nuldwich_same refuses. */
+#define NULDWICH_WHICH_FIRST 1
+#define NULDWICH_WHICH_SECOND 2
 
 /* Refusals: other numbers of a reply. nuldwich_refusal says what each means. */
 #define NULDWICH_REFUSED_BUFFER 1
@@ -159,6 +166,29 @@ typedef struct {
 } nuldwich_needs;
 
 /*
+ * What nuldwich_same returns.
+ *
+ * number 0           both questions are read; record and which are 0, and same is 1 where they are the same, 0 where they are not
+ * number 2 to 7, 10  the question that which names, NULDWICH_WHICH_FIRST or NULDWICH_WHICH_SECOND, is refused by judge's rules; record is its first faulty
+ *                    record, and 0 for 2; same is 0. The first question's refusal comes before the second's, and both are read before they are compared
+ *
+ * same 1             the two have the same solutions: that is proved. What meets all constraints of one meets all of the other. A later version may find
+ *                    fewer questions the same, never two that are different here
+ * same 0             nothing is said of solutions: questions with other constraints may have the same ones
+ *
+ * Two questions are the same when n, p and q agree and each has every constraint of the other. Order, repeats, literals that no constraint names, the numbers of
+ * literals, and, in a constraint of kind 3 between two string variables, which of them stands first do not count; literals are compared by their characters. An
+ * arithmetic constraint is first divided by the greatest common divisor of all its coefficients and its constant, unless that is 0; of = 0 and its negation, not of
+ * >= 0, the sign is then turned so that the first coefficient is positive, or the constant where there is none. Constraints of kind 11 are compared field by field.
+ */
+typedef struct {
+    uint64_t number;
+    uint64_t record;
+    uint64_t which;
+    uint64_t same;
+} nuldwich_sameness;
+
+/*
  * No operation keeps a pointer or any state between calls, so all may be called from several threads at once. No pointer is null, also where a
  * length is 0. The answer buffer that check is lent overlaps no byte of the ticket.
  */
@@ -179,7 +209,7 @@ nuldwich_reply check(const uint8_t *ticket, size_t ticket_len, uint8_t *answer, 
  * Judges an answer by a question. Nothing is written.
  *
  * Behind its other constraints a question may have some of kind 11, on case, digits and order. They take the next constraint numbers, and
- * count towards the 128 that a question may have. judge alone takes them: check and nuldwich_need refuse kind 11 with
+ * count towards the 128 that a question may have. judge and nuldwich_same alone take them: check and nuldwich_need refuse kind 11 with
  * NULDWICH_REFUSED_KIND.
  *
  * question, question_len   a question, read up to its first claim or end record: a whole ticket will do
@@ -195,6 +225,14 @@ nuldwich_judgement judge(const uint8_t *question, size_t question_len, const uin
  * ticket, ticket_len   the ticket's bytes
  */
 nuldwich_needs nuldwich_need(const uint8_t *ticket, size_t ticket_len);
+
+/*
+ * Says whether two questions are the same, for a host that keeps what it has been told of questions put before. Nothing is written.
+ *
+ * first, first_len     a question, read as judge reads it, up to its first claim or end record: a whole ticket will do
+ * second, second_len   another one; the two may overlap
+ */
+nuldwich_sameness nuldwich_same(const uint8_t *first, size_t first_len, const uint8_t *second, size_t second_len);
 
 /* check and judge under names with the library's prefix, for callers whose own names should not meet short ones. */
 static inline nuldwich_reply nuldwich_check(const uint8_t *ticket, size_t ticket_len, uint8_t *answer, size_t answer_len) {

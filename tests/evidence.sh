@@ -59,7 +59,7 @@ kind_fits() {
 is_run() {
     local name=${1##*/}
     [[ $1 == tests/vectors/* ]] || return 0
-    [[ $1 == *.question ]] && name=${name%.question}
+    [[ $1 =~ \.(question|first)$ ]] && name=${name%.*}
     grep -q "^$name	" "${1%/*}/expected.tsv"
 }
 

@@ -1,7 +1,7 @@
 #!/usr/bin/env bash
 # Counts what must not become fewer and holds it against the numbers on file in tests/floors.tsv: the vectors of each operation (the lines of
-# expected.tsv at all levels), those of buffer sizes, the starred cases, those of Sums and Joins of equations, those of extended constraints, the computed cores
-# and the edits that must fail. The last line is 'N passed, M failed'.
+# expected.tsv at all levels), those of buffer sizes, the starred cases, those of Sums and Joins of equations, those of extended constraints, the computed cores,
+# the computed normal forms and the edits that must fail. The last line is 'N passed, M failed'.
 set -u
 cd "$(dirname "$0")/.."
 passed=0 failed=0
@@ -34,6 +34,7 @@ while read -r name count; do found[$name]=$count; done < <(
     echo "equations $(cases equationCases equations-hold)"
     echo "extended $(cases extendedCases extended-hold)"
     echo "cores $(grep -c ' = refl$' crates/calculus/proofs/CoreCases.antt)"
+    echo "normal-forms $(grep -c ' = refl$' crates/calculus/proofs/SameCases.antt)"
     echo "must-fail $(find crates -path '*/must-fail/*.edit' | wc -l)"
 )
 

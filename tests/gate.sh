@@ -50,6 +50,7 @@ if [ "$failed" -eq 0 ]; then
     counted "$CARGO_TARGET_DIR/release/compare" judge
     counted "$CARGO_TARGET_DIR/release/compare" check
     counted "$CARGO_TARGET_DIR/release/compare" need
+    counted "$CARGO_TARGET_DIR/release/compare" same
     counted "$CARGO_TARGET_DIR/release/compare" program target/bin/verdict
     single build -p show --features library
     counted "$CARGO_TARGET_DIR/release/show_test"

@@ -1,17 +1,38 @@
 #!/usr/bin/env bash
-# Runs the host program of examples/host.c, whose path is the argument: on every example, some answers and some tickets, against the words on file, on every
-# vector that has a core on file, against the constraints that took part, and under valgrind on vectors whose bytes are cut, damaged or too long, of which a
-# part is shown, or that need the most, where a read outside ticket or answer is an error. The last line is 'N passed, M failed'.
-set -u
+# Runs the host program of examples/host.c, whose path is the argument: on every example, some answers, some tickets and some pairs of questions, against the
+# words on file, on every vector that has a core on file, against the constraints that took part, on every pair of questions on file, against what is expected,
+# and under valgrind on vectors whose bytes are cut, damaged or too long, of which a part is shown, that need the most, or that are compared, where a read outside
+# ticket, question or answer is an error. A run of the host that fails fails the test, whatever it printed. The last line is 'N passed, M failed'.
+set -uo pipefail
 host=$(realpath "$1")
 cd "$(dirname "$0")/.."
 
-# What the host says of every example, of answers and of tickets.
+# What the host says of every example, of answers, of tickets and of pairs of questions.
 if tests/host/words.sh "$host" | diff tests/host/expected.txt -; then
     passed=1 failed=0
 else
     passed=0 failed=1
 fi
+
+# Holds what the host says against the tables: reads lines of a path and what is expected of it. Given are what is held, how many at the least, and the function
+# that puts what the host says of a path in the words of the table.
+hold() {
+    local what=$1 least=$2 said_of=$3 held=0 path expected said
+    while IFS=$'\t' read -r path expected; do
+        said=$("$said_of" "$path") || said="exit status $?"
+        held=$((held + 1))
+        if [ "$said" = "$expected" ]; then
+            passed=$((passed + 1))
+        else
+            echo "$path: the host says '$said', expected is '$expected'"
+            failed=$((failed + 1))
+        fi
+    done
+    if [ "$held" -lt "$least" ]; then
+        echo "$held $what are held, and $least are due"
+        failed=$((failed + 1))
+    fi
+}
 
 # The vectors with a core on file, each with its path and the core: that of the last changed.tsv that names it, else of its own expected.tsv.
 cores() {
@@ -21,29 +42,28 @@ cores() {
         END { for (path in core) print path "\t" core[path] }' | sort
 }
 
-# How many cores are held at the least.
-least_held=50
+# The core is empty where the host names no constraints.
+said_of_core() {
+    "$host" "$1" | awk 'sub(/^constraints that took part:/, "") { core = $0 } END { print "core" core }'
+}
 
-held=0
-while IFS=$'\t' read -r path core; do
-    if words=$("$host" "$path"); then
-        said=$(sed -n 's/^constraints that took part:/core/p' <<<"$words")
-        said=${said:-core}
-    else
-        said="exit status $?"
-    fi
-    held=$((held + 1))
-    if [ "$said" = "$core" ]; then
-        passed=$((passed + 1))
-    else
-        echo "$path: the host says '$said', expected is '$core'"
-        failed=$((failed + 1))
-    fi
-done < <(cores)
-if [ "$held" -lt "$least_held" ]; then
-    echo "$held cores are held, and $least_held are due"
-    failed=$((failed + 1))
-fi
+# The pairs of questions on file, each with its path and what is expected: by the last changed.tsv that names it, else by its own expected.tsv.
+pairs() {
+    find tests/vectors -path '*/same/expected.tsv' -o -name changed.tsv | sort -V | xargs awk -F '\t' '
+        FILENAME ~ /expected\.tsv$/ { path = FILENAME; sub(/expected\.tsv$/, $1, path); expected[path] = $2 }
+        FILENAME ~ /changed\.tsv$/ && $1 == "same" { expected["tests/vectors/" $2] = $3 }
+        END { for (path in expected) print path "\t" expected[path] }' | sort
+}
+
+said_of_pair() {
+    "$host" same "$1.first" "$1.second" | sed -E '
+        s/^the same question: .*/same/
+        s/^not the same question$/different/
+        s/^the (first|second) question is refused at record ([0-9]+): .*\(([0-9]+)\)$/refused \3 at \2 of \1/'
+}
+
+hold cores 50 said_of_core < <(cores)
+hold pairs 80 said_of_pair < <(pairs)
 
 # What the host is run on under valgrind, a line of arguments for each run.
 runs() {
@@ -60,6 +80,9 @@ runs() {
     # Judging: every sixth of the vectors of which some bytes are shown.
     find tests/vectors -path '*/judge/expected.tsv' | sort | xargs awk -F '\t' '
         $3 != "" { path = FILENAME; sub(/expected\.tsv$/, $1, path); if (n++ % 6 == 0) print path ".question", path ".answer" }'
+
+    # Sameness: the pairs that are refused, the largest ones, and every sixth of the others.
+    pairs | awk -F '\t' '$2 ~ /^refused/ || $1 ~ /\/(109|128)-/ || n++ % 6 == 0 { print "same", $1 ".first", $1 ".second" }'
 }
 
 # Reads such lines and runs the host on every core; a line for each run whose memory is in order.

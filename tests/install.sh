@@ -1,6 +1,6 @@
 #!/usr/bin/env bash
 # Installs into an empty folder outside the repository, builds hosts in C and C++ there with the flags that the installed file for pkg-config gives, runs them on
-# the examples, on answers and on tickets against the words on file, holds the header and the program against the library, and uninstalls. The last line is 'N passed, M failed'.
+# the examples, on answers, on tickets and on pairs of questions against the words on file, holds the header and the program against the library, and uninstalls. The last line is 'N passed, M failed'.
 set -u
 cd "$(dirname "$0")/.."
 repository=$PWD
@@ -56,7 +56,7 @@ built() {
     (cd "$folder" && "$@" -Wall -Wextra -Wpedantic -Werror -O2 "$repository/$source" $(flags) -o "$name")
 }
 
-# Builds the host program with a compiler, and compares what it says of the examples, of answers and of tickets.
+# Builds the host program with a compiler, and compares what it says of the examples, of answers, of tickets and of pairs of questions.
 host_says() {
     built host examples/host.c "$@" && tests/host/words.sh "$folder/host" | diff tests/host/expected.txt -
 }

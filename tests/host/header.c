@@ -1,5 +1,6 @@
 /* Holds what include/nuldwich.h says of the library against it: the version, the words for refusals, on the tickets named as arguments the constraints that took
-   part, what judge shows, what nuldwich_need returns beside check, and the stack that a call uses, and who takes kind 11. The last line is 'N passed, M failed'. */
+   part, what judge shows, what nuldwich_need returns beside check, what nuldwich_same returns beside judge and of questions that overlap, and the stack that a call
+   uses, and who takes kind 11. The last line is 'N passed, M failed'. */
 
 #define _XOPEN_SOURCE 700
 
@@ -19,10 +20,11 @@
 
 static uint8_t stack[STACK_BYTES];
 static ucontext_t caller, callee;
-static uint8_t ticket[NULDWICH_TICKET_BYTES + 1], answer[NULDWICH_ANSWER_BYTES];
-static size_t ticket_len, answer_len;
+static uint8_t ticket[NULDWICH_TICKET_BYTES + 1], other[NULDWICH_TICKET_BYTES + 1], answer[NULDWICH_ANSWER_BYTES];
+static size_t ticket_len, other_len, answer_len;
 static nuldwich_reply reply;
 static nuldwich_needs needs;
+static nuldwich_sameness sameness;
 static unsigned passed, failed;
 
 static void count(int good, const char *what) {
@@ -82,6 +84,8 @@ static void run_judge(void) { nuldwich_judge(ticket, ticket_len, answer, answer_
 
 static void run_need(void) { needs = nuldwich_need(ticket, ticket_len); }
 
+static void run_same(void) { sameness = nuldwich_same(ticket, ticket_len, other, other_len); }
+
 /* How many bytes of a painted stack a call changes, down to the lowest. */
 static size_t stack_used(void (*call)(void)) {
     memset(stack, PAINT, STACK_BYTES);
@@ -105,6 +109,12 @@ static size_t answer_length(void) {
     while (answer[start + 4] != 8)
         start += record_length(answer + start);
     return start + 6;
+}
+
+/* Makes the ticket the other question too. */
+static void keep_other(void) {
+    memcpy(other, ticket, ticket_len);
+    other_len = ticket_len;
 }
 
 static void read_ticket(const char *path) {
@@ -267,6 +277,93 @@ static void hold_needs(char **paths) {
     count(all && over, "nuldwich_need was not brought to every number and over the limits, or returned a number that is not its own");
 }
 
+/* What judge says of a question, given no answer: its refusal, or that of the answer. */
+static nuldwich_judgement question_judged(const uint8_t *question, size_t question_len) { return nuldwich_judge(question, question_len, answer, 0); }
+
+/* Whether a judgement refuses the question. */
+static int is_question_refused(nuldwich_judgement judgement) { return judgement.number != NULDWICH_REFUSED_ANSWER_FORM; }
+
+/* Compares the ticket with the other question; met counts by number and question refused. Whether the reply is the first refusal of the two by judge, or says one of
+   two things, of equal bytes that they are the same. */
+static int compared_as_said(unsigned met[3][256]) {
+    nuldwich_judgement first = question_judged(ticket, ticket_len), second = question_judged(other, other_len);
+    run_same();
+    met[sameness.which % 3][sameness.number & 255]++;
+    if (is_question_refused(first) || is_question_refused(second)) {
+        uint64_t which = is_question_refused(first) ? NULDWICH_WHICH_FIRST : NULDWICH_WHICH_SECOND;
+        nuldwich_judgement refused = is_question_refused(first) ? first : second;
+        return sameness.number == refused.number && sameness.record == refused.record && sameness.which == which && sameness.same == 0;
+    }
+    int equal = ticket_len == other_len && memcmp(ticket, other, ticket_len) == 0;
+    return sameness.number == NULDWICH_DONE && sameness.record == 0 && sameness.which == 0 && sameness.same <= 1 && (sameness.same == 1 || !equal);
+}
+
+/* Whether a number is one of nuldwich_same's for the question that it names. */
+static int is_of_same(unsigned which, unsigned number) {
+    return which == 0 ? number == NULDWICH_DONE : (2 <= number && number <= 7) || number == NULDWICH_REFUSED_LIMIT;
+}
+
+/* On every ticket beside the one before it and beside itself, and on the small ones beside themselves with each of their bytes changed. */
+static void hold_sameness(char **paths) {
+    unsigned met[3][256] = {{0}}, said[2] = {0};
+    int good = sizeof(nuldwich_sameness) == 32 && offsetof(nuldwich_sameness, which) == 16 && offsetof(nuldwich_sameness, same) == 24, all = 1;
+    for (other_len = 0; *paths != NULL; paths++) {
+        read_ticket(*paths);
+        good &= compared_as_said(met);
+        keep_other();
+        good &= compared_as_said(met);
+        for (size_t at = 0; ticket_len <= SMALL_TICKET && at < ticket_len; at++) {
+            ticket[at] ^= 1;
+            good &= compared_as_said(met);
+            said[sameness.same & 1] += sameness.number == NULDWICH_DONE;
+            ticket[at] ^= 1;
+        }
+    }
+    for (unsigned which = 0; which < 3; which++)
+        for (unsigned number = 0; number < 256; number++)
+            all &= (met[which][number] > 0) == is_of_same(which, number);
+    count(good, "nuldwich_same returns another thing than is said");
+    count(all && said[0] && said[1], "nuldwich_same was not brought to every reply, or returned a number that is not its own");
+}
+
+static int is_equal(nuldwich_sameness one, nuldwich_sameness another) {
+    return one.number == another.number && one.record == another.record && one.which == another.which && one.same == another.same;
+}
+
+/* Whether questions that overlap, all of some bytes and those from a place on, get the reply of separate copies, in either order; met counts the replies by the
+   question refused, said those without a refusal. */
+static int overlap_as_said(const uint8_t *bytes, size_t length, size_t from, unsigned met[3], unsigned said[2]) {
+    static uint8_t apart[sizeof ticket + sizeof other];
+    const uint8_t *inner = bytes + from;
+    size_t inner_len = length - from;
+    memcpy(apart, inner, inner_len);
+    nuldwich_sameness ahead = nuldwich_same(bytes, length, apart, inner_len), behind = nuldwich_same(apart, inner_len, bytes, length);
+    met[ahead.which % 3]++;
+    said[ahead.same & 1] += ahead.number == NULDWICH_DONE && from > 0;
+    return is_equal(nuldwich_same(bytes, length, inner, inner_len), ahead) && is_equal(nuldwich_same(inner, inner_len, bytes, length), behind);
+}
+
+/* On every ticket twice in the same bytes, and with the one before it or itself behind it, where what follows a question's end is not read; on the small ones also
+   from each of their bytes on. */
+static void hold_overlap(char **paths) {
+    static uint8_t joined[sizeof ticket + sizeof other];
+    unsigned met[3] = {0}, said[2] = {0};
+    int good = 1;
+    for (other_len = 0; *paths != NULL; paths++) {
+        read_ticket(*paths);
+        for (size_t from = 0; from == 0 || (ticket_len <= SMALL_TICKET && from <= ticket_len); from++)
+            good &= overlap_as_said(ticket, ticket_len, from, met, said);
+        memcpy(joined, ticket, ticket_len);
+        for (int itself = 0; itself < 2; itself++) {
+            memcpy(joined + ticket_len, other, other_len);
+            good &= overlap_as_said(joined, ticket_len + other_len, ticket_len, met, said);
+            keep_other();
+        }
+    }
+    count(good, "nuldwich_same replies otherwise where two questions overlap");
+    count(met[NULDWICH_WHICH_FIRST] && met[NULDWICH_WHICH_SECOND] && said[0] && said[1], "nuldwich_same was not brought to every reply on questions that overlap");
+}
+
 /* A question with a constraint of kind 11 for each function, and strings and an integer that meet it. */
 static void pose_extended(void) {
     static const uint8_t question[] = {
@@ -291,7 +388,7 @@ static void pose_extended(void) {
     answer_len = sizeof values;
 }
 
-/* judge takes kind 11 and shows its record; the two others refuse it. */
+/* judge takes kind 11 and shows its record, and nuldwich_same takes it; the two others refuse it. */
 static void hold_extended(void) {
     unsigned met[256] = {0};
     pose_extended();
@@ -300,6 +397,9 @@ static void hold_extended(void) {
     count(all_judged_as_said(answer_len, met) && met[NULDWICH_DONE] == 1 && met[NULDWICH_UNMET], "judge does not take kind 11 as is said");
     run_check();
     count(reply.number == NULDWICH_REFUSED_KIND && reply.record == 1, "check takes kind 11");
+    keep_other();
+    run_same();
+    count(sameness.number == NULDWICH_DONE && sameness.same == 1, "nuldwich_same does not take kind 11");
 }
 
 /* A call of the operation may use so much stack. */
@@ -312,21 +412,26 @@ static void hold_most(const char *operation, size_t most, size_t said) {
 
 static size_t larger(size_t one, size_t other) { return one > other ? one : other; }
 
-/* All operations stay within their stack on every ticket, judge also on kind 11. */
+/* All operations stay within their stack on every ticket, judge and nuldwich_same also on kind 11. */
 static void hold_stack(char **paths) {
-    size_t check_most = 0, judge_most = 0, need_most = 0;
+    size_t check_most = 0, judge_most = 0, need_most = 0, same_most = 0;
     for (; *paths != NULL; paths++) {
         read_ticket(*paths);
         check_most = larger(check_most, stack_used(run_check));
         answer_len = answer_length();
         judge_most = larger(judge_most, stack_used(run_judge));
         need_most = larger(need_most, stack_used(run_need));
+        keep_other();
+        same_most = larger(same_most, stack_used(run_same));
     }
     pose_extended();
     judge_most = larger(judge_most, stack_used(run_judge));
+    keep_other();
+    same_most = larger(same_most, stack_used(run_same));
     hold_most("check", check_most, NULDWICH_CHECK_STACK_BYTES);
     hold_most("judge", judge_most, NULDWICH_JUDGE_STACK_BYTES);
     hold_most("nuldwich_need", need_most, NULDWICH_NEED_STACK_BYTES);
+    hold_most("nuldwich_same", same_most, NULDWICH_SAME_STACK_BYTES);
 }
 
 int main(int argc, char **argv) {
@@ -336,6 +441,8 @@ int main(int argc, char **argv) {
     hold_core(argv + 1);
     hold_shown(argv + 1);
     hold_needs(argv + 1);
+    hold_sameness(argv + 1);
+    hold_overlap(argv + 1);
     hold_extended();
     hold_stack(argv + 1);
     printf("%u passed, %u failed\n", passed, failed);

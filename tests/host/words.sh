@@ -1,6 +1,6 @@
 #!/usr/bin/env bash
-# What the host program named by the argument says of every example, of some answers on file, those to questions with kind 11 last, and of some tickets that need
-# more than checking takes or are refused: expected.txt has it on file.
+# What the host program named by the argument says of every example, of some answers on file, those to questions with kind 11 last, of some tickets that need
+# more than checking takes or are refused, and of some pairs of questions: expected.txt has it on file.
 set -eu
 host=$(realpath "$1")
 cd "$(dirname "$0")/../../examples"
@@ -25,4 +25,10 @@ cd ../../L2/need
 for name in 65-pending-splits 129-constraints-never-give-10 claim-2-closing-rules-close-nothing step-after-the-last-branch-closed 2; do
     echo "$name:"
     "$host" "$name.ticket"
+done
+cd ../../L6/same
+for name in order x-eq-y-is-y-eq-x literals-by-characters divided-by-the-gcd repeat-written-in-other-ways records-behind-the-claim-do-not-count n-differs \
+    second-has-one-more ge-is-not-turned kind-11-order-is-not-symmetric first-refusal-first second-refusal-though-heads-differ 2-in-the-second; do
+    echo "$name:"
+    "$host" same "$name.first" "$name.second"
 done

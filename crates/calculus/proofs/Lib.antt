@@ -29,3 +29,7 @@ pub mod CoreCases
 pub mod Kept
 pub mod Cores
 pub mod Resting
+pub mod Divisors
+pub mod NormalForms
+pub mod Sameness
+pub mod SameCases

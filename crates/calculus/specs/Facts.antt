@@ -31,6 +31,15 @@ pub data Fact : Type 0 where
   isLiteral : ℕ → ℕ → Fact
   arithmetic : Relation → List ℤ → Fact
 
+-- a number for each kind of fact, an arithmetic one by its relation
+abbrev pub factTag : Fact → ℕ
+factTag (arithmetic ge e) = 0
+factTag (arithmetic eq e) = 1
+factTag (arithmetic ne e) = 2
+factTag (same x y) = 3
+factTag (notSame x y) = 4
+factTag (isLiteral x l) = 5
+
 -- what is asked of arithmetic facts alone, in words and as a test
 abbrev pub OnArithmetic : (Relation → List ℤ → Type 0) → Fact → Type 0
 OnArithmetic P (same x y) = Unit {0}

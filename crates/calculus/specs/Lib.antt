@@ -1,3 +1,4 @@
+pub mod Logic
 pub mod Limits
 pub mod Alphabet
 pub mod LinearForms
@@ -17,3 +18,4 @@ pub mod SaturationTest
 pub mod Strings
 pub mod Meaning
 pub mod Extended
+pub mod NormalForms

@@ -11,6 +11,7 @@ use lib.Dec.{leb, ltb}
 use lib.IntN.{ℤ}
 use Rattle.lists.proofs.Options.{some-injective, none-some}
 use Rattle.lists.proofs.Matched.{Matched, matched-map, matched-at, matched-length, matched-all}
+use Rattle.calculus.specs.Logic.{Iff}
 use Rattle.calculus.specs.Limits.{factLimit, pendingLimit}
 use Rattle.calculus.specs.Facts.{Question, Fact, Branch, Relation, ge, arithmetic}
 use Rattle.calculus.specs.Steps.{Step, Sum, BranchOn, Apart, AConf, SConf, SProp, LIntro, LValid, CCollapse, CValid, CInj, Card, Join}
@@ -28,7 +29,7 @@ use Rattle.format.specs.Reading.{State, Method}
 use Rattle.format.specs.Checking.{orNone, factWithin, factsWithin, childrenWithin, room, roomForAll, allTried, takenTried, childIn, keeps, shortLengths, leafFault}
 use Rattle.format.specs.Checking.{Outcome, NoSolution, Strings, checkerBy, checker, accepted, verdict, verdictBefore}
 use Rattle.format.specs.ProperForm.{stepsWithChild}
-use Rattle.format.specs.Demands.{Iff, TH-L4, TH-L4-before}
+use Rattle.format.specs.Demands.{TH-L4, TH-L4-before}
 use Rattle.format.proofs.Faults.{none-applies, passed}
 use Rattle.format.proofs.Leaves.{keeps→, →keeps}
 use Rattle.format.proofs.Claimed.{started}

@@ -1,4 +1,5 @@
 -- The demands hold, for every byte list.
+use Rattle.calculus.proofs.NormalForms.{lead-positive}
 use Rattle.format.specs.Demands.{Demands}
 use Rattle.format.proofs.NoSolution.{derivations-exact, no-solution-sound}
 use Rattle.format.proofs.Strings.{strings-hold, leaves-exact}
@@ -9,6 +10,7 @@ use Rattle.format.proofs.Absent.{extended-absent}
 use Rattle.format.proofs.Functions.{characters-turned, in-decimal}
 use Rattle.format.proofs.Before.{accepted-now, rules-before}
 use Rattle.format.proofs.Cores.{core-clashes, others-empty, words-hold-flags}
+use Rattle.format.proofs.Sameness.{found-same, same-by-sets, found-different, refused-as-judged, divided-out}
 use Rattle.format.proofs.ReadBack.{answers-judged}
 use Rattle.format.proofs.Proper.{no-solution-proper, strings-proper}
 use Rattle.format.proofs.NeedLimits.{within-limits}
@@ -36,6 +38,12 @@ demands = record {
   th-l5 = core-clashes;
   th-l5-empty = others-empty;
   th-l5-words = words-hold-flags;
+  th-l6 = found-same;
+  th-l6-sets = same-by-sets;
+  th-l6-different = found-different;
+  th-l6-refused = refused-as-judged;
+  th-l6-divisor = divided-out;
+  th-l6-sign = lead-positive;
   th-4 = no-solution-sound;
   th-5 = strings-hold;
   th-6 = leaves-exact;

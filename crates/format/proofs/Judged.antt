@@ -9,6 +9,7 @@ use lib.ListN.{getD}
 use lib.Dec.{T-not, not-T, leb}
 use borrow.Author.Tests.{not-true, not-false}
 use Rattle.lists.proofs.Tests.{→true, true→}
+use Rattle.calculus.specs.Logic.{Iff}
 use Rattle.calculus.specs.Alphabet.{Over, allCharacters}
 use Rattle.calculus.specs.Facts.{Question, Fact, same, notSame, isLiteral, arithmetic, holds, literal}
 use Rattle.calculus.specs.Strings.{eqString}
@@ -19,12 +20,12 @@ use Rattle.calculus.proofs.Relations.{holds→, →holds}
 use Rattle.lists.proofs.Searches.{FirstWithout, lowest-first, first-unique}
 use Rattle.calculus.proofs.Extended.{extended→, →extended}
 use Rattle.format.specs.Records.{next}
-use Rattle.format.specs.Question.{Reading, Stopped, Ended, judgedQuestion, judgedIn}
+use Rattle.format.specs.Question.{Reading, Stopped, Ended, judgedQuestion, judgedIn, byHead}
 use Rattle.format.specs.Places.{skip, textAt, texts}
 use Rattle.format.specs.Answer.{answerForm, assignmentOf, outside}
-use Rattle.format.specs.Judging.{Judged, byForm, byHead, judgeBehind, judging, meets, meetsConstraint}
+use Rattle.format.specs.Judging.{Refused, Judged, byForm, judgeAnswer, judgeBehind, judging, meets, meetsConstraint}
 use Rattle.format.specs.Judging.{firstUnmet, saidOf, said}
-use Rattle.format.specs.Demands.{Iff, Judges, TH-3}
+use Rattle.format.specs.Demands.{Judges, TH-3}
 use Rattle.format.proofs.Faults.{not-both, clash}
 use Rattle.format.proofs.Fields.{length-i32s}
 use Rattle.format.proofs.Asked.{headed-in}
@@ -118,7 +119,7 @@ judged-taken b v u es a e = behind (judgedQuestion b) refl e
       where
         go : (x : Bool)
             → leb 1 (s .last) ≡ x
-            → byHead s r v x ≡ Judged u es a
+            → byHead Refused (λ u es. judgeAnswer u es v) s r x ≡ Judged u es a
             → Taken b v u es a
         go false h e = clash cc
         go true h e =

@@ -27,6 +27,7 @@ pub mod Extended
 pub mod Functions
 pub mod Absent
 pub mod Judged
+pub mod Sameness
 pub mod Refusals
 pub mod Shown
 pub mod Demands

@@ -22,10 +22,10 @@ use Rattle.calculus.specs.Extended.{Extended}
 use Rattle.calculus.proofs.Words.{→over}
 use Rattle.format.specs.Fields.{bytesOf, unsigned, signed, u16, u32, u32s, i32s, within, allWithin}
 use Rattle.format.specs.Records.{size, kind, next, whole}
-use Rattle.format.specs.Question.{Progress, judgingManner, judgedQuestion}
+use Rattle.format.specs.Question.{Progress, judgingManner, judgedQuestion, byHead}
 use Rattle.format.specs.Places.{skip, textAt, texts}
 use Rattle.format.specs.Answer.{recordBytes, characterBytes, integerBytes, stringRecords, encode, answerForm, integersAt, assignmentOf, outside}
-use Rattle.format.specs.Judging.{Judged, byForm, judgeAnswer, byHead, judgeBehind, judging}
+use Rattle.format.specs.Judging.{Refused, Judged, byForm, judgeAnswer, judgeBehind, judging}
 use Rattle.format.specs.Demands.{TH-3-all}
 use Rattle.format.proofs.Entries.{QuestionInRange}
 use Rattle.format.proofs.Encoded.{length-bytes, length-characters, length-integers, length-record}
@@ -221,7 +221,7 @@ answers-judged b u es a e f short values =
     let s : Progress = h .progress in
     let same : s .question ≡ u = ap (λ x. x .0) (h .gives) in
     ap (λ g. judgeBehind g (encode a)) (h .ends)
-    ∙ ap (byHead s (h .number) (encode a)) (h .has-head)
+    ∙ ap (byHead Refused (λ u es. judgeAnswer u es (encode a)) s (h .number)) (h .has-head)
     ∙ ap (λ x. judgeAnswer (x .0) (x .1) (encode a)) (h .gives)
     ∙ answer-back u es a (subst QuestionInRange same (read-in-range judgingManner b (h .ends) (leb-true 1 (s .last) (h .has-head)))) f short
     (→within valueLimit (a .ints) values)

@@ -16,12 +16,12 @@ use Rattle.calculus.specs.Extended.{Extended, Names, Constraint, basic, extende
 use Rattle.lists.proofs.Searches.{FirstWithout}
 use Rattle.format.specs.Fields.{u16}
 use Rattle.format.specs.Records.{size, next, records}
-use Rattle.format.specs.Question.{constraintCount, extendedBy}
+use Rattle.format.specs.Question.{constraintCount, extendedBy, byHead}
 use Rattle.format.specs.Question.{headRank, Progress, Reading, Stopped, Ended, judgingManner, judgedQuestion}
 use Rattle.format.specs.Places.{skip, extendedAt, constraintAt, extendedsAt, literalsFrom, constraintsFrom, extendedFrom, Numbers, readTo}
 use Rattle.format.specs.Standing.{StandsTo}
 use Rattle.format.specs.Answer.{answerForm, assignmentOf, outside}
-use Rattle.format.specs.Judging.{Judging, Refused, Judged, byForm, byHead, judgeBehind, judging, firstUnmet, saidOf}
+use Rattle.format.specs.Judging.{Judging, Refused, Judged, byForm, judgeAnswer, judgeBehind, judging, firstUnmet, saidOf}
 use Rattle.format.specs.Judging.{Side, ofQuestion, ofAnswer, recordShown, nothingShown, refusalShown, unmetShown, shownBy}
 use Rattle.format.specs.Demands.{ShowsRecord, Shows, TH-L1, TH-L3-counted}
 use Rattle.format.proofs.Faults.{clash}
@@ -168,7 +168,7 @@ record-concerned b v = behind (judgedQuestion b) refl
         shows-judged b t to stands head v a (firstUnmet u es a) refl (first-unmet u es a)
 
     headed : (t : Numbers) (to r : ℕ) → StandsTo b t to → (x : Bool) → leb headRank (t .last) ≡ x →
-        let j : Judging = byHead (readTo b t) r v x in
+        let j : Judging = byHead Refused (λ u es. judgeAnswer u es v) (readTo b t) r x in
         Shows b v j (shownBy b v j)
     headed t to r stands false e = shows-nothing b v 4 r (omega arith)
     headed t to r stands true e =

@@ -5,12 +5,14 @@ use mathlib.Core.Path.{_≡_}
 use mathlib.Core.Bool.{true, false, cond}
 use mathlib.Core.Logic.{_≢_, _⊎_}
 use mathlib.Core.Option.{some}
-use mathlib.Core.List.{List, [], _∷_, _++_}
+use mathlib.Core.List.{List, [], _∷_, _++_, map}
 use lib.ListN.{length, take, drop, replicate, getD, getElem?}
 use lib.Dec.{eqb}
-use lib.IntN.{ℤ, pos, negsuc}
+use lib.IntN.{ℤ, pos, negsuc, natAbs}
 use Rattle.lists.specs.Lists.{All}
+use Rattle.calculus.specs.Logic.{Iff}
 use Rattle.calculus.specs.Limits.{Small, ticketBytes, lengthLimit, valueLimit, answerBytes, factLimit, pendingLimit}
+use Rattle.calculus.specs.LinearForms.{scale}
 use Rattle.calculus.specs.Facts.{Question, Fact, Branch, Relation, ge, arithmetic}
 use Rattle.calculus.specs.Steps.{Step, Sum, Join}
 use Rattle.calculus.specs.Children.{one}
@@ -23,6 +25,7 @@ use Rattle.calculus.specs.Derivations.{Closes, WithinLimits, Path, PathWithinLi
 use Rattle.calculus.specs.Saturation.{AcceptedLeaf}
 use Rattle.calculus.specs.Meaning.{Assignment, str, For, Met}
 use Rattle.calculus.specs.Extended.{upper, lower, toInt, fromInt, Extended, Names, Constraint, constraintsOf, MeetsConstraint}
+use Rattle.calculus.specs.NormalForms.{divisorOf, GreatestCommonDivisor, reduced, PositiveLead, SameSets}
 use Rattle.format.specs.Question.{extendedKind, Progress, Stopped, Ended, question, judgedQuestion, questionForm, headRead, judgedIn}
 use Rattle.format.specs.Question.{questionOf}
 use Rattle.format.specs.Records.{kind, next, records}
@@ -36,9 +39,9 @@ use Rattle.format.specs.ProperForm.{ProperNo, ProperStrings, steps, step
 use Rattle.format.specs.Cores.{coreOf, flag, low, high}
 use Rattle.format.specs.Judging.{Judging, Judged, judging, Judgement, Refusal, AllMet, Unmet, said}
 use Rattle.format.specs.Judging.{Side, ofQuestion, ofAnswer, Shown, shownBy, partWithin}
-
-abbrev pub Iff : Type 0 → Type 0 → Type 0
-Iff A B = (A → B) × (B → A)
+use Rattle.format.specs.Judging as judged
+use Rattle.format.specs.Sameness as found
+use Rattle.format.specs.Sameness.{Which, second, byWhich, Same, Different, sameness}
 
 -- ---- TH-1, demand 1: what checking promises of its result with its set, of the work area and of the answer buffer
 
@@ -80,10 +83,14 @@ TH-2-asks = (work answer : ℕ) (t : List ℕ) → verdict work answer t ≡ NoS
 abbrev pub MetAll : Question → Assignment → List Constraint → Type 0
 MetAll u a cs = All (MeetsConstraint u a) cs
 
+-- the bytes ask this question with these extended constraints, as judging takes them
+abbrev pub Asks : List ℕ → Question → List Extended → Type 0
+Asks b u es = judgedIn (judgedQuestion b) ≡ some (u, es)
+
 -- the values judged are an assignment of the question; all met is said exactly when it meets every constraint, and a constraint is named exactly when it is
 -- the first that it does not meet
 pub record Judges (b v : List ℕ) (j : Judgement) (u : Question) (es : List Extended) (a : Assignment) : Type 0 where
-  pub asked : judgedIn (judgedQuestion b) ≡ some (u, es)
+  pub asked : Asks b u es
   -- without extended constraints it is the question that the bytes put
   pub put : es ≡ [] → questionOf b ≡ some u
   pub values : a ≡ assignmentOf v u
@@ -97,7 +104,7 @@ TH-3 = (b v : List ℕ) (u : Question) (es : List Extended) (a : Assignment) →
 
 -- and it judges every assignment that an answer can hold: no 15 or 16 for the bytes of one with strings of at most 64 characters and integers in range
 abbrev pub TH-3-all : Type 0
-TH-3-all = (b : List ℕ) (u : Question) (es : List Extended) (a : Assignment) → judgedIn (judgedQuestion b) ≡ some (u, es) → For u a
+TH-3-all = (b : List ℕ) (u : Question) (es : List Extended) (a : Assignment) → Asks b u es → For u a
     → All (λ s. length s ≤ lengthLimit) (a .strs) → All (Small valueLimit) (a .ints) → judging b (encode a) ≡ Judged u es a
 
 -- ---- TH-L1: judging shows the record concerned
@@ -208,7 +215,7 @@ TH-L3 = (b : List ℕ) → ReadsAlike b
 -- a ticket whose question judging takes, with extended constraints, is refused at the first of them, behind the head, the literals and the other constraints
 abbrev pub TH-L3-refused : Type 0
 TH-L3-refused = (work answer : ℕ) (t : List ℕ) (u : Question) (e : Extended) (es : List Extended) → largeEnough work answer ≡ true
-    → judgedIn (judgedQuestion t) ≡ some (u, e ∷ es)
+    → Asks t u (e ∷ es)
     → let r : ℕ = 1 + length (u .literals) + length (u .constraints) in
     (verdict work answer t ≡ Refused 4 r) × (needed t ≡ needs.Refused 4 r)
 
@@ -292,6 +299,48 @@ bit k n = (n / 2 ^ k) % 2
 abbrev pub TH-L5-words : Type 0
 TH-L5-words = (s : Set) (k : ℕ) → k < 64 → (bit k (low s) ≡ flag (getD s k false)) × (bit k (high s) ≡ flag (getD s (64 + k) false))
 
+-- ---- TH-L6: "Two questions found the same must have the same solutions"
+
+-- an assignment of the question that meets all its constraints
+abbrev pub Solves : Question → List Extended → Assignment → Type 0
+Solves u es a = For u a × MetAll u a (constraintsOf u es)
+
+abbrev pub TH-L6 : Type 0
+TH-L6 = (b c : List ℕ) → sameness b c ≡ Same
+    → (u : Question) × (es : List Extended) × (v : Question) × (ds : List Extended) × Asks b u es × Asks c v ds
+    × ((a : Assignment) → Iff (Solves u es a) (Solves v ds a))
+
+-- two questions that are asked are found the same exactly when "n, p and q agree and the sets of constraints agree, order and repeats aside"
+abbrev pub TH-L6-sets : Type 0
+TH-L6-sets = (b c : List ℕ) (u v : Question) (es ds : List Extended) → Asks b u es → Asks c v ds → Iff (sameness b c ≡ Same) (SameSets u es v ds)
+
+-- and different only where both are asked, and these do not agree
+abbrev pub TH-L6-different : Type 0
+TH-L6-different = (b c : List ℕ) → sameness b c ≡ Different
+    → (u : Question) × (es : List Extended) × (v : Question) × (ds : List Extended) × Asks b u es × Asks c v ds × (SameSets u es v ds → ⊥)
+
+-- "The first question's refusal, by judging's rules, comes before the second's": a refusal is what judging says of the question concerned, whatever the
+-- answer, and where the second is refused the first is asked
+pub record RefusedAsJudged (b c : List ℕ) : Type 0 where
+  pub by-judging : (w : Which) (n r : ℕ) → sameness b c ≡ found.Refused w n r → (v : List ℕ) → judging (byWhich w b c) v ≡ judged.Refused n r
+  pub first-asked : (n r : ℕ) → sameness b c ≡ found.Refused second n r → (u : Question) × (es : List Extended) × Asks b u es
+
+abbrev pub TH-L6-refused : Type 0
+TH-L6-refused = (b c : List ℕ) → RefusedAsJudged b c
+
+-- "divided by the greatest common divisor of its coefficients and constant, if that is not 0": by that divisor, and nothing is rounded
+pub record DividedOut (e : List ℤ) : Type 0 where
+  pub divisor : GreatestCommonDivisor (map natAbs e) (divisorOf e)
+  pub exact : scale (pos (divisorOf e)) (reduced e) ≡ e
+  pub undivided : divisorOf e ≡ 0 → reduced e ≡ e
+
+abbrev pub TH-L6-divisor : Type 0
+TH-L6-divisor = (e : List ℤ) → DividedOut e
+
+-- "the sign is then turned so that the first coefficient, or the constant where there is none, is positive"
+abbrev pub TH-L6-sign : Type 0
+TH-L6-sign = (e : List ℤ) → PositiveLead e
+
 -- ---- TH-5, demand 3: whatever the bytes, where checking gives strings, they meet every constraint and differ wherever the leaf's classes differ
 
 -- out are the bytes that `Checked.answer-after` puts into the answer buffer
@@ -352,6 +401,12 @@ pub record Demands : Type 0 where
   pub th-l5 : TH-L5
   pub th-l5-empty : TH-L5-empty
   pub th-l5-words : TH-L5-words
+  pub th-l6 : TH-L6
+  pub th-l6-sets : TH-L6-sets
+  pub th-l6-different : TH-L6-different
+  pub th-l6-refused : TH-L6-refused
+  pub th-l6-divisor : TH-L6-divisor
+  pub th-l6-sign : TH-L6-sign
   pub th-4 : TH-4
   pub th-5 : TH-5
   pub th-6 : TH-6

@@ -12,7 +12,7 @@ use Rattle.calculus.specs.Meaning.{Assignment, str, value}
 use Rattle.calculus.specs.Strings.{eqString}
 use Rattle.calculus.specs.Extended.{Extended, meetsExtended, Constraint, basic, extended, constraintsOf}
 use Rattle.format.specs.Records.{next}
-use Rattle.format.specs.Question.{Progress, Reading, Stopped, Ended, judgedQuestion, headRead}
+use Rattle.format.specs.Question.{Reading, judgedQuestion, byReading}
 use Rattle.format.specs.Places.{skip, constraintsFrom}
 use Rattle.format.specs.Answer.{answerForm, outside, assignmentOf}
 
@@ -31,14 +31,8 @@ byForm u es v true none = Judged u es (assignmentOf v u)
 abbrev pub judgeAnswer : Question → List Extended → List ℕ → Judging
 judgeAnswer u es v = byForm u es v (answerForm v (u .p) (u .q) 0) (outside v u (u .p) 0 0)
 
--- "one with no head before it gives 4": by whether there is one
-abbrev pub byHead : Progress → ℕ → List ℕ → Bool → Judging
-byHead s r v false = Refused 4 r
-byHead s r v true = judgeAnswer (s .question) (s .extended) v
-
 abbrev pub judgeBehind : Reading → List ℕ → Judging
-judgeBehind (Stopped c r) v = Refused c r
-judgeBehind (Ended s at r) v = byHead s r v (headRead s)
+judgeBehind g v = byReading Refused (λ u es. judgeAnswer u es v) g
 
 unfoldable pub judging : List ℕ → List ℕ → Judging
 judging b v = judgeBehind (judgedQuestion b) v

@@ -11,5 +11,6 @@ pub mod ProperForm
 pub mod Judging
 pub mod Needs
 pub mod Cores
+pub mod Sameness
 pub mod Demands
 pub mod Cases

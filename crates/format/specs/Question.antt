@@ -327,6 +327,16 @@ questionIn g = headedIn (λ s. s .question) g
 abbrev pub judgedIn : Reading → Option (Question × List Extended)
 judgedIn g = headedIn (λ s. (s .question, s .extended)) g
 
+-- by whether there is a head, "one with no head before it gives 4": what is said of that refusal, or of the question with its extended constraints
+abbrev pub byHead : {A : Type 0} → (ℕ → ℕ → A) → (Question → List Extended → A) → Progress → ℕ → Bool → A
+byHead refused asked s r false = refused 4 r
+byHead refused asked s r true = asked (s .question) (s .extended)
+
+-- and by how the question was read
+abbrev pub byReading : {A : Type 0} → (ℕ → ℕ → A) → (Question → List Extended → A) → Reading → A
+byReading refused asked (Stopped c r) = refused c r
+byReading refused asked (Ended s at r) = byHead refused asked s r (headRead s)
+
 -- the question that bytes put: none without a head
 abbrev pub questionOf : List ℕ → Option Question
 questionOf b = questionIn (questionForm b)

@@ -2,7 +2,7 @@
 use Prim.Native.Nat.{ℕ, zero, suc, _+_, _*_, _/_, _^_, _≤_, _<_}
 use native.Mathlib.Omega.{arith}
 use native.Mathlib.Nat.{mul-le-mul, mul-le-mul-left, div-add-mod, mod-lt, lt-of-mul-lt-mul-left, lt-of-le-of-lt}
-use mathlib.Core.Path.{_≡_, refl, sym, ap}
+use mathlib.Core.Path.{_≡_, refl, sym, _∙_, ap}
 use mathlib.Core.Logic.{_≢_, _⊎_, inl, inr}
 use lib.IntN.{ℤ, pos, negsuc, negℤ, natAbs, _+ℤ_, _-ℤ_, _*ℤ_}
 use lib.Signed.{mag, _≤ℤ_, _<ℤ_, ≤ℤ-refl, yes-nonNeg, pos-natAbs}
@@ -179,6 +179,9 @@ floor-unique z d q h low high =
 
 pub floor-multiple : (z : ℤ) (d : ℕ) → 0 < d → floorDiv (pos d *ℤ z) d ≡ z
 floor-multiple z d h = floor-unique (pos d *ℤ z) d z h (≤ℤ-refl (pos d *ℤ z)) (lt-by (v (pos d) ⊗ v z) (v (pos d) ⊗ (v z ⊕ v (pos 1))) (omega arith))
+
+pub floor-one : (z : ℤ) → floorDiv z 1 ≡ z
+floor-one z = ap (λ y. floorDiv y 1) (sym (one-*ℤ z)) ∙ floor-multiple z 1 (omega arith)
 
 -- a bound is tightened to the next integer
 pub tighten : (d : ℕ) (s k q : ℤ) → k <ℤ (pos d *ℤ (q +ℤ pos 1)) → pos 0 ≤ℤ (k +ℤ pos d *ℤ s) → pos 0 ≤ℤ (q +ℤ s)

@@ -5,19 +5,18 @@ use mathlib.Core.Bool.{Bool, true, false}
 use mathlib.Core.Option.{Option, none, some}
 use mathlib.Core.List.{List}
 use lib.ListN.{length}
-use lib.Dec.{leb}
-use borrow.Author.Tests.{le-leb, lt-leb}
 use native.Mathlib.Omega.{arith}
 use Rattle.calculus.specs.Facts.{Question}
 use Rattle.calculus.specs.Extended.{Extended}
 use Rattle.format.specs.Records.{next}
-use Rattle.format.specs.Question.{Progress, Reading, Stopped, Ended, judgingManner, judgedQuestion}
+use Rattle.format.specs.Question.{Progress, Stopped, Ended, judgingManner, judgedQuestion}
 use Rattle.format.specs.Places.{skip}
 use Rattle.format.specs.Answer.{answerForm, assignmentOf, outside}
 use Rattle.format.specs.Judging as format
-use Rattle.format.specs.Judging.{Judging, Judged, byForm, judgeAnswer, byHead, judgeBehind, judging, ofAnswer, recordShown}
+use Rattle.format.specs.Judging.{Judging, Judged, byForm, judgeAnswer, judging, ofAnswer, recordShown}
 use Rattle.format.proofs.Refusals.{refusal-up-to}
 use Rattle.format.proofs.Shown.{nothing-up-to}
+use Rattle.question.proofs.Posed.{said-stopped, said-headless, said-headed}
 use Rattle.judging.specs.declared.Judgement.the-variants.{Refused}
 use Rattle.judging.specs.declared.Side.the-variants as side
 use Rattle.judging.specs.declared.Finding.{Finding}
@@ -59,33 +58,26 @@ module _ (b v : List ℕ) where
   refused : (c r : ℕ) → c ≤ 10 → Finds b v (format.Refused c r) (record { said = Refused c r; shown = record { side = side.Question; from = 0; to = 0 } })
   refused c r h = record { says = refl; shows = sym (nothing-up-to v c r h) }
 
+  told : {g : Judging} {o : Finding} → judging b v ≡ g → Finds b v g o → Finds b v (judging b v) o
+  told {o = o} e h = subst (λ (g : Judging). Finds b v g o) (sym e) h
+
   pub stopped : {c r : ℕ}
       → judgedQuestion b ≡ Stopped c r
       → Finds b v (judging b v) (record { said = Refused c r; shown = record { side = side.Question; from = 0; to = 0 } })
   unfolding judging
-  stopped {c} {r} e =
-      subst (λ (g : Reading). Finds b v (judgeBehind g v) (record { said = Refused c r; shown = record { side = side.Question; from = 0; to = 0 } })) (sym e)
-      (refused c r (refusal-up-to judgingManner b e))
+  stopped {c} {r} e = told (said-stopped format.Refused (λ u es. judgeAnswer u es v) b e) (refused c r (refusal-up-to judgingManner b e))
 
-  ended : {s : Progress} {at r : ℕ} {t : Bool} {o : Finding}
-      → judgedQuestion b ≡ Ended s at r
-      → leb 1 (s .last) ≡ t
-      → Finds b v (byHead s r v t) o
-      → Finds b v (judging b v) o
-  unfolding judging
-  ended {s} {at} {r} {o = o} e f h =
-      subst (λ (g : Reading). Finds b v (judgeBehind g v) o) (sym e) (subst (λ (x : Bool). Finds b v (byHead s r v x) o) (sym f) h)
-
-  -- "one with no head before it gives 4"
   pub headless : {s : Progress} {at r : ℕ}
       → judgedQuestion b ≡ Ended s at r
       → s .last ≡ 0
       → Finds b v (judging b v) (record { said = Refused 4 r; shown = record { side = side.Question; from = 0; to = 0 } })
-  headless {s} {at} {r} e f = ended e (lt-leb 1 (s .last) (omega arith)) (refused 4 r (omega arith))
+  unfolding judging
+  headless {r = r} e f = told (said-headless format.Refused (λ u es. judgeAnswer u es v) b e f) (refused 4 r (omega arith))
 
   pub headed : {s : Progress} {at r : ℕ} {o : Finding}
       → judgedQuestion b ≡ Ended s at r
       → 1 ≤ s .last
       → Finds b v (judgeAnswer (s .question) (s .extended) v) o
       → Finds b v (judging b v) o
-  headed {s} e f h = ended e (le-leb 1 (s .last) f) h
+  unfolding judging
+  headed e f h = told (said-headed format.Refused (λ u es. judgeAnswer u es v) b e f) h

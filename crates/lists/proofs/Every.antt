@@ -1,13 +1,12 @@
 -- A test of every element of a list, as a loop from the front takes it (none is left, the next one fails, the next one passes), also where the list is read
--- place by place;
--- of parts of the list, and of some element.
+-- place by place; of parts of the list, of what a function makes of another one, and of some element.
 use Prim.Native.Nat.{ℕ, zero, suc, _+_, _-_, _<_, _≤_}
 use native.Mathlib.Omega.{arith}
 use native.Mathlib.Numerals.{add-one}
 use mathlib.Core.Path.{_≡_, refl, sym, _∙_, ap, ap₂}
 use mathlib.Core.Bool.{Bool, true, false, _&&_, _||_, and-true, and-assoc, and-false, or-true, or-false, or-assoc}
 use mathlib.Core.Option.{some}
-use mathlib.Core.List.{List, [], _∷_, _++_}
+use mathlib.Core.List.{List, [], _∷_, _++_, map}
 use lib.ListN.{length, getD, take, drop, getElem?, drop-of-length-le}
 use lib.Seq.{drop-cons}
 use Rattle.lists.specs.Lists.{all, any, valuesAlong}
@@ -79,10 +78,24 @@ module _ {A B : Type 0} (test : B → Bool) (go : A → A) (f : A → B) (a : A)
   along-done zero h = refl
   along-done (suc k) h = absurd (omega arith)
 
+  pub along-one : (k : ℕ) → 0 < k → all test (valuesAlong go f a k) ≡ (test (f a) && all test (valuesAlong go f (go a) (k - 1)))
+  along-one zero h = absurd (omega arith)
+  along-one (suc k) h = rw (down k)
+
   pub along-fails : (k : ℕ) → 0 < k → test (f a) ≡ false → all test (valuesAlong go f a k) ≡ false
-  along-fails zero h e = absurd (omega arith)
-  along-fails (suc k) h e = rw e
+  along-fails k h e = along-one k h ∙ rw e
 
   pub along-on : (k : ℕ) → 0 < k → test (f a) ≡ true → all test (valuesAlong go f a k) ≡ all test (valuesAlong go f (go a) (k - 1))
-  along-on zero h e = absurd (omega arith)
-  along-on (suc k) h e = rw (e, down k)
+  along-on k h e = along-one k h ∙ rw e
+
+-- ---- tests of what f makes
+
+module _ {A B : Type 0} (f : A → B) where
+  pub every-made : (t : B → Bool) (xs : List A) → all t (map f xs) ≡ all (λ x. t (f x)) xs
+  every-made t [] = refl
+  every-made t (x ∷ xs) = ap (λ a. t (f x) && a) (every-made t xs)
+
+  -- two that say the same of it
+  pub every-alike : (s t : B → Bool) → ((x : A) → s (f x) ≡ t (f x)) → (xs : List A) → all s (map f xs) ≡ all t (map f xs)
+  every-alike s t h [] = refl
+  every-alike s t h (x ∷ xs) = ap₂ _&&_ (h x) (every-alike s t h xs)

@@ -1,18 +1,19 @@
 -- Lists: properties of all elements and of some element, membership, lists without repeats, counting, and lists read place by place.
 use Prim.Native.Nat.{ℕ, zero, suc, _+_, _*_, _-_, _<_, _≤_}
-use native.Mathlib.Nat.{mul-suc}
+use native.Mathlib.Nat.{zero-add, mul-suc}
 use native.Mathlib.Numerals.{add-one}
 use native.Mathlib.Omega.{arith}
 use mathlib.Core.Path.{_≡_, refl, sym, _∙_, ap, ap₂, subst}
 use mathlib.Core.Logic.{_≢_, _⊎_, inl, inr}
-use mathlib.Core.Bool.{Bool, true, false, _&&_, and-false}
+use mathlib.Core.Bool.{Bool, true, false, cond, _&&_, _||_, and-false}
 use mathlib.Core.Option.{none, some}
 use mathlib.Core.List.{List, [], _∷_, _++_, map, flatMap, append-nil, append-assoc}
 use lib.ListN.{length, getD, take, drop, getElem?, replicate, length-append, drop-of-length-le}
 use lib.Seq.{drop-cons}
-use lib.Dec.{T}
+use lib.Dec.{T, leb}
+use borrow.Author.Tests.{le-leb}
 use native.Mathlib.Decide.{decLt}
-use Rattle.lists.specs.Lists.{All, NotIn, Distinct, all, any, eqList, placeAfter, valuesAlong, Any, upTo}
+use Rattle.lists.specs.Lists.{All, NotIn, Distinct, all, any, count, eqList, placeAfter, valuesAlong, Any, upTo}
 use Rattle.lists.proofs.Tests.{→true, true→, and→, →and, or→, →or-left, →or-right}
 use Rattle.lists.proofs.Options.{some-injective, none-some}
 
@@ -73,6 +74,35 @@ module _ {A : Type 0} {P : A → Type 0} (t : A → Bool) where
 
   pub →all-true : (xs : List A) → ((x : A) → P x → t x ≡ true) → All P xs → all t xs ≡ true
   →all-true xs f h = →true (all t xs) (→all xs (λ x p. true→ (f x p)) h)
+
+-- ---- how many elements pass a test
+
+module _ {A : Type 0} (t : A → Bool) where
+  pub count-append : (xs ys : List A) → count t (xs ++ ys) ≡ count t xs + count t ys
+  unfolding count
+  count-append [] ys = omega arith
+  count-append (x ∷ xs) ys = rw (count-append xs ys) (omega arith)
+
+  -- one element more at the end
+  pub count-snoc : (xs : List A) (x : A) → count t (xs ++ (x ∷ [])) ≡ count t xs + cond (t x) 1 0
+  unfolding count
+  count-snoc xs x = rw (count-append xs (x ∷ [])) (omega arith)
+
+  -- at least one where some element does
+  pub any-counted : (xs : List A) → leb 1 (count t xs) ≡ any t xs
+  unfolding count
+  any-counted [] = refl
+  any-counted (x ∷ xs) = go (t x) (any-counted xs)
+    where
+      go : (a : Bool) → leb 1 (count t xs) ≡ any t xs → leb 1 (cond a 1 0 + count t xs) ≡ (a || any t xs)
+      go true h = le-leb 1 (1 + count t xs) (omega arith)
+      go false h = rw zero-add h
+
+  -- none of what f makes
+  pub count-mapped-none : {B : Type 0} (f : B → A) → ((x : B) → t (f x) ≡ false) → (xs : List B) → count t (map f xs) ≡ 0
+  unfolding count
+  count-mapped-none f h [] = refl
+  count-mapped-none f h (x ∷ xs) = ap₂ (λ a n. cond a 1 0 + n) (h x) (count-mapped-none f h xs)
 
 -- ---- equality by a test
 
@@ -208,6 +238,14 @@ at-most (x ∷ xs) ys d h =
 pub map-same : {A : Type 0} (f : A → A) (xs : List A) → All (λ x. f x ≡ x) xs → map f xs ≡ xs
 map-same f [] h = refl
 map-same f (x ∷ xs) (h, hs) = ap₂ _∷_ h (map-same f xs hs)
+
+pub all-mapped : {A B : Type 0} (P : B → Type 0) (f : A → B) (xs : List A) → All P (map f xs) ≡ All (λ x. P (f x)) xs
+all-mapped P f [] = refl
+all-mapped P f (x ∷ xs) = ap (λ X. P (f x) × X) (all-mapped P f xs)
+
+pub any-mapped : {A B : Type 0} (P : B → Type 0) (f : A → B) (xs : List A) → Any P (map f xs) ≡ Any (λ x. P (f x)) xs
+any-mapped P f [] = refl
+any-mapped P f (x ∷ xs) = ap (λ X. P (f x) ⊎ X) (any-mapped P f xs)
 
 pub map-take : {A B : Type 0} (f : A → B) (k : ℕ) (xs : List A) → map f (take k xs) ≡ take k (map f xs)
 map-take f zero xs = refl

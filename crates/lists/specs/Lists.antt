@@ -1,8 +1,8 @@
--- Lists: every element has a property, or some element, is not among others, differs from the rest; tests of all or some elements, and the first
--- that passes; the greatest of numbers; lists read place by place.
-use Prim.Native.Nat.{ℕ, zero, suc, max}
+-- Lists: every element has a property, or some element, is not among others, differs from the rest; tests of all or some elements, how many
+-- pass, and the first that does; the greatest of numbers; lists read place by place.
+use Prim.Native.Nat.{ℕ, zero, suc, _+_, max}
 use mathlib.Core.Logic.{_≢_, _⊎_}
-use mathlib.Core.Bool.{Bool, true, false, _&&_, _||_}
+use mathlib.Core.Bool.{Bool, true, false, cond, _&&_, _||_}
 use mathlib.Core.Option.{Option, none, some}
 use mathlib.Core.List.{List, [], _∷_, _++_}
 
@@ -31,6 +31,11 @@ all t (x ∷ xs) = t x && all t xs
 abbrev pub any : {A : Type 0} → (A → Bool) → List A → Bool
 any t [] = false
 any t (x ∷ xs) = t x || any t xs
+
+-- how many elements pass the test
+unfoldable pub count : {A : Type 0} → (A → Bool) → List A → ℕ
+count t [] = 0
+count t (x ∷ xs) = cond (t x) 1 0 + count t xs
 
 -- the place of the first element that passes the test
 unfoldable pub lowest : {A : Type 0} → (A → Bool) → List A → Option ℕ

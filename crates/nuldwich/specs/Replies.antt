@@ -11,10 +11,12 @@ use Rattle.format.specs.Cores.{coreOf, low, high}
 use Rattle.format.specs.Demands.{Checked, answerAfter}
 use Rattle.format.specs.Judging.{Judgement, Refusal, AllMet, Unmet, judging, said, Shown, shownBy, bySide}
 use Rattle.format.specs.Needs as needs
+use Rattle.format.specs.Sameness as sameness
 use Rattle.nuldwich.specs.declared.JudgementNumbers.{JudgementNumbers}
 use Rattle.nuldwich.specs.declared.JudgeReply.{JudgeReply}
 use Rattle.nuldwich.specs.declared.Reply.{Reply}
 use Rattle.nuldwich.specs.declared.NeedReply.{NeedReply}
+use Rattle.nuldwich.specs.declared.SameReply.{SameReply}
 
 -- judging: number 0 and record 0 where all constraints are met; number 255 where the constraint named by record is not met; else a refusal
 abbrev pub numbered : Judgement → JudgementNumbers
@@ -59,3 +61,13 @@ pub record LentReplies (ticket : List ℕ) (work work' : List ℤ) (answer answe
 abbrev pub needReply : needs.Need → NeedReply
 needReply (needs.Refused c r) = record { number = c; «record» = r; steps = 0; facts = 0; pending = 0 }
 needReply (needs.Needs m) = record { number = 0; «record» = 0; steps = m .steps; facts = m .facts; pending = m .pending }
+
+-- whether two questions are the same: 1 or 0; a refusal says which of the two it concerns, 1 or 2, and same is 0
+abbrev pub whichNumber : sameness.Which → ℕ
+whichNumber sameness.first = 1
+whichNumber sameness.second = 2
+
+abbrev pub sameReply : sameness.Sameness → SameReply
+sameReply (sameness.Refused w c r) = record { number = c; «record» = r; which = whichNumber w; same = 0 }
+sameReply sameness.Same = record { number = 0; «record» = 0; which = 0; same = 1 }
+sameReply sameness.Different = record { number = 0; «record» = 0; which = 0; same = 0 }

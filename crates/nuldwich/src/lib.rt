@@ -1,4 +1,4 @@
-// The host's entries, in C: "calls both operations on numbers and byte slices", and what a ticket will need (02, L2).
+// The host's entries, in C: "calls both operations on numbers and byte slices", what a ticket will need (02, L2), and whether two questions are the same (L6).
 ghost use mathlib.Core.Path.{_≡_};
 ghost use mathlib.Core.List.{List};
 ghost use Prim.Native.Nat.{ℕ};
@@ -9,7 +9,9 @@ ghost use Rattle.format.specs.Judging.{bySide};
 ghost use Rattle.judging.specs.Judgements.{judgementOf, sideOf};
 ghost use Rattle.format.specs.Needs.{needed};
 ghost use Rattle.needs.specs.Outcomes.{needOf};
-ghost use Rattle.nuldwich.specs.Replies.{numbered, JudgeReplies, checkReply, CheckReplies, LentReplies, needReply};
+ghost use Rattle.format.specs.Sameness.{sameness};
+ghost use Rattle.sameness.specs.Asked.{whichOf, samenessOf};
+ghost use Rattle.nuldwich.specs.Replies.{numbered, JudgeReplies, checkReply, CheckReplies, LentReplies, needReply, whichNumber, sameReply};
 use checking::check_ticket;
 use deciding::Outcome;
 use judging::Judgement;
@@ -19,6 +21,9 @@ use judging::show;
 use limits::WORK_NUMBERS;
 use needs::Need;
 use needs::need_ticket;
+use sameness::Sameness;
+use sameness::Which;
+use sameness::same_questions;
 
 // ---- judging
 
@@ -179,4 +184,57 @@ pub extern "C" fn nuldwich_need(ticket: &[u8]) -> NeedReply
     ensures { λ r. ⌜ r ≡ needReply (needed (now (ticket .entry))) ⌝ }
 {
     reply_need(need_ticket(ticket))
+}
+
+// ---- whether two questions are the same
+
+// What nuldwich_same returns: of two questions that are read, same is 1 or 0; of a refusal its number and record, and which of the two it concerns, 1 or 2.
+#[repr(C)]
+pub struct SameReply {
+    pub number: u64,
+    pub record: u64,
+    pub which: u64,
+    pub same: u64,
+}
+
+fn number_which(which: Which) -> u64
+    ensures { λ r. ⌜ r ≡ whichNumber (whichOf which) ⌝ }
+{
+    match which {
+        Which::First => 1,
+        Which::Second => 2,
+    }
+}
+
+fn reply_same(s: Sameness) -> SameReply
+    ensures { λ r. ⌜ r ≡ sameReply (samenessOf s) ⌝ }
+{
+    match s {
+        Sameness::Refused(which, c, r) => SameReply {
+            number: c as u64,
+            record: r as u64,
+            which: number_which(which),
+            same: 0,
+        },
+        Sameness::Same => SameReply {
+            number: 0,
+            record: 0,
+            which: 0,
+            same: 1,
+        },
+        Sameness::Different => SameReply {
+            number: 0,
+            record: 0,
+            which: 0,
+            same: 0,
+        },
+    }
+}
+
+// Says whether two questions are the same (02, L6); nothing is written. It brings two work areas of its own.
+#[no_mangle]
+pub extern "C" fn nuldwich_same(first: &[u8], second: &[u8]) -> SameReply
+    ensures { λ r. ⌜ r ≡ sameReply (sameness (now (first .entry)) (now (second .entry))) ⌝ }
+{
+    reply_same(same_questions(first, second))
 }

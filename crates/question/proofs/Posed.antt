@@ -4,15 +4,18 @@ use native.Mathlib.Nat.{div-le-of-le-mul}
 use native.Mathlib.Numerals.{add-one}
 use native.Mathlib.Omega.{arith}
 use mathlib.Core.Path.{_≡_, sym, _∙_, ap, subst}
-use mathlib.Core.Bool.{true}
+use mathlib.Core.Bool.{Bool, true}
 use mathlib.Core.List.{List, []}
 use lib.ListN.{length, getD}
+use lib.Dec.{leb}
+use borrow.Author.Tests.{le-leb, lt-leb}
 use Rattle.calculus.specs.Limits.{alphabetLimit, lengthLimit, Small}
-use Rattle.calculus.specs.Facts.{literal, codeOf}
+use Rattle.calculus.specs.Facts.{Question, literal, codeOf}
+use Rattle.calculus.specs.Extended.{Extended}
 use Rattle.calculus.specs.Classes.{lowestLiteral, literalIn}
 use Rattle.format.specs.Records.{size}
 use Rattle.format.specs.Question as format
-use Rattle.format.specs.Question.{headRank, readIn}
+use Rattle.format.specs.Question.{headRank, readIn, judgedQuestion, byHead, byReading}
 use Rattle.format.specs.Places.{skip, texts, literalsFrom}
 use Rattle.format.proofs.Fields.{length-u32s}
 use Rattle.format.proofs.Places.{text-at, length-texts}
@@ -73,3 +76,20 @@ module _ {b : List ℕ} {s : Progress} (h : Posed b s) where
   literal-code (suc j) g =
       subst (λ (t : List ℕ). Small alphabetLimit (codeOf t)) (sym (text-at b j (s .literals) literalsFrom (omega arith)))
       (code-small (s .n) _ (h .stands .few-characters) (h .stands .literals-stand j (omega arith) .characters-over))
+
+-- ---- what is said of a question as judging reads it
+
+module _ {A : Type 0} (refused : ℕ → ℕ → A) (said : Question → List Extended → A) (b : List ℕ) where
+  pub said-stopped : {c r : ℕ} → judgedQuestion b ≡ format.Stopped c r → byReading refused said (judgedQuestion b) ≡ refused c r
+  said-stopped e = ap (byReading refused said) e
+
+  module _ {s : format.Progress} {at r : ℕ} (e : judgedQuestion b ≡ format.Ended s at r) where
+    ended : {t : Bool} → leb headRank (s .last) ≡ t → byReading refused said (judgedQuestion b) ≡ byHead refused said s r t
+    ended f = ap (byReading refused said) e ∙ ap (byHead refused said s r) f
+
+    -- "one with no head before it gives 4"
+    pub said-headless : s .last ≡ 0 → byReading refused said (judgedQuestion b) ≡ refused 4 r
+    said-headless f = ended (lt-leb headRank (s .last) (omega arith))
+
+    pub said-headed : headRank ≤ s .last → byReading refused said (judgedQuestion b) ≡ said (s .question) (s .extended)
+    said-headed f = ended (le-leb headRank (s .last) f)

@@ -611,18 +611,26 @@ pub fn read_question(m: Manner, b: &[u8]) -> Reading
 
 // ---- literals by number
 
-// The position behind l literals.
-pub fn behind_literals(b: &[u8], l: usize) -> usize
-    requires { ⌜ skip (now b) l literalsFrom ≤ length (now b) ⌝ }
-    ensures { λ r. ⌜ r ≡ skip (now (b .entry)) l literalsFrom ⌝ }
+// The position behind k records from a position on.
+pub fn behind_records(b: &[u8], k: usize, from: usize) -> usize
+    requires { ⌜ skip (now b) k from ≤ length (now b) ⌝ }
+    ensures { λ r. ⌜ r ≡ skip (now (b .entry)) k from ⌝ }
 {
-    let mut j = LITERALS_FROM;
-    let mut left = l;
+    let mut j = from;
+    let mut left = k;
     while 0 < left {
         j = j + RECORD_HEAD + u32_at(b, j);
         left -= 1;
     }
     j
+}
+
+// The position behind l literals.
+pub fn behind_literals(b: &[u8], l: usize) -> usize
+    requires { ⌜ skip (now b) l literalsFrom ≤ length (now b) ⌝ }
+    ensures { λ r. ⌜ r ≡ skip (now (b .entry)) l literalsFrom ⌝ }
+{
+    behind_records(b, l, LITERALS_FROM)
 }
 
 // The characters of a literal: the position of the first, and how many there are.

@@ -48,7 +48,7 @@ relation-low ge e = omega arith
 relation-low eq e = omega arith
 relation-low ne e = omega arith
 
-index-of : (a : ℕ) → a < 16 → index (pos a) ≡ a
+pub index-of : (a : ℕ) → a < 16 → index (pos a) ≡ a
 index-of a h = ap (λ t. cond t a 0) (lt-ltb a 16 h)
 
 pub string-fact : (r a b : ℕ) (l : List ℤ) → r ≤ 2 → a < 16 → b < 16 → factOf (pos (r + 3) ∷ pos a ∷ pos b ∷ l) ≡ stringFact r a b
@@ -94,6 +94,21 @@ module _ (row : List ℤ) where
   pub tag-other : (z : ℤ) → getD row 0 (pos 0) ≡ z → (ofZ w64 z ≡ 0 → ⊥) → (ofZ w64 z ≡ 1 → ⊥) → (ofZ w64 z ≡ 3 → ⊥) → (ofZ w64 z ≡ 4 → ⊥) → (ofZ w64 z ≡ 5 → ⊥)
       → tagOf (factOf row) ≡ 2
   tag-other z e h0 h1 h3 h4 h5 = tag-from z e ∙ other z (index (getD row 1 (pos 0))) (index (getD row 2 (pos 0))) (drop 1 row) h0 h1 h3 h4 h5
+
+tag-alone : (z : ℤ) (a b c d : ℕ) (e f : List ℤ) → tagOf (tagged z a b e) ≡ tagOf (tagged z c d f)
+unfolding tagged tagOf
+tag-alone (pos zero) a b c d e f = refl
+tag-alone (pos (suc zero)) a b c d e f = refl
+tag-alone (pos (suc (suc zero))) a b c d e f = refl
+tag-alone (pos (suc (suc (suc zero)))) a b c d e f = refl
+tag-alone (pos (suc (suc (suc (suc zero))))) a b c d e f = refl
+tag-alone (pos (suc (suc (suc (suc (suc zero)))))) a b c d e f = refl
+tag-alone (pos (suc (suc (suc (suc (suc (suc k))))))) a b c d e f = refl
+tag-alone (negsuc k) a b c d e f = refl
+
+-- rows with one first number have one tag
+pub tag-kept : (row other : List ℤ) → getD row 0 (pos 0) ≡ getD other 0 (pos 0) → tagOf (factOf row) ≡ tagOf (factOf other)
+tag-kept row other h = tag-from row (getD other 0 (pos 0)) h ∙ tag-alone (getD other 0 (pos 0)) _ _ _ _ _ _ ∙ sym (tag-from other _ refl)
 
 -- ---- the fact from the tag
 

@@ -7,7 +7,7 @@ use lib.ListN.{length, getD, set}
 use lib.IntN.{ℤ, pos, negsuc, natAbs}
 use Rattle.calculus.specs.Limits.{factLimit, workNumbers}
 use Rattle.calculus.specs.LinearForms.{number}
-use Rattle.calculus.specs.Facts.{Fact, same, notSame, isLiteral, arithmetic, ge, eq, ne}
+use Rattle.calculus.specs.Facts.{Fact, factTag}
 use Rattle.format.specs.Checking.{factsWithin}
 use Rattle.rows.specs.Rows.{branchOf}
 
@@ -23,12 +23,7 @@ Within n zs = (j : ℕ) → natAbs (getD zs j (pos 0)) ≤ n
 
 -- the tag of a fact's row
 unfoldable pub tagOf : Fact → ℕ
-tagOf (arithmetic ge e) = 0
-tagOf (arithmetic eq e) = 1
-tagOf (arithmetic ne e) = 2
-tagOf (same x y) = 3
-tagOf (notSame x y) = 4
-tagOf (isLiteral x l) = 5
+tagOf f = factTag f
 
 -- the form c + k × column j
 unfoldable pub single : ℤ → ℕ → ℤ → List ℤ

@@ -448,12 +448,12 @@ pub fn joins(row: &[i64], other: &[i64]) -> bool
     negates(row, other)
 }
 
-// Are two rows the same, number by number?
-fn same_row(row: &[i64], other: &[i64]) -> bool
-    requires { ⌜ (length (now row) ≡ rowLength) × (length (now other) ≡ rowLength) ⌝ }
-    ensures { λ r. ⌜ r ≡ eqIntegers (now (row .entry)) (now (other .entry)) ⌝ }
+// Are two rows the same from a place on, number by number?
+pub fn same_from(row: &[i64], other: &[i64], from: usize) -> bool
+    requires { ⌜ (length (now row) ≡ rowLength) × (length (now other) ≡ rowLength) × (from ≤ rowLength) ⌝ }
+    ensures { λ r. ⌜ r ≡ eqIntegers (drop from (now (row .entry))) (drop from (now (other .entry))) ⌝ }
 {
-    let mut j = 0;
+    let mut j = from;
     while j < ROW_LENGTH {
         let x = row[j];
         let y = other[j];
@@ -475,7 +475,7 @@ fn same_by(row: &[i64], other: &[i64], column: usize) -> bool
     if x != y {
         return false;
     }
-    same_row(row, other)
+    same_from(row, other, 0)
 }
 
 // Is a row one of two, which mostly differ from it in a column?

@@ -1,20 +1,22 @@
 -- Division of a sum: "Column sums must divide exactly; the constant is divided rounding down".
-use Prim.Native.Nat.{ℕ, zero, suc, _≤_, _<_}
+use Prim.Native.Nat.{ℕ, suc, _≤_, _<_}
 use native.Mathlib.Omega.{arith}
 use mathlib.Core.Path.{_≡_, refl, sym, _∙_, ap, ap₂}
 use mathlib.Core.Bool.{Bool, true, false, _&&_, and-false}
 use mathlib.Core.Option.{Option, none, some}
-use mathlib.Core.List.{List, [], _∷_, _++_}
+use mathlib.Core.List.{List, [], _∷_}
 use borrow.Author.Tests.{le-leb, eqb-true, eqb-false}
-use lib.ListN.{length, getD, take, drop, set}
+use lib.ListN.{length, getD, drop, set}
 use lib.Dec.{leb, eqb}
 use lib.IntN.{ℤ, pos, natAbs, _*ℤ_, *ℤ-comm}
 use lib.Signed.{_≤ℤ_, quotZ}
 use mir.Syntax.{w64}
 use mir.Val.{SFits, ofZ}
 use Rattle.integers.proofs.Ring.{v, _⊕_, _⊗_, le-by, lt-by}
-use Rattle.integers.proofs.Laws.{one-*ℤ, pos-≤ℤ, ≤ℤ-trans, abs-nonneg, ≤ℤ-abs, floor-multiple}
+use Rattle.integers.proofs.Laws.{one-*ℤ, pos-≤ℤ, ≤ℤ-trans, abs-nonneg, ≤ℤ-abs, floor-multiple, floor-one}
 use Rattle.integers.proofs.Machine.{quot-multiple, back-fits}
+use Rattle.lists.proofs.Filled.{changedFrom}
+use Rattle.lists.proofs.Lists.{getD-map}
 use Rattle.lists.proofs.Options.{some-injective, none-some, some-none}
 use Rattle.integers.specs.Division.{floorDiv}
 use Rattle.calculus.specs.LinearForms.{scale, eqℤ, eqIntegers, floorDivAll}
@@ -52,35 +54,13 @@ exact-test x n h f = go (eqb (ofZ w64 (quotZ x (pos n) *ℤ pos n)) (ofZ w64 x))
 
 -- ---- a row
 
-pub divided-number : (a : List ℤ) (n j : ℕ) → j < length a → getD (floorDivAll a n) j (pos 0) ≡ floorDiv (getD a j (pos 0)) n
-divided-number [] n j h = absurd (omega arith)
-divided-number (x ∷ a) n zero h = refl
-divided-number (x ∷ a) n (suc j) h = divided-number a n j (omega arith)
-
 -- the row that division gives, behind the tag 0
 abbrev pub quotients : List ℤ → ℕ → List ℤ
 quotients row n = pos 0 ∷ floorDiv (getD row 1 (pos 0)) n ∷ floorDivAll (drop 2 row) n
 
 -- the row with its columns divided, and its constant as it was
 abbrev pub partly : List ℤ → ℕ → List ℤ
-partly row n = take 2 row ++ floorDivAll (drop 2 row) n
-
-pub partly-first : (row : List ℤ) (n : ℕ) → length row ≡ 50 → take 2 row ≡ take 2 (partly row n)
-partly-first [] n h = absurd (omega arith)
-partly-first (x ∷ []) n h = absurd (omega arith)
-partly-first (x ∷ c ∷ cs) n h = refl
-
-pub length-partly : (row : List ℤ) (n : ℕ) → length row ≡ 50 → length (partly row n) ≡ 50
-length-partly [] n h = absurd (omega arith)
-length-partly (x ∷ []) n h = absurd (omega arith)
-length-partly (x ∷ c ∷ cs) n h = ap (λ k. suc (suc k)) (length-floorDivAll cs n) ∙ h
-
-pub partly-number : (row : List ℤ) (n j : ℕ) → 2 ≤ j → j < length row → getD (partly row n) j (pos 0) ≡ floorDiv (getD row j (pos 0)) n
-partly-number row n zero h k = absurd (omega arith)
-partly-number row n (suc zero) h k = absurd (omega arith)
-partly-number [] n (suc (suc j)) h k = absurd (omega arith)
-partly-number (x ∷ []) n (suc (suc j)) h k = absurd (omega arith)
-partly-number (x ∷ c ∷ cs) n (suc (suc j)) h k = divided-number cs n j (omega arith)
+partly row n = changedFrom 2 (λ x. floorDiv x n) row
 
 pub partly-constant : (row : List ℤ) (n : ℕ) → length row ≡ 50 → getD (partly row n) 1 (pos 0) ≡ getD row 1 (pos 0)
 partly-constant [] n h = absurd (omega arith)
@@ -105,7 +85,7 @@ pub length-multiples : (row : List ℤ) (n : ℕ) → length (multiples row n) �
 length-multiples row n = length-scale (pos n) (floorDivAll row n) ∙ length-floorDivAll row n
 
 pub multiple-number : (row : List ℤ) (n j : ℕ) → j < length row → getD (multiples row n) j (pos 0) ≡ pos n *ℤ floorDiv (getD row j (pos 0)) n
-multiple-number row n j h = entry-scale (pos n) (floorDivAll row n) j ∙ ap (λ z. pos n *ℤ z) (divided-number row n j h)
+multiple-number row n j h = entry-scale (pos n) (floorDivAll row n) j ∙ ap (λ z. pos n *ℤ z) (getD-map (λ x. floorDiv x n) row j (pos 0) (pos 0) h)
 
 -- ---- the whole division
 
@@ -147,7 +127,7 @@ pub exactly-one : (row : List ℤ) → length row ≡ 50 → dividesExactly 1 (d
 exactly-one row h =
     let c = getD row 1 (pos 0) in
     exactly-is row 1 h
-    ∙ eqℤ-yes (pos 1 *ℤ floorDiv c 1) c (one-*ℤ (floorDiv c 1) ∙ ap (λ z. floorDiv z 1) (sym (one-*ℤ c)) ∙ floor-multiple c 1 (omega arith))
+    ∙ eqℤ-yes (pos 1 *ℤ floorDiv c 1) c (one-*ℤ (floorDiv c 1) ∙ floor-one c)
 
 -- ---- the tag, and the form behind it
 

@@ -80,7 +80,7 @@ fn sum_of(sum: &mut [i64], b: &[u8], at: usize, pairs: usize, work: &[i64], coun
 }
 
 // Division rounding down.
-fn floor_div(c: i64, d: i64) -> i64
+pub fn floor_div(c: i64, d: i64) -> i64
     requires { ⌜ pos 1 ≤ℤ d ⌝ }
     ensures { λ r. ⌜ r ≡ floorDiv c (natAbs d) ⌝ }
 {

@@ -9,6 +9,7 @@ use nuldwich_reference::facts::Relation::{AtLeast, Equal};
 use nuldwich_reference::facts::{Fact, Relation, Row};
 use nuldwich_reference::leaf::VALUE_LIMIT;
 use nuldwich_reference::question::{Question, MOST_FACTS};
+use nuldwich_reference::same;
 use nuldwich_reference::steps::{Rule, Step};
 
 /// A kind of input. `make` takes a wished size; the size itself is the number of records of the kinds counted.
@@ -74,6 +75,20 @@ pub const TO_JUDGE: [Kind; 9] = [
     constraints("order of 64 characters", EXTENDED, |count| judged_extended(count, |a, b| Before { a, b })),
     SMALLEST_REFUSAL,
     constraints("smallest acceptance", &[0], smallest_judged),
+];
+
+/// What is measured of sameness: a question beside the same one in the opposite order, written in another way where there is one.
+pub const TO_COMPARE: [Kind; 10] = [
+    constraints("usual questions", &[12], usual_pair),
+    constraints("rows of 5 columns", &[16, 32, 64, 128], |count| compared_rows(count, 5)),
+    constraints("rows of 48 columns", &[27, 54, 109], |count| compared_rows(count, 48)),
+    constraints("≈ and ≉, sides turned", &[16, 32, 64, 128], compared_strings),
+    constraints("literals of 64 characters", &[16, 32, 64, 128], compared_literals),
+    constraints("one literal of 64 characters, repeated", &[32, 128], compared_repeated_literal),
+    constraints("kind 11", EXTENDED, compared_extended),
+    constraints("one against 128 repeats", &[1], compared_repeats),
+    SMALLEST_REFUSAL,
+    constraints("smallest acceptance", &[0], |_| compared(&frame(1, 0, 0), &frame(1, 0, 0))),
 ];
 
 /// A derivation that grows to a wished number of steps.
@@ -302,7 +317,7 @@ fn strings_ticket(question: &Question, model: &[i128]) -> Vec<Vec<u8>> {
 fn strings(variables: usize) -> Vec<Vec<u8>> {
     let mut question = frame(128, variables, 16);
     for x in 0..variables - 1 {
-        question.literals.push((0..64).map(|place| if place == 63 { x as u32 } else { 0 }).collect());
+        question.literals.push(long_literal(x as u32));
         question.constraints.push(Fact::IsLiteral(x, 1 + x));
     }
     question.constraints.extend((1..variables).map(|x| Fact::Differ(x - 1, x)));
@@ -380,4 +395,132 @@ fn judged_long_numerals(count: usize) -> Vec<Vec<u8>> {
 /// No variables, no constraints, an answer without values.
 fn smallest_judged(_: usize) -> Vec<Vec<u8>> {
     judged(&frame(1, 0, 0), Vec::new(), Vec::new())
+}
+
+/// Two questions that are the same, the second with its constraints in the opposite order.
+fn compared(first: &Question, second: &Question) -> Vec<Vec<u8>> {
+    let mut second = second.clone();
+    let strings = second.constraints.iter().filter(|fact| !matches!(fact, Fact::Arithmetic(..))).count();
+    second.constraints[..strings].reverse();
+    second.constraints[strings..].reverse();
+    second.extended.reverse();
+    let [first, second] = [first, &second].map(|question| [writer::question(question), writer::end()].concat());
+    assert_eq!(same(&first, &second), Ok(true));
+    vec![first, second]
+}
+
+/// So many numbers, each of which is the sum of the two behind it, from the greatest whose double is within the limit: the greatest common
+/// divisor of two neighbours takes as many divisions as that of any two numbers of their size.
+fn sums_of_two(count: usize) -> Vec<i128> {
+    let pairs = std::iter::successors(Some((433_494_437, 267_914_296)), |(high, low)| Some((*low, high - low)));
+    pairs.map(|(high, _)| high).take(count).collect()
+}
+
+/// So many equations, each with so many columns, at least 5, beside their doubles with the sign turned. They differ in the last column but
+/// two alone, so that most of a row is compared, and at both ends stand neighbours among the sums of two: the greatest common divisor takes
+/// many divisions from whichever end it is taken.
+fn compared_rows(count: usize, columns: usize) -> Vec<Vec<u8>> {
+    let sums = sums_of_two(columns / 2 + 1);
+    let mut question = frame(128, 16, 16);
+    for number in 0..count as i128 {
+        let mut row = Row::constant(48, sums[0]);
+        for column in 0..columns {
+            row.coefficients[column] = sums[(column + 1).min(columns - 1 - column)];
+        }
+        row.coefficients[columns - 3] = 1_000 + number;
+        question.constraints.push(Fact::Arithmetic(Equal, row));
+    }
+    let mut doubled = question.clone();
+    for fact in &mut doubled.constraints {
+        if let Fact::Arithmetic(_, row) = fact {
+            *row = Row::constant(48, 0).plus(-2, row);
+        }
+    }
+    compared(&question, &doubled)
+}
+
+/// So many different ≈ and ≉ constraints between 16 variables, beside those with sides turned.
+fn compared_strings(count: usize) -> Vec<Vec<u8>> {
+    let pairs: Vec<(usize, usize)> = (0..16).flat_map(|a| (0..a).map(move |b| (a, b))).collect();
+    let fact = |number: usize, (a, b): (usize, usize)| match number % 2 {
+        0 => Fact::Same(a, b),
+        _ => Fact::Differ(a, b),
+    };
+    let (mut first, mut second) = (frame(128, 16, 0), frame(128, 16, 0));
+    for number in 0..count {
+        let (a, b) = pairs[number % pairs.len()];
+        first.constraints.push(fact(number + number / pairs.len(), (a, b)));
+        second.constraints.push(fact(number + number / pairs.len(), (b, a)));
+    }
+    compared(&first, &second)
+}
+
+/// A literal of 64 characters, all but the last the same.
+fn long_literal(last: u32) -> Vec<u32> {
+    (0..64).map(|place| if place == 63 { last } else { 0 }).collect()
+}
+
+/// So many constraints between 16 variables and 15 literals that differ in the last of 64 characters, and are numbered in the opposite
+/// order in the second question.
+fn compared_literals(count: usize) -> Vec<Vec<u8>> {
+    let (mut first, mut second) = (frame(128, 16, 0), frame(128, 16, 0));
+    first.literals.extend((1..16).map(long_literal));
+    second.literals.extend((1..16).rev().map(long_literal));
+    for number in 0..count {
+        let (variable, literal) = (number % 16, 1 + number / 16 % 15);
+        first.constraints.push(Fact::IsLiteral(variable, literal));
+        second.constraints.push(Fact::IsLiteral(variable, 16 - literal));
+    }
+    compared(&first, &second)
+}
+
+/// One constraint, so many times on both sides, with the last of 15 literals: it is looked for behind the others, and its 64 characters are
+/// compared, for each pair of constraints. Of all pairs of questions here the library takes the longest over this one.
+fn compared_repeated_literal(count: usize) -> Vec<Vec<u8>> {
+    let mut question = frame(128, 1, 0);
+    question.literals.extend((1..16).map(long_literal));
+    question.constraints = vec![Fact::IsLiteral(0, 15); count];
+    compared(&question, &question)
+}
+
+/// So many different constraints of kind 11.
+fn compared_extended(count: usize) -> Vec<Vec<u8>> {
+    let question = extended(count, |number| Before { a: number % 16, b: number / 16 });
+    compared(&question, &question)
+}
+
+/// One constraint, beside as many repeats of it as a question may have.
+fn compared_repeats(_: usize) -> Vec<Vec<u8>> {
+    let mut question = frame(128, 2, 0);
+    question.constraints.push(Fact::Same(0, 1));
+    let repeated = Question { constraints: vec![Fact::Same(1, 0); MOST_FACTS], ..question.clone() };
+    compared(&question, &repeated)
+}
+
+/// Twelve constraints of all kinds, as a rule writer has them, beside them in another order and written in another way.
+fn usual_pair(_: usize) -> Vec<Vec<u8>> {
+    let text = |words: &str| words.chars().map(u32::from).collect::<Vec<u32>>();
+    let (mut first, mut second) = (frame(128, 4, 2), frame(128, 4, 2));
+    first.literals.extend(["WARD", "A", "archive"].map(text));
+    second.literals.extend(["A", "archive", "WARD"].map(text));
+    let row = |constant, pairs: &[(usize, i128)]| {
+        pairs.iter().fold(Row::constant(10, constant), |row, (column, coefficient)| row.with(*column, *coefficient))
+    };
+    let rows = [
+        (AtLeast, row(-1, &[(2, 1)])),
+        (AtLeast, row(24, &[(3, -2)])),
+        (Equal, row(0, &[(2, 1), (3, -1)])),
+        (Equal, row(-8, &[(0, 1), (4, -4)])),
+        (Relation::NotEqual, row(-65, &[(6, 1)])),
+    ];
+    first.constraints = vec![Fact::Same(0, 1), Fact::Differ(1, 2), Fact::IsLiteral(0, 1), Fact::IsLiteral(2, 2)];
+    second.constraints = vec![Fact::Same(1, 0), Fact::Differ(2, 1), Fact::IsLiteral(0, 3), Fact::IsLiteral(2, 1)];
+    for (relation, row) in rows {
+        let factor = if relation == AtLeast { 3 } else { -1 };
+        second.constraints.push(Fact::Arithmetic(relation, Row::constant(10, 0).plus(factor, &row)));
+        first.constraints.push(Fact::Arithmetic(relation, row));
+    }
+    first.extended = vec![Upper { a: 0, b: 3 }, Read { integer: 1, string: 3 }, Before { a: 0, b: 2 }];
+    second.extended = first.extended.clone();
+    compared(&first, &second)
 }

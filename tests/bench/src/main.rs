@@ -8,7 +8,7 @@ mod plain;
 use compare::library;
 use compare::operation::{operation, Buffers, Call, Entry, Operation, Reply, Sizes};
 use compare::random::Random;
-use inputs::{Kind, TO_CHECK, TO_JUDGE, TO_NEED};
+use inputs::{Kind, TO_CHECK, TO_COMPARE, TO_JUDGE, TO_NEED};
 use nuldwich_reference::records::whole_records;
 use std::hint::black_box;
 use std::time::{Duration, Instant};
@@ -18,8 +18,8 @@ const BUDGET: Duration = Duration::from_millis(800);
 const ROUND: Duration = Duration::from_micros(100);
 
 /// The operations that are measured, with the kinds of their inputs.
-const MEASURED: [(&str, &[&[Kind]]); 3] =
-    [("check", &[&TO_CHECK]), ("judge", &[&TO_JUDGE]), ("need", &[&TO_CHECK, &TO_NEED])];
+const MEASURED: [(&str, &[&[Kind]]); 4] =
+    [("check", &[&TO_CHECK]), ("judge", &[&TO_JUDGE]), ("need", &[&TO_CHECK, &TO_NEED]), ("same", &[&TO_COMPARE])];
 
 fn main() {
     let asked: Vec<String> = std::env::args().skip(1).collect();
@@ -35,7 +35,7 @@ fn measure(operation: &dyn Operation, kinds: &[&[Kind]]) {
     let entry = &operation.entries()[0];
     let sizes = Sizes { work: 0, ..operation.sizes(&[]) };
     println!(
-        "{:<32} {:>5} {:>6} {:>9} {:>9} {:>12} {:>8} {:>16} {:>8}",
+        "{:<38} {:>5} {:>6} {:>9} {:>9} {:>12} {:>8} {:>16} {:>8}",
         operation.title(),
         "size",
         "bytes",
@@ -67,7 +67,7 @@ fn print_line(entry: &Entry, sizes: &Sizes, kind: &Kind, wished: usize) {
     let shown = |value: Option<f64>| value.map_or("-".to_string(), |number| format!("{number:.2}"));
     let each = |time: Option<f64>| shown(time.filter(|_| size > 0).map(|time| 1e3 * time / size as f64));
     println!(
-        "{:<32} {size:>5} {:>6} {:>9} {:>9} {:>12} {:>8} {:>16} {:>8}",
+        "{:<38} {size:>5} {:>6} {:>9} {:>9} {:>12} {:>8} {:>16} {:>8}",
         kind.name,
         parts.iter().map(Vec::len).sum::<usize>(),
         shown(library),
@@ -137,5 +137,10 @@ mod tests {
     #[test]
     fn plain_need_agrees_with_the_reference() {
         plain_agrees("need");
+    }
+
+    #[test]
+    fn plain_sameness_agrees_with_the_reference() {
+        plain_agrees("same");
     }
 }

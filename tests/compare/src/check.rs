@@ -75,8 +75,8 @@ impl Operation for Check {
         }
     }
 
-    fn examine(&self, parts: &[Vec<u8>], report: &mut Report) {
-        let ticket = &parts[0];
+    fn examine(&self, input: &Input, report: &mut Report) {
+        let ticket = &input.parts[0];
         let (mut equations, mut cores) = (equations::Seen::default(), cores::Seen::default());
         let walked = walk(ticket, &mut |shown| {
             equations.look_at(shown);
@@ -149,7 +149,7 @@ fn with_any_sizes(random: &mut Random, ticket: Vec<u8>) -> Input {
         }
         _ => {}
     }
-    Input { parts: vec![ticket], sizes }
+    Input { parts: vec![ticket], sizes, ..Input::default() }
 }
 
 /// The reference in the place of `check`, which brings its own work area.

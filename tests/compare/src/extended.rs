@@ -40,7 +40,7 @@ pub fn grow(random: &mut Random, grown: &mut Grown, count: usize, true_percent: 
 }
 
 /// A constraint with any operands; nothing where the question has none for it.
-fn any(random: &mut Random, question: &Question) -> Option<Extended> {
+pub fn any(random: &mut Random, question: &Question) -> Option<Extended> {
     let (p, q) = (question.p, question.q);
     let function = random.below(5);
     if p == 0 || (q == 0 && [2, 3].contains(&function)) {

@@ -89,7 +89,7 @@ impl Operation for Judge {
 
     fn grow(&self, random: &mut Random, hand_on: &mut dyn FnMut(&mut Random, Input)) {
         let (question, answer) = grow_case(random);
-        hand_on(random, Input { parts: vec![question, answer], sizes: Sizes::default() });
+        hand_on(random, Input { parts: vec![question, answer], ..Input::default() });
     }
 
     fn demand_coverage(&self, report: &mut Report) {
@@ -161,7 +161,7 @@ fn grow_case(random: &mut Random) -> (Vec<u8>, Vec<u8>) {
 
 /// A question with its assignment. Constraints of kind 11 come first, as values are changed for them; they are the lowest that are
 /// not met only where all others are.
-fn grow_values(random: &mut Random, wish: &Wish) -> Grown {
+pub fn grow_values(random: &mut Random, wish: &Wish) -> Grown {
     let mut grown = grow_variables(random, wish.longest);
     if !random.chance(WITH_EXTENDED) {
         grow_constraints(random, &mut grown, wish);
@@ -178,7 +178,7 @@ fn grow_values(random: &mut Random, wish: &Wish) -> Grown {
 }
 
 /// Ends a question at a claim or an end record, whole or not, with or without bytes behind it.
-fn end_question(random: &mut Random, question: &mut Vec<u8>) {
+pub fn end_question(random: &mut Random, question: &mut Vec<u8>) {
     match random.below(12) {
         0..=3 => question.extend(writer::claim(1)),
         4 | 5 => question.extend(writer::end()),

@@ -1,7 +1,9 @@
 //! What the comparisons of the library with the reference share: operations, inputs, entries, runs and reports.
 
+pub mod alike;
 pub mod assignments;
 pub mod attempts;
+pub mod changes;
 pub mod check;
 pub mod cores;
 pub mod damage;
@@ -13,12 +15,16 @@ pub mod judge;
 pub mod library;
 pub mod models;
 pub mod need;
+pub mod notions;
 pub mod operation;
+pub mod pairs;
 pub mod program;
 pub mod proofs;
 pub mod random;
 pub mod report;
+pub mod rewriting;
 pub mod run;
+pub mod same;
 pub mod templates;
 pub mod unjudged;
 pub mod vectors;

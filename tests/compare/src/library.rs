@@ -64,6 +64,21 @@ mod linked {
         }
     }
 
+    /// `nuldwich_sameness`.
+    #[repr(C)]
+    struct Compared {
+        number: u64,
+        record: u64,
+        which: u64,
+        same: u64,
+    }
+
+    impl From<Compared> for Reply {
+        fn from(compared: Compared) -> Reply {
+            [compared.number, compared.record, compared.which, compared.same, 0]
+        }
+    }
+
     extern "C" {
         #[link_name = "check"]
         fn c_check(ticket: *const u8, ticket_len: usize, answer: *mut u8, answer_len: usize) -> Replied;
@@ -80,6 +95,8 @@ mod linked {
         fn c_judge(question: *const u8, question_len: usize, answer: *const u8, answer_len: usize) -> Judged;
         #[link_name = "nuldwich_need"]
         fn c_need(ticket: *const u8, ticket_len: usize) -> Needed;
+        #[link_name = "nuldwich_same"]
+        fn c_same(first: *const u8, first_len: usize, second: *const u8, second_len: usize) -> Compared;
     }
 
     /// The entry of a name.
@@ -89,6 +106,7 @@ mod linked {
             "check_in" => Some(check_in),
             "judge" => Some(judge),
             "need" => Some(need),
+            "same" => Some(same),
             _ => None,
         }
     }
@@ -116,5 +134,11 @@ mod linked {
         let ticket = &parts[0];
         // The slice is valid for its length during the call.
         unsafe { c_need(ticket.as_ptr(), ticket.len()) }.into()
+    }
+
+    fn same(parts: &[Vec<u8>], _: &mut Buffers) -> Reply {
+        let (first, second) = (&parts[0], &parts[1]);
+        // Both slices are valid for their lengths during the call.
+        unsafe { c_same(first.as_ptr(), first.len(), second.as_ptr(), second.len()) }.into()
     }
 }

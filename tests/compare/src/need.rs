@@ -117,7 +117,7 @@ impl Operation for Need {
 
 /// A ticket, which is all that is lent.
 fn lent(ticket: Vec<u8>) -> Input {
-    Input { parts: vec![ticket], sizes: Sizes::default() }
+    Input { parts: vec![ticket], ..Input::default() }
 }
 
 /// The reference in the place of `nuldwich_need`.

@@ -5,11 +5,12 @@ use crate::judge::Judge;
 use crate::need::Need;
 use crate::random::Random;
 use crate::report::Report;
+use crate::same::Same;
 use crate::vectors::Vector;
 use std::path::Path;
 
 /// All operations.
-pub const OPERATIONS: &[&dyn Operation] = &[&Check, &Judge, &Need];
+pub const OPERATIONS: &[&dyn Operation] = &[&Check, &Judge, &Need, &Same];
 
 /// The operation of a name.
 pub fn operation(name: &str) -> Option<&'static dyn Operation> {
@@ -17,10 +18,12 @@ pub fn operation(name: &str) -> Option<&'static dyn Operation> {
 }
 
 /// What is lent to an operation: the bytes of each of its slices, and how large its buffers are.
-#[derive(Clone, Debug, PartialEq)]
+#[derive(Clone, Debug, Default, PartialEq)]
 pub struct Input {
     pub parts: Vec<Vec<u8>>,
     pub sizes: Sizes,
+    /// How it was made, in words to count by; an operation that does not count so has none.
+    pub made: Vec<&'static str>,
 }
 
 /// Numbers in the work area and bytes in the answer buffer; 0 where an operation has none.
@@ -104,7 +107,7 @@ pub trait Operation: Sync {
     }
 
     /// Counts what an input reaches besides its outcome; a failure where the reference contradicts itself.
-    fn examine(&self, _parts: &[Vec<u8>], _report: &mut Report) {}
+    fn examine(&self, _input: &Input, _report: &mut Report) {}
 
     /// How many seeds inputs are grown from.
     fn seeds(&self) -> u64;

@@ -94,7 +94,7 @@ impl Run<'_> {
         }
         let difference = (!differences.is_empty()).then(|| format!("{}\n{}", shown(input), differences.join("\n")));
         self.report.count(label, difference);
-        self.operation.examine(&input.parts, &mut self.report);
+        self.operation.examine(input, &mut self.report);
     }
 }
 

@@ -87,7 +87,7 @@ fn vector(directory: &Path, path: &str, endings: &[&str], mut line: Vec<String>)
         _ => endings.iter().map(|ending| read(&directory.join(format!("{}.{ending}", line[0])))).collect(),
     };
     let columns = line.split_off(1);
-    Vector { name: format!("{path}/{}", line[0]), input: Input { parts, sizes: Sizes::default() }, columns }
+    Vector { name: format!("{path}/{}", line[0]), input: Input { parts, ..Input::default() }, columns }
 }
 
 /// Every directory of vectors must be a landing's, and every folder in it one of those that are read.
@@ -109,6 +109,7 @@ pub fn buffers(root: &Path) -> Vec<Vector> {
         input: Input {
             parts: vec![read(&root.join("base").join(&line[0]))],
             sizes: Sizes { work: number(&line[1]), answer: number(&line[2]) },
+            ..Input::default()
         },
         columns: vec![line[3].clone()],
     };

@@ -1,11 +1,11 @@
-//! Kind 11: case, digits and order. Judging alone takes it.
+//! Kind 11: case, digits and order. Judging and sameness alone take it.
 
 use crate::answer::Answer;
 
 /// "u16 function, u16 a, u16 b", by the function. "Functions: 0, string a is b in upper case ..; 1, string a is b in lower
 /// case; 2, integer a is b read in decimal ..; 3, string a is integer b in decimal ..; 4, string a is equal to or before
 /// string b".
-#[derive(Clone, Copy, Debug, PartialEq)]
+#[derive(Clone, Copy, Debug, PartialEq, Eq, PartialOrd, Ord)]
 pub enum Extended {
     Upper { a: usize, b: usize },
     Lower { a: usize, b: usize },

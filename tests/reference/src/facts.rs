@@ -6,7 +6,7 @@ pub fn within_limit(number: i128) -> bool {
 }
 
 /// "relation (0 is ≥ 0, 1 is = 0, 2 is ≠ 0)"
-#[derive(Clone, Copy, Debug, PartialEq)]
+#[derive(Clone, Copy, Debug, PartialEq, Eq, PartialOrd, Ord)]
 pub enum Relation {
     AtLeast,
     Equal,

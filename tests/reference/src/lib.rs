@@ -16,12 +16,14 @@ pub mod program;
 pub mod question;
 pub mod records;
 pub mod rules;
+pub mod same;
 pub mod steps;
 
 pub use checking::{check, Outcome};
 pub use judging::{judge, Judgement, Part, Side};
 pub use need::{need, Needs};
 pub use program::program;
+pub use same::{same, Which};
 
 /// The number of a refusal, 1 to 16.
 pub type Refusal = u64;

@@ -32,8 +32,8 @@ returns c =
     let s = c .before .before .before .args in
     sym (eqIntegers-differ (now (s .row)) (now (s .other)) (s .column + 2) (λ e. c .if1 .taken (ap (ofZ w64) e)))
 
-same-row-requires : tie.Need-same-row-requires
-same-row-requires c κs = search needs
+same-from-requires : tie.Need-same-from-requires
+same-from-requires c κs = search needs
 
 returns-2 : tie.Need-returns-2
 returns-2 c = search needs
@@ -49,5 +49,5 @@ same-by-spec =
     mul-y
     shared-slice-copy-out-y
     returns
-    same-row-requires
+    same-from-requires
     returns-2)

@@ -3,7 +3,7 @@ use Prim.Native.Nat.{_-_, _≤_, ℕ}
 use borrow.Author.Needs.{needs}
 use denote.Ref.{now}
 use lib.IntN.{_*ℤ_, natAbs, pos, ℤ}
-use lib.ListN.{drop, getD, length, length-set, set, take}
+use lib.ListN.{drop, getD, length-set, set}
 use lib.Signed.{quotZ}
 use mathlib.Core.Bool.{false, true}
 use mathlib.Core.List.{List}
@@ -17,21 +17,17 @@ use Rattle.integers.specs.Division.{floorDiv}
 use Rattle.calculus.specs.LinearForms.{eqIntegers}
 use Rattle.calculus.specs.Rules.{divided}
 use Rattle.integers.proofs.Machine.{back-fits, div-need}
-use Rattle.lists.proofs.Filled.{filled-all, filled-more, kept-at, kept-more}
+use Rattle.lists.proofs.Filled.{Changing, changing-done, changing-first, changing-more, kept-at}
 use Rattle.rows.proofs.Tested.{eqIntegers-done, eqIntegers-fails, eqIntegers-on, eqℤ-no, eqℤ-yes}
-use Rattle.sums.proofs.Division.{divided-no, divided-yes, exact-no, exact-yes, length-multiples, length-partly, multiple-number}
-use Rattle.sums.proofs.Division.{multiples, partly, partly-constant, partly-first, partly-number, partly-whole, positive-is}
+use Rattle.sums.proofs.Division.{divided-no, divided-yes, exact-no, exact-yes, length-multiples, multiple-number}
+use Rattle.sums.proofs.Division.{multiples, partly, partly-constant, partly-whole, positive-is}
 use Rattle.sums.specs.Sums.{geRow, rowIn}
 use Rattle.sums.proofs.divide.Statement.{statement}
 use Rattle.sums.proofs.divide.Tie as tie
 
 abbrev Inv-loop : tie.InvT-loop
 Inv-loop row₀ d j₀ row j =
-    (2 ≤ j)
-    × (j ≤ 50)
-    × (length row ≡ 50)
-    × (take j row ≡ take j (partly row₀ (natAbs (toZ w64 d))))
-    × (drop j row ≡ drop j row₀)
+    Changing 2 (λ x. floorDiv x (natAbs (toZ w64 d))) row₀ row j
     × (eqIntegers (drop j (multiples row₀ (natAbs (toZ w64 d)))) (drop j row₀) ≡ eqIntegers (drop 2 (multiples row₀ (natAbs (toZ w64 d)))) (drop 2 row₀))
 
 abbrev μ-loop : tie.MeasureT-loop
@@ -63,7 +59,7 @@ module _ (c : tie.After-x Inv-loop μ-loop) where
   x = getD (c .before .before .loop .row) (c .before .before .loop .j) (pos 0)
 
   was : x ≡ getD row (c .before .before .loop .j) (pos 0)
-  was = kept-at (c .before .before .loop .row) row (c .before .before .loop .j) (pos 0) (c .before .before .loop .inv .4)
+  was = kept-at (c .before .before .loop .row) row (c .before .before .loop .j) (pos 0) (c .before .before .loop .inv .0 .4)
 
   fx : SFits w64 x
   fx = record { sfits = c .x .given }
@@ -97,15 +93,15 @@ module _ (c : tie.After-loop Inv-loop μ-loop) where
   exit =
       let l = c .before .loop in
       let row = now (c .before .before .args .row) in
-      let h = length-partly row (n (c .before .before)) (c .before .before .pre .1) in
-      filled-all (l .row) (partly row (n (c .before .before))) (l .j) (omega arith) (omega arith) (l .inv .3)
+      let h = c .before .before .pre .1 in
+      changing-done 2 (λ x. floorDiv x (n (c .before .before))) row (l .row) (l .j) (l .inv .0) (omega arith)
 
   exit-constant : getD (c .before .loop .row) 1 (pos 0) ≡ getD (now (c .before .before .args .row)) 1 (pos 0)
   exit-constant =
       ap (λ (l : List ℤ). getD l 1 (pos 0)) exit ∙ partly-constant (now (c .before .before .args .row)) (n (c .before .before)) (c .before .before .pre .1)
 
 loop-holds : tie.Need-loop-holds Inv-loop μ-loop
-loop-holds c = (omega arith, omega arith, c .pre .1, partly-first (now (c .args .row)) (n c) (c .pre .1), refl, refl)
+loop-holds c = let h = c .pre .1 in (changing-first 2 (λ x. floorDiv x (n c)) (now (c .args .row)) (omega arith), refl)
 
 mul-x : tie.Need-mul-x Inv-loop μ-loop
 mul-x c = search needs
@@ -120,7 +116,7 @@ mul-if1 : tie.Need-mul-if1 Inv-loop μ-loop
 mul-if1 c = rw (back c) (fb c)
 
 same-length : tie.Need-same-length Inv-loop μ-loop
-same-length c = c .before .before .before .loop .inv .2 ∙ sym (c .before .before .before .before .pre .1)
+same-length c = c .before .before .before .loop .inv .0 .2
 
 returns : tie.Need-returns Inv-loop μ-loop
 unfolding rowIn
@@ -133,7 +129,7 @@ returns c =
     (λ e. exact-no (x p) (k p) (bound (s p)) (inexact c)
     (ap (λ (z : ℤ). pos (k p) *ℤ floorDiv z (k p)) (was p) ∙ sym (multiple-number (row p) (k p) (l .j) (omega arith)) ∙ e ∙ sym (was p))) in
     let f : eqIntegers (drop 2 (multiples (row p) (k p))) (drop 2 (row p)) ≡ false =
-    sym (l .inv .5) ∙ eqIntegers-fails (multiples (row p) (k p)) (row p) (l .j) (omega arith) (omega arith) e in
+    sym (l .inv .1) ∙ eqIntegers-fails (multiples (row p) (k p)) (row p) (l .j) (omega arith) (omega arith) e in
     sym (ap (λ (d : ℤ). geRow (divided (natAbs d) (drop 1 (row p)))) (sym (plain (s p))) ∙ ap geRow (divided-no (row p) (k p) h f))
 
 mul-q : tie.Need-mul-q Inv-loop μ-loop
@@ -154,17 +150,11 @@ loop-again c =
     let l = c .before .before .before .loop in
     let h = s p .pre .1 in
     let g = length-multiples (row p) (k p) in
-    let q = length-partly (row p) (k p) h in
     let (m, r) = exact-yes (x p) (k p) (bound (s p)) (exact c) in
     let e = eqℤ-yes (getD (multiples (row p) (k p)) (l .j) (pos 0)) (getD (row p) (l .j) (pos 0))
     (multiple-number (row p) (k p) (l .j) (omega arith) ∙ ap (λ (z : ℤ). pos (k p) *ℤ floorDiv z (k p)) (sym (was p)) ∙ m ∙ was p) in (
-      omega arith,
-      omega arith,
-      simp length-set (l .inv .2),
-      filled-more (l .row) (partly (row p) (k p)) (l .j) _ (pos 0) (omega arith) (omega arith) (l .inv .3)
-          (quotient-is p ∙ r ∙ ap (λ (z : ℤ). floorDiv z (k p)) (was p) ∙ sym (partly-number (row p) (k p) (l .j) (omega arith) (omega arith))),
-      kept-more (l .row) (row p) (l .j) _ (l .inv .4),
-      eqIntegers-on (multiples (row p) (k p)) (row p) (l .j) (omega arith) (omega arith) e ∙ l .inv .5,
+      changing-more 2 (λ z. floorDiv z (k p)) (row p) (l .row) (l .j) (l .inv .0) _ (pos 0) (omega arith) (quotient-is p ∙ r),
+      eqIntegers-on (multiples (row p) (k p)) (row p) (l .j) (omega arith) (omega arith) e ∙ l .inv .1,
     )
 
 slice-copy-out-c : tie.Need-slice-copy-out-c Inv-loop μ-loop
@@ -177,7 +167,7 @@ slice-set-from-row : tie.Need-slice-set-from-row Inv-loop μ-loop
 slice-set-from-row c = search needs
 
 same-length-2 : tie.Need-same-length-2 Inv-loop μ-loop
-same-length-2 c = simp length-set (c .before .before .before .loop .inv .2 ∙ sym (c .before .before .before .before .pre .1))
+same-length-2 c = simp length-set (c .before .before .before .loop .inv .0 .2)
 
 returns-2 : tie.Need-returns-2 Inv-loop μ-loop
 unfolding rowIn
@@ -189,7 +179,7 @@ returns-2 c =
     let m = n s in
     let g = length-multiples row m in
     let f : eqIntegers (drop 2 (multiples row m)) (drop 2 row) ≡ true =
-    sym (l .inv .5) ∙ eqIntegers-done (multiples row m) row (l .j) (omega arith) (omega arith) in
+    sym (l .inv .1) ∙ eqIntegers-done (multiples row m) row (l .j) (omega arith) (omega arith) in
     let fc : SFits w64 (getD (l .row) 1 (pos 0)) = record { sfits = c .before .c .given } in
     let fq : SFits w64 (c .floor-div .result) = record { sfits = c .floor-div .ok } in
     let q : toZ w64 (ofZ w64 (c .floor-div .result)) ≡ floorDiv (getD row 1 (pos 0)) m =

@@ -18,9 +18,9 @@ const ANSWER: u64 = 1;
 const LEADING: usize = 6;
 
 /// A constraint: its record's kind and body, and where the record starts in the question.
-struct Constraint<'a> {
-    kind: u16,
-    body: &'a [u8],
+pub struct Constraint<'a> {
+    pub kind: u16,
+    pub body: &'a [u8],
     start: usize,
 }
 
@@ -52,7 +52,7 @@ fn showing([number, record, ..]: Reply, side: u64, offset: usize, length: usize)
 }
 
 /// Reads a question and keeps its constraints; it ends at the six leading bytes of the first claim or end record.
-fn read_question<'a>(bytes: &'a [u8], constraints: &mut Vec<Constraint<'a>>) -> Result<Question<'a>, Reply> {
+pub fn read_question<'a>(bytes: &'a [u8], constraints: &mut Vec<Constraint<'a>>) -> Result<Question<'a>, Reply> {
     demand(bytes.len() <= LONGEST_TICKET, 2).map_err(|refusal| reply(refusal, 0))?;
     let mut question = Question::default();
     let mut records = Records::new(bytes);

@@ -10,6 +10,7 @@ mod leaf;
 mod need;
 mod question;
 mod records;
+mod same;
 mod splits;
 mod steps;
 
@@ -21,6 +22,7 @@ pub fn entry(entry: &Entry) -> Option<Call> {
         "check" => Some(|parts: &[Vec<u8>], lent: &mut Buffers| checking::check(&parts[0], &mut lent.answer)),
         "judge" => Some(|parts: &[Vec<u8>], _: &mut Buffers| judging::judge(&parts[0], &parts[1])),
         "need" => Some(|parts: &[Vec<u8>], _: &mut Buffers| need::need(&parts[0])),
+        "same" => Some(|parts: &[Vec<u8>], _: &mut Buffers| same::same(&parts[0], &parts[1])),
         _ => None,
     }
 }

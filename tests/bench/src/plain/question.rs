@@ -1,4 +1,4 @@
-//! The question: kinds 1 to 4, as every operation reads them, and kind 11, which judging alone hands on.
+//! The question: kinds 1 to 4, as every operation reads them, and kind 11, which judging and sameness alone hand on.
 
 use super::records::{i32_at, index_at, pair, u32_at, words};
 use super::{demand, Checked};

@@ -1,0 +1,4 @@
+pub mod Facts
+pub mod Records
+pub mod Occurrences
+pub mod Outcomes
