@@ -34,12 +34,12 @@ use Rattle.sameness.specs.Ready.{literalNamed, LiteralIn, Ready, factsIn
 
 -- ---- two facts by their tags
 
--- of different sorts
+-- with different tags
 pub alike-apart : (u v : Question) (f g : Fact) → (tagOf f ≡ tagOf g → ⊥) → alike u v (basic f) (basic g) ≡ false
 unfolding alike tagOf
 alike-apart u v f g h = rw (ne-eqb (factTag f) (factTag g) h)
 
--- of one sort: k is the tag of both rows
+-- with one tag, k
 module _ (u v : Question) (row other : List ℤ) (k : ℕ) (e : k ≡ tagOf (factOf row)) (g : k ≡ tagOf (factOf other)) where
   abbrev test : Fact → Fact → Bool
   test f h = alike u v (basic f) (basic h)

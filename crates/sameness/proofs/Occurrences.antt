@@ -1,4 +1,4 @@
--- Facts and extended constraints are never alike, so that what agrees of all constraints is what agrees of the two sorts apart.
+-- Facts and extended constraints are never alike, so that all constraints agree where facts and extended constraints do, each apart.
 use Prim.Native.Nat.{ℕ, _+_, _≤_}
 use native.Mathlib.Omega.{arith}
 use mathlib.Core.Path.{_≡_, refl, sym, _∙_, ap, ap₂}

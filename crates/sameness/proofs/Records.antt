@@ -42,8 +42,8 @@ fields-are (suc (suc zero)) x y = refl
 fields-are (suc (suc (suc zero))) x y = refl
 fields-are (suc (suc (suc (suc f)))) x y = refl
 
-same-sorts : (f g : ℕ) → eqb (6 + f) (6 + g) ≡ eqb f g
-same-sorts f g =
+same-tags : (f g : ℕ) → eqb (6 + f) (6 + g) ≡ eqb f g
+same-tags f g =
     equal-tests (eqb (6 + f) (6 + g)) (eqb f g) (λ h. true→ (eq-eqb f g (omega (arith, eqb→eq (6 + f) (6 + g) h))))
     (λ h. true→ (eq-eqb (6 + f) (6 + g) (omega (arith, eqb→eq f g h))))
 
@@ -54,7 +54,7 @@ module _ (b c : List ℕ) (x y : ℕ) (f : u16 b x ≤ 4) (g : u16 c y ≤ 4) (u
   fields-alike =
       let second : Bool = eqb (u16 b (x + 2)) (u16 c (y + 2)) in
       let last : Bool = eqb (u16 b (x + 4)) (u16 c (y + 4)) in
-      ap₂ _&&_ (ap₂ (λ i j. eqb (6 + i) (6 + j)) (function-is (u16 b x) _ _ f) (function-is (u16 c y) _ _ g) ∙ same-sorts (u16 b x) (u16 c y))
+      ap₂ _&&_ (ap₂ (λ i j. eqb (6 + i) (6 + j)) (function-is (u16 b x) _ _ f) (function-is (u16 c y) _ _ g) ∙ same-tags (u16 b x) (u16 c y))
       (and-true _ ∙ ap₂ eqString (fields-are (u16 b x) _ _) (fields-are (u16 c y) _ _) ∙ ap (λ (t : Bool). second && t) (and-true last))
 
   -- by the fields that were read, in turn of the one and of the other
