@@ -26,7 +26,7 @@ ruleNames =
 abbrev pub ruleOf : ℕ → Rule
 ruleOf k = getD ruleNames k unknown
 
--- ---- "The length of each rule's operands follows a fixed table of step forms": rule and child, 4 bytes, counted in
+-- ---- the length of each rule's operands, by what document 01 calls "a fixed table of step forms": rule and child, 4 bytes, counted in
 
 -- the least length, and at most `greatest` times `stride` more
 pub record Form : Type 0 where

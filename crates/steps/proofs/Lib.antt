@@ -1,4 +1,5 @@
 pub mod Table
+pub mod Lengths
 pub mod Rules
 pub mod Loops
 pub mod Children

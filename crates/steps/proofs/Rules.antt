@@ -1,12 +1,12 @@
 -- Rules by name: the rule of a number, and arms of several rules.
-use Prim.Native.Nat.{ℕ, _<_}
+use Prim.Native.Nat.{ℕ, _<_, _≤_}
 use native.Mathlib.Omega.{arith}
 use native.Mathlib.Decide.{decLt}
 use mathlib.Core.Path.{_≡_, refl, sym, _∙_, ap, subst}
 use mathlib.Core.Logic.{inl, inr}
 use mathlib.Core.Bool.{Bool, true, false, not, _||_}
 use mathlib.Core.List.{List, [], _∷_}
-use lib.ListN.{getD}
+use lib.ListN.{getD, List·getD-eq-default}
 use lib.Dec.{T, eqb}
 use borrow.Author.Tests.{ne-eqb, not-true}
 use types.Run.{OneOf}
@@ -15,7 +15,7 @@ use Rattle.lists.specs.Lists.{All, all, allBelow}
 use Rattle.lists.proofs.Tests.{→true, true→, and-both}
 use Rattle.lists.proofs.Below.{all-below→}
 use Rattle.format.specs.StepForms as format
-use Rattle.format.specs.StepForms.{ruleOf}
+use Rattle.format.specs.StepForms.{ruleNames, ruleOf}
 use Rattle.format.proofs.Faults.{not-both}
 use Rattle.steps.specs.declared.Rule.{Rule}
 use Rattle.steps.specs.declared.Rule.the-variants.{Sum, Branch, Apart, AConf, SConf, SProp, LIntro, LValid, CCollapse, CValid, CInj, Card, Join, Unknown}
@@ -24,9 +24,12 @@ use Rattle.steps.specs.declared.Conclusions.{Conclusions}
 use Rattle.steps.specs.declared.Conclusions.the-variants.{Nothing, One, Several}
 use Rattle.steps.specs.Rules.{ruleNamed}
 use Rattle.steps.proofs.Rule.{the-type}
-use Rattle.steps.proofs.Table.{unnamed}
 
 -- ---- by number
+
+-- any other number names no rule
+unnamed : (k : ℕ) → 14 ≤ k → ruleOf k ≡ format.unknown
+unnamed k h = List·getD-eq-default ruleNames format.unknown h
 
 abbrev isUnknown : format.Rule → Bool
 isUnknown format.sum = false
@@ -116,7 +119,7 @@ abbrev names : List Rule
 names =
     Sum ∷ Branch ∷ Apart ∷ AConf ∷ SConf ∷ SProp ∷ LIntro ∷ LValid ∷ CCollapse ∷ CValid ∷ CInj ∷ Card ∷ Join ∷ Unknown ∷ []
 
-abbrev named : ℕ → Rule
+abbrev pub named : ℕ → Rule
 named k = getD names k Unknown
 
 its-name : (r : Rule) → r ≡ named (tagOf the-type r)

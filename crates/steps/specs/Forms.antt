@@ -1,16 +1,11 @@
--- A step form as the code's table holds it, and bodies that fit their rule's form.
+-- Bodies that fit their rule's form.
 use Prim.Native.Nat.{ℕ, _+_, _≤_}
 use mathlib.Core.Path.{_≡_}
 use mathlib.Core.Bool.{true}
 use mathlib.Core.List.{List}
 use lib.ListN.{length}
 use Rattle.calculus.specs.Facts.{Question, columnCount}
-use Rattle.format.specs.StepForms as format
 use Rattle.format.specs.StepForms.{rule, lengthFits, operandsInRange}
-use Rattle.steps.specs.declared.Form.{Form}
-
-abbrev pub stepForm : Form → format.Form
-stepForm f = format.form (f .0) (f .1) (f .2)
 
 -- a step's body of m bytes at a position: it stands in the bytes, its length fits its rule, and its operands are in their ranges
 pub record Formed (b : List ℕ) (u : Question) (body m : ℕ) : Type 0 where

@@ -1,4 +1,4 @@
-// The form of a step's body: "6 step: u16 rule, u16 child, operands". Its length by the table of step forms, the ranges of its fields, and the number of
+// The form of a step's body: "6 step: u16 rule, u16 child, operands". Its length by its rule, the ranges of its fields, and the number of
 // its rule's children. A body is its position and its size.
 ghost use mathlib.Core.Path.{_≡_};
 ghost use mathlib.Core.Bool.{true};
@@ -14,7 +14,7 @@ ghost use Rattle.format.specs.StepForms.{ruleOf, formFor, fitsForm, lengthFits,
 ghost use Rattle.records.specs.Found.{WholeRecord};
 ghost use Rattle.delimiters.specs.Numbers.{openFault};
 ghost use Rattle.steps.specs.Rules.{ruleNamed, shapeOf};
-ghost use Rattle.steps.specs.Forms.{stepForm};
+ghost use Rattle.steps.specs.Lengths.{counted, workedOut};
 ghost use Rattle.steps.specs.Faults.{childFieldFits, faultBut, faultUnder};
 ghost use Rattle.steps.specs.Conclusions.{conclusionsOf};
 use delimiters::Claim;
@@ -52,7 +52,7 @@ pub enum Rule {
     Unknown,
 }
 
-// By rule number. Nothing else reads a rule's number, but the table of step forms.
+// By rule number. Nothing else tells rules apart by their numbers.
 pub fn rule_of(number: usize) -> Rule
     ensures { λ r. ⌜ ruleNamed r ≡ ruleOf number ⌝ }
 {
@@ -74,81 +74,52 @@ pub fn rule_of(number: usize) -> Rule
     }
 }
 
-// ---- "The length of each rule's operands follows a fixed table of step forms"
+// ---- "Work out the operand length of each rule instead of storing the table of step forms"
 
 // "u16 rule, u16 child, operands": where in a body the child stands, and from where the operands.
 pub const CHILD_FIELD: usize = 2;
 
 pub const OPERANDS: usize = 4;
 
-// The least length of a body, rule and child counted in, the stride and the greatest count: at most so many strides more. The numbers are narrow, since the
-// table is put together at each use.
-pub struct Form(pub u8, pub u8, pub u16);
+// Up to here `formFor` takes a body of an unknown rule. No ticket has a longer one, of any rule.
+const BODY_LIMIT: usize = OPERANDS + TICKET_BYTES;
 
-// The numbers of the rules, and 0, which is for no rule.
-const RULE_NUMBERS: usize = 14;
-
-// By rule number; at 0: "for an unknown rule, only when under 4 bytes".
-const FORMS: [Form; RULE_NUMBERS] = [
-    Form(4, 1, TICKET_BYTES as u16),
-    // Sum
-    Form(14, 6, SUMMAND_LIMIT as u16 - 1),
-    // Branch
-    Form(8, 6, COLUMN_LIMIT as u16),
-    // Apart
-    Form(6, 1, 0),
-    // A-Conf
-    Form(6, 1, 0),
-    // S-Conf
-    Form(4, 1, 0),
-    // S-Prop
-    Form(10, 1, 0),
-    // L-Intro
-    Form(6, 1, 0),
-    // L-Valid
-    Form(6, 1, 0),
-    // C-Collapse
-    Form(6, 1, 0),
-    // C-Valid
-    Form(6, 1, 0),
-    // C-Inj
-    Form(8, 1, 0),
-    // Card
-    Form(8, 2, VARIABLE_LIMIT as u16 - 2),
-    // Join
-    Form(8, 1, 0),
-];
-
-// The form of a rule's steps. Nothing else sees the table.
-fn form_for(number: usize) -> Form
-    ensures { λ r. ⌜ stepForm r ≡ formFor (ruleOf number) ⌝ }
+// Whether a size is the least, or up to so many strides more.
+fn counted(size: usize, least: usize, stride: usize, greatest: usize) -> bool
+    requires { ⌜ 0 < stride ⌝ }
+    ensures { λ r. ⌜ r ≡ counted size least stride greatest ⌝ }
 {
-    if number < RULE_NUMBERS {
-        FORMS[number]
-    } else {
-        FORMS[0]
-    }
-}
-
-fn fits_form(f: Form, size: usize) -> bool
-    requires { ⌜ 0 < f .1 ⌝ }
-    ensures { λ r. ⌜ r ≡ fitsForm (stepForm f) size ⌝ }
-{
-    let least = f.0 as usize;
-    let stride = f.1 as usize;
-    let greatest = f.2 as usize;
     if size < least {
         return false;
-    }
-    // Most steps have the least length: no division for them.
-    if size == least {
-        return true;
     }
     let more = size - least;
     if more % stride != 0 {
         return false;
     }
     more / stride <= greatest
+}
+
+// Whether a body may have so many bytes, rule and child counted in, by the rule with this number. Each arm gives the answer itself, and none joins rules that
+// `operands_in_range` parts: so the compiler makes one table of jumps for both, and no table of lengths.
+fn fits_rule(number: usize, size: usize) -> bool
+    ensures { λ r. ⌜ r ≡ workedOut number size ⌝ }
+{
+    if BODY_LIMIT < size {
+        return false;
+    }
+    match rule_of(number) {
+        Rule::Sum => counted(size, 14, 6, SUMMAND_LIMIT - 1),
+        Rule::Branch => counted(size, 8, 6, COLUMN_LIMIT),
+        Rule::Apart | Rule::AConf => size == 6,
+        Rule::SConf => size == OPERANDS,
+        Rule::SProp => size == 10,
+        Rule::LIntro | Rule::LValid | Rule::CCollapse | Rule::CValid => size == 6,
+        Rule::CInj => size == 8,
+        Rule::Card => counted(size, 8, 2, VARIABLE_LIMIT - 2),
+        Rule::Join => size == 8,
+        // "for an unknown rule, only when under 4 bytes"
+        Rule::Unknown => OPERANDS <= size,
+    }
 }
 
 // Whether a body's length fits the form of its rule.
@@ -159,7 +130,7 @@ fn length_fits(b: &[u8], body: usize, size: usize) -> bool
     if size < OPERANDS {
         return false;
     }
-    fits_form(form_for(u16_at(b, body)), size)
+    fits_rule(u16_at(b, body), size)
 }
 
 // ---- the ranges of the operands

@@ -1,12 +1,12 @@
 //! Checking: tickets, grown and damaged, with buffers of many sizes.
 
 use crate::damage::damage;
-use crate::operation::{Buffers, Entry, Input, Operation, Reply, Sizes};
+use crate::operation::{Buffers, Entry, Input, Operation, Reply, Series, Sizes};
 use crate::random::Random;
 use crate::report::{hex, refused, Report};
 use crate::vectors::{self, Vector};
 use crate::walk::walk;
-use crate::{cores, edges, equations, far, models, proofs};
+use crate::{cores, edges, equations, far, lengths, models, proofs};
 use nuldwich_reference::checking::{ANSWER_BUFFER, WORK_AREA};
 use nuldwich_reference::cores::Set;
 use nuldwich_reference::program::lines;
@@ -61,6 +61,10 @@ impl Operation for Check {
 
     fn more_vectors(&self, root: &Path) -> Vec<Vector> {
         vectors::buffers(root)
+    }
+
+    fn series(&self) -> Vec<Series> {
+        lengths::checked()
     }
 
     fn columns(&self, input: &Input) -> Vec<String> {

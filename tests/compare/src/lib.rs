@@ -12,6 +12,7 @@ pub mod equations;
 pub mod extended;
 pub mod far;
 pub mod judge;
+pub mod lengths;
 pub mod library;
 pub mod models;
 pub mod need;

@@ -2,12 +2,12 @@
 
 use crate::check::Check;
 use crate::damage::damage;
-use crate::operation::{Buffers, Entry, Input, Operation, Reply, Sizes};
+use crate::operation::{Buffers, Entry, Input, Operation, Reply, Series, Sizes};
 use crate::random::Random;
 use crate::report::{refused, Report};
 use crate::run::vectors_of;
 use crate::vectors::{examples, Vector};
-use crate::{check, unjudged};
+use crate::{check, lengths, unjudged};
 use nuldwich_reference::need as reference;
 use nuldwich_reference::need::{met, Needs};
 use std::path::Path;
@@ -55,6 +55,10 @@ impl Operation for Need {
             vectors_of(&Check, root).into_iter().map(|mut vector| (vector.name, vector.input.parts.remove(0)));
         let named = |(name, ticket)| Vector { name, input: lent(ticket), columns: Vec::new() };
         checked.chain(examples()).map(named).collect()
+    }
+
+    fn series(&self) -> Vec<Series> {
+        lengths::needed()
     }
 
     fn columns(&self, input: &Input) -> Vec<String> {

@@ -64,6 +64,13 @@ pub struct Entry {
     pub reference: Call,
 }
 
+/// Inputs with what is due of each, and how many are due to have which outcome.
+pub struct Series {
+    pub title: String,
+    pub vectors: Vec<Vector>,
+    pub outcomes: Vec<(String, usize)>,
+}
+
 pub trait Operation: Sync {
     /// By which it is asked for.
     fn name(&self) -> &'static str;
@@ -87,6 +94,11 @@ pub trait Operation: Sync {
 
     /// Vectors of other tables than `expected.tsv`.
     fn more_vectors(&self, _root: &Path) -> Vec<Vector> {
+        Vec::new()
+    }
+
+    /// Inputs of which it is stated what is due, with reports of their own.
+    fn series(&self) -> Vec<Series> {
         Vec::new()
     }
 

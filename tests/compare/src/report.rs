@@ -64,6 +64,14 @@ impl Report {
         }
     }
 
+    /// The run itself is at fault when it has other outcomes than these, or not exactly so many of each.
+    pub fn demand_counts(&mut self, outcomes: &[(String, usize)]) {
+        let due: BTreeMap<String, usize> = outcomes.iter().cloned().collect();
+        if self.outcomes != due {
+            self.fail(&format!("the outcomes are {:?}, and due are {due:?}", self.outcomes));
+        }
+    }
+
     /// The run itself is at fault when fewer inputs than `least` reach something.
     pub fn demand_reached(&mut self, labels: &[String], least: usize) {
         for label in labels {

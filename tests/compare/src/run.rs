@@ -1,4 +1,4 @@
-//! The comparison of an operation: the vectors, then grown and damaged inputs, with dirty buffers.
+//! The comparison of an operation: the vectors, then grown and damaged inputs, then series of inputs whose outcomes are stated, with dirty buffers.
 
 use crate::operation::{Buffers, Call, Entry, Input, Operation, Reply, Sizes, OPERATIONS};
 use crate::random::Random;
@@ -29,6 +29,7 @@ pub fn run(operation: &dyn Operation, subject: Subject, root: &Path) -> Report {
     run.grown();
     run.report.print_outcomes(operation.title());
     operation.demand_coverage(&mut run.report);
+    run.series();
     run.report
 }
 
@@ -42,7 +43,7 @@ pub fn vectors_of(operation: &dyn Operation, root: &Path) -> Vec<Vector> {
 }
 
 impl Run<'_> {
-    /// The vectors: the reference must agree with what is expected, the entries with the reference.
+    /// The vectors on file, and those of other tables.
     fn vectors(&mut self, root: &Path) {
         let folders: Vec<&str> = OPERATIONS.iter().flat_map(|operation| operation.folders()).collect();
         vectors::demand_known(root, &folders);
@@ -53,31 +54,61 @@ impl Run<'_> {
         }
         vectors.extend(self.operation.more_vectors(root));
         let mut random = Random::new(0);
-        for vector in vectors {
-            let columns = self.operation.columns(&vector.input);
-            if !self.operation.fits(&vector.columns, &columns) {
-                let (name, expected) = (&vector.name, &vector.columns);
-                self.report.fail(&format!("{name}: the reference says {columns:?}, expected is {expected:?}"));
-            }
-            self.compare(&mut random, &vector.input);
+        for vector in &vectors {
+            self.compare_vector(&mut random, vector);
+            self.operation.examine(&vector.input, &mut self.report);
         }
     }
 
-    /// The inputs that are grown, on every core: each takes the seeds that leave one remainder.
+    /// The inputs that are grown.
     fn grown(&mut self) {
+        let operation = self.operation;
+        let report = self.on_every_core(operation.seeds(), |run, seed| {
+            operation.grow(&mut Random::new(seed), &mut |random, input| {
+                run.compare(random, &input);
+                operation.examine(&input, &mut run.report);
+            });
+        });
+        self.report.add(report);
+    }
+
+    /// The series, each with a report of its own: they have no part in the shares that are demanded of the other inputs.
+    fn series(&mut self) {
+        for series in self.operation.series() {
+            let mut report = self.on_every_core(series.vectors.len() as u64, |run, place| {
+                run.compare_vector(&mut Random::new(place), &series.vectors[place as usize]);
+            });
+            report.print_outcomes(&format!("{}, {}", self.operation.title(), series.title));
+            report.demand_counts(&series.outcomes);
+            self.report.add(report);
+        }
+    }
+
+    /// What is counted by doing something for every number below `count`: each core takes those that leave one remainder.
+    fn on_every_core(&self, count: u64, each: impl Fn(&mut Run, u64) + Sync) -> Report {
         let cores = thread::available_parallelism().map_or(1, |cores| cores.get() as u64);
-        let (operation, entries) = (self.operation, &self.entries);
         let share = |core: u64| {
-            let mut run = Run { operation, entries: entries.clone(), report: Report::default() };
-            for seed in (core..operation.seeds()).step_by(cores as usize) {
-                operation.grow(&mut Random::new(seed), &mut |random, input| run.compare(random, &input));
-            }
+            let mut run = Run { operation: self.operation, entries: self.entries.clone(), report: Report::default() };
+            (core..count).step_by(cores as usize).for_each(|number| each(&mut run, number));
             run.report
         };
         thread::scope(|scope| {
             let shares: Vec<_> = (0..cores).map(|core| scope.spawn(move || share(core))).collect();
-            shares.into_iter().for_each(|report| self.report.add(report.join().expect("a comparison that ends")));
-        });
+            shares.into_iter().fold(Report::default(), |mut report, share| {
+                report.add(share.join().expect("a comparison that ends"));
+                report
+            })
+        })
+    }
+
+    /// Compares a vector: the reference must agree with what is expected, the entries with the reference.
+    fn compare_vector(&mut self, random: &mut Random, vector: &Vector) {
+        let columns = self.operation.columns(&vector.input);
+        if !self.operation.fits(&vector.columns, &columns) {
+            let (name, expected) = (&vector.name, &vector.columns);
+            self.report.fail(&format!("{name}: the reference says {columns:?}, expected is {expected:?}"));
+        }
+        self.compare(random, &vector.input);
     }
 
     /// Compares all entries on one input.
@@ -94,7 +125,6 @@ impl Run<'_> {
         }
         let difference = (!differences.is_empty()).then(|| format!("{}\n{}", shown(input), differences.join("\n")));
         self.report.count(label, difference);
-        self.operation.examine(input, &mut self.report);
     }
 }
 

@@ -5,8 +5,9 @@ use mathlib.Core.Path.{_∙_, ap}
 use Prim.Native.Nat.{ℕ}
 use borrow.Author.Tests.{lt-leb}
 use denote.Ref.{now}
-use Rattle.format.specs.StepForms.{Form, ruleOf, formFor, fitsForm, rule}
-use Rattle.steps.proofs.Table.{least-four, some-stride}
+use Rattle.format.specs.StepForms.{ruleOf, formFor, fitsForm, rule}
+use Rattle.steps.proofs.Table.{least-four}
+use Rattle.steps.proofs.Lengths.{worked-out}
 use Rattle.steps.proofs.length_fits.Statement.{statement}
 use Rattle.steps.proofs.length_fits.Tie as tie
 
@@ -19,19 +20,15 @@ returns c =
 u16-at-requires : tie.Need-u16-at-requires
 u16-at-requires c κs = search needs
 
-form-for-requires : tie.Need-form-for-requires
-form-for-requires c κs = search needs
-
-fits-form-requires : tie.Need-fits-form-requires
-fits-form-requires c κs = rw (ap (λ (f : Form). f .stride) (c .form-for .ensures)) (some-stride (ruleOf (c .before .u16-at .result)))
+fits-rule-requires : tie.Need-fits-rule-requires
+fits-rule-requires c κs = search needs
 
 returns-2 : tie.Need-returns-2
 returns-2 c =
-    let s = c .before .before .before .before .before in
-    c .fits-form .ensures
-    ∙ ap (λ (f : Form). fitsForm f (s .args .size)) (c .before .form-for .ensures)
-    ∙ ap (λ (k : ℕ). fitsForm (formFor (ruleOf k)) (s .args .size)) (c .before .before .u16-at .ensures .0)
+    let s = c .before .before .before .before in
+    c .fits-rule .ensures
+    ∙ worked-out (c .before .u16-at .result) (s .args .size)
+    ∙ ap (λ (k : ℕ). fitsForm (formFor (ruleOf k)) (s .args .size)) (c .before .u16-at .ensures .0)
 
 pub length-fits-spec : {M : Type 1} → statement M
-length-fits-spec =
-    tie.close (tie.spec returns u16-at-requires form-for-requires fits-form-requires returns-2)
+length-fits-spec = tie.close (tie.spec returns u16-at-requires fits-rule-requires returns-2)
