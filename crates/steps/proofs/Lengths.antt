@@ -4,7 +4,7 @@ use native.Mathlib.Omega.{arith}
 use native.Mathlib.Nat.{mod-one, div-one}
 use native.Mathlib.Decide.{decLt}
 use mathlib.Core.Path.{_≡_, refl, sym, _∙_, ap₂}
-use mathlib.Core.Bool.{false, _&&_, and-true, and-false}
+use mathlib.Core.Bool.{false, _&&_, and-true}
 use lib.Dec.{leb, eqb}
 use borrow.Author.Tests.{eq-eqb, ne-eqb, le-leb, lt-leb}
 use Rattle.calculus.specs.Limits.{ticketBytes}
@@ -27,25 +27,21 @@ one-length least m = go (decLt m least) (decLt least m) ∙ stride-one least 0 m
     go (no l) (no g) = rw (eq-eqb m least (omega arith), le-leb least m (omega arith), le-leb (m - least) 0 (omega arith))
 
 -- a longer body fits no rule
-module _ (m : ℕ) (h : bodyLimit < m) where
-  no-such-length : (least : ℕ) → least ≤ 10 → fitsForm (form least 1 0) m ≡ false
-  no-such-length least l = sym (one-length least m) ∙ ne-eqb m least (λ e. omega arith)
-
-  too-long : (r : Rule) → fitsForm (formFor r) m ≡ false
-  too-long sum = too-many (formFor sum) m (omega arith)
-  too-long branch = too-many (formFor branch) m (omega arith)
-  too-long apart = no-such-length 6 (omega arith)
-  too-long aConf = no-such-length 6 (omega arith)
-  too-long sConf = no-such-length 4 (omega arith)
-  too-long sProp = no-such-length 10 (omega arith)
-  too-long lIntro = no-such-length 6 (omega arith)
-  too-long lValid = no-such-length 6 (omega arith)
-  too-long cCollapse = no-such-length 6 (omega arith)
-  too-long cValid = no-such-length 6 (omega arith)
-  too-long cInj = no-such-length 8 (omega arith)
-  too-long card = too-many (formFor card) m (omega arith)
-  too-long join = no-such-length 8 (omega arith)
-  too-long unknown = sym (stride-one 4 ticketBytes m) ∙ rw (lt-leb (m - 4) ticketBytes (omega arith), and-false (leb 4 m))
+too-long : (m : ℕ) → bodyLimit < m → (r : Rule) → fitsForm (formFor r) m ≡ false
+too-long m h sum = too-many (formFor sum) m (omega arith)
+too-long m h branch = too-many (formFor branch) m (omega arith)
+too-long m h apart = too-many (formFor apart) m (omega arith)
+too-long m h aConf = too-many (formFor aConf) m (omega arith)
+too-long m h sConf = too-many (formFor sConf) m (omega arith)
+too-long m h sProp = too-many (formFor sProp) m (omega arith)
+too-long m h lIntro = too-many (formFor lIntro) m (omega arith)
+too-long m h lValid = too-many (formFor lValid) m (omega arith)
+too-long m h cCollapse = too-many (formFor cCollapse) m (omega arith)
+too-long m h cValid = too-many (formFor cValid) m (omega arith)
+too-long m h cInj = too-many (formFor cInj) m (omega arith)
+too-long m h card = too-many (formFor card) m (omega arith)
+too-long m h join = too-many (formFor join) m (omega arith)
+too-long m h unknown = too-many (formFor unknown) m (omega arith)
 
 -- one within the limit fits as the code says
 by-rule : (m : ℕ) → m ≤ bodyLimit → (r : Rule) → fitsRule r m ≡ fitsForm (formFor r) m

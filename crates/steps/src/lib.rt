@@ -100,7 +100,7 @@ fn counted(size: usize, least: usize, stride: usize, greatest: usize) -> bool
 }
 
 // Whether a body may have so many bytes, rule and child counted in, by the rule with this number. Each arm gives the answer itself, and none joins rules that
-// `operands_in_range` parts: so the compiler makes one table of jumps for both, and no table of lengths.
+// `operands_in_range` parts: so the compiler makes one table of jumps for both.
 fn fits_rule(number: usize, size: usize) -> bool
     ensures { λ r. ⌜ r ≡ workedOut number size ⌝ }
 {
