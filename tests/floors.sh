@@ -1,7 +1,7 @@
 #!/usr/bin/env bash
 # Counts what must not become fewer and holds it against the numbers on file in tests/floors.tsv: the vectors of each operation (the lines of
 # expected.tsv at all levels), those of buffer sizes, the starred cases, those of Sums and Joins of equations, those of extended constraints, the computed cores,
-# the computed normal forms and the edits that must fail. The last line is 'N passed, M failed'.
+# the computed normal forms, the cases that pin and the edits that must fail. The last line is 'N passed, M failed'.
 set -u
 cd "$(dirname "$0")/.."
 passed=0 failed=0
@@ -22,7 +22,7 @@ vectors() {
 # there is one for each entry. The smaller number counts.
 cases() {
     local entries proofs
-    entries=$(awk -v list="$1" '$0 == list " =" { inside = 1; next } !/^    / { inside = 0 } inside && /^    (∷ )?(checking|before|adding|judged)( |$)/ { n++ } END { print n + 0 }' crates/format/specs/Cases.antt)
+    entries=$(awk -v list="$1" '$0 == list " =" { inside = 1; next } !/^    / { inside = 0 } inside && /^    (∷ )?(checking|closing|writing|before|adding|judged)( |$)/ { n++ } END { print n + 0 }' crates/format/specs/Cases.antt)
     proofs=$(awk -v proof="$2" 'index($0, proof " =") == 1 { inside = 1 } /^$/ { inside = 0 } inside { n += gsub(/\(refl, /, "") } END { print n + 0 }' crates/*/proofs/Cases.antt)
     echo $((entries < proofs ? entries : proofs))
 }
@@ -35,6 +35,7 @@ while read -r name count; do found[$name]=$count; done < <(
     echo "extended $(cases extendedCases extended-hold)"
     echo "cores $(grep -c ' = refl$' crates/calculus/proofs/CoreCases.antt)"
     echo "normal-forms $(grep -c ' = refl$' crates/calculus/proofs/SameCases.antt)"
+    echo "pinned $(grep -o 'refl, ' crates/pinned/proofs/Cases.antt | wc -l)"
     echo "must-fail $(find crates -path '*/must-fail/*.edit' | wc -l)"
 )
 

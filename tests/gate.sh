@@ -41,6 +41,7 @@ counted tests/statements.sh
 counted tests/floors.sh
 counted python3 tools/name_paths.py --check
 counted python3 tools/functions.py --check
+counted python3 tools/believe.py --check
 counted rt ci
 single own_logic
 if [ "$failed" -eq 0 ]; then

@@ -7,7 +7,7 @@ ghost use lib.Seq.{sets};
 ghost use lib.IntN.{natAbs};
 ghost use Rattle.calculus.specs.Limits.{lengthLimit, variableLimit, numberLimit, answerBytes};
 ghost use Rattle.format.specs.Fields.{unsigned};
-ghost use Rattle.format.specs.Answer.{recordBytes, characterBytes, integerBytes, stringRecords, encode};
+ghost use Rattle.format.specs.Answer.{recordBytes, characterBytes, integerBytes, stringRecords};
 ghost use Rattle.format.specs.Checking.{Strings};
 ghost use Rattle.format.specs.Demands.{answerAfter};
 ghost use Rattle.answer.specs.Table.{row, tableStrings, tableAnswer, Table, Integers};
@@ -116,7 +116,7 @@ pub fn write_answer(
 )
     requires { ⌜ Table (now characters) (now sizes) p × Integers (now model) q × (answerBytes ≤ length (now buffer)) ⌝ }
     ensures { λ _. ⌜ now (buffer .exit) ≡
-        answerAfter (Strings (encode (tableAnswer (now (characters .entry)) (now (sizes .entry)) p (now (model .entry)) q))) (now (buffer .entry)) ⌝ }
+        answerAfter (Strings (tableAnswer (now (characters .entry)) (now (sizes .entry)) p (now (model .entry)) q)) (now (buffer .entry)) ⌝ }
 {
     let at = put_strings(buffer, characters, sizes, p);
     put_tail(buffer, at, model, q);

@@ -40,6 +40,11 @@ pub character-injective : (n i j : ℕ) → character n i ≡ character n j → 
 unfolding character
 character-injective n i j e = e
 
+-- a later place gives a greater character
+pub character-rising : (n i j : ℕ) → i < j → character n i < character n j
+unfolding character
+character-rising n i j h = h
+
 -- ---- codes
 
 pub character-below : (n c : ℕ) → Character n c → c < n

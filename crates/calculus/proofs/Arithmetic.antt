@@ -14,7 +14,7 @@ use Rattle.lists.proofs.Lists.{all-at}
 use Rattle.calculus.specs.LinearForms.{scale, dot, valueIn}
 use Rattle.calculus.specs.Facts.{Fact, Branch, Relation, ge, eq, ne, Holds}
 use Rattle.calculus.specs.Instances.{entry, HasRelation, Multiplier, Summands, Exact, SumRelation, IsJoin}
-use Rattle.calculus.specs.Saturation.{MeetsArithmetic}
+use Rattle.calculus.specs.Settled.{MeetsArithmetic}
 use Rattle.calculus.proofs.LinearForms.{dot-plus, dot-scale, dot-neg}
 use Rattle.calculus.proofs.Entries.{entry-scale, entry-tail, dot-entries, dot-split, summed, entry-summed, Divided}
 

@@ -25,8 +25,8 @@ use Rattle.calculus.specs.Rules.{guard, then, summand, sumOf, divided, a
 use Rattle.calculus.specs.Rules.{cardChildren, children, joinBefore, childrenBefore}
 use Rattle.calculus.specs.Instances.{FactAt, LengthsStated, Neighbours}
 use Rattle.calculus.specs.Model.{modelValue}
-use Rattle.calculus.specs.Saturation.{MeetsArithmetic}
-use Rattle.calculus.specs.SaturationTest.{lowestVariable, saturated}
+use Rattle.calculus.specs.Settled.{MeetsArithmetic}
+use Rattle.calculus.specs.SettledTest.{lowestVariable, settled}
 use Rattle.calculus.specs.Strings.{freshFrom, fixedString, fixedStrings, stringOf, stringsTo, strings}
 use Rattle.calculus.proofs.Tests.{guard→, →guard, then→, →then}
 use Rattle.calculus.proofs.Entries.{Divided, divided→}
@@ -234,8 +234,8 @@ module _ (u : Question) (b c : Branch) (r : RaisedBranch b c) where
 -- ---- the leaf
 
 module _ (u : Question) (m : List ℤ) (b c : Branch) (h : Matched Raised b c) where
-  pub saturated-same : saturated u c m ≡ saturated u b m
-  saturated-same = rw (conflict-same b c h u) (rw (labels-same b c h) refl)
+  pub settled-same : settled u c m ≡ settled u b m
+  settled-same = rw (conflict-same b c h u) (rw (labels-same b c h) refl)
 
   fixed-same : (x : ℕ) → fixedString u c m x ≡ fixedString u b m x
   fixed-same x = rw (labels-same b c h) refl

@@ -20,7 +20,7 @@ use Rattle.calculus.specs.Chains.{varNode, litNode, Edge, AnyEdge, Chain
 use Rattle.calculus.specs.Classes.{upFrom, relabel, label, mergeNodes, mergeFact, labelsFrom, nodeCount, labels}
 use Rattle.calculus.specs.Classes.{sameClass, lowestLiteral, classLiteral, literalsMeet, sidesMeet, conflict}
 use Rattle.calculus.specs.Instances.{FactAt, Stands, LiteralsMeet, SidesMeet}
-use Rattle.calculus.proofs.InRange.{HeadInRange, FactInRange, FactsInRange}
+use Rattle.calculus.specs.InRange.{HeadInRange, FactInRange, FactsInRange}
 
 pub chain-trans : {b : Branch} {i j k : ℕ} → Chain b i j → Chain b j k → Chain b i k
 chain-trans here d = d

@@ -17,14 +17,14 @@ use Rattle.calculus.specs.Rules.{lowestDifference}
 use Rattle.calculus.specs.Walk.{Waiting, Walk, working, closed, wait, cutBack, enter}
 use Rattle.calculus.specs.Cores.{Set, only, union, chosenFrom, Rested, facts, sets, rootedFrom, resting, setAt, namedSets, setsOf, foundSet}
 use Rattle.calculus.specs.Cores.{equates, separates, lengthsSet, neighbourSets, restsOn, ofClosing, childrenOf, enterResting, coreFrom, coreIn}
-use Rattle.calculus.specs.Instances.{Instance, StepInRange}
-use Rattle.calculus.specs.Meaning.{Assignment, For, Meets, Met, columns}
+use Rattle.calculus.specs.Instances.{Instance, IsStep}
+use Rattle.calculus.specs.Meaning.{Assignment, IsAssignment, Meets, Met, columns}
+use Rattle.calculus.specs.InRange.{HeadInRange, FactsInRange}
 use Rattle.calculus.proofs.Fits.{fits→instance}
-use Rattle.calculus.proofs.InRange.{HeadInRange, FactsInRange}
-use Rattle.calculus.proofs.Ranges.{children-in-range}
 use Rattle.calculus.proofs.LinearForms.{dot-number}
 use Rattle.calculus.proofs.Sound.{AnyMet, instance-sound}
-use Rattle.calculus.proofs.Walks.{State, WalkedBy, Walked, StateInRange, enter-in-range}
+use Rattle.calculus.proofs.Leads.{Arrives, working-open}
+use Rattle.calculus.proofs.Walks.{State, Walked, StateInRange, step-in-range}
 use Rattle.calculus.proofs.Everywhere.{Everywhere, enter-everywhere}
 use Rattle.calculus.proofs.Kept.{within, within-both, within-itself, nothingSaid, keepOne, keep, kept-one, instance-kept}
 
@@ -121,9 +121,9 @@ module _ (u : Question) (c : Set) (a : Assignment) where
   kept-some s (d ∷ cs) w (inl m) = inl (kept-child s d w m)
   kept-some s (d ∷ cs) w (inr m) = inr (kept-some s cs w m)
 
-module _ (u : Question) (w : HeadInRange u) (d : Distinct ([] ∷ u .literals)) (c : Set) (a : Assignment) (f : For u a) where
+module _ (u : Question) (w : HeadInRange u) (d : Distinct ([] ∷ u .literals)) (c : Set) (a : Assignment) (f : IsAssignment u a) where
   -- a step that closes its branch rests within c; so what is met before a step is met behind it
-  step-kept : (r : Rested) (st : Step) (cs : List (List Fact)) → StepInRange u st → Instance u (facts r) st cs
+  step-kept : (r : Rested) (st : Step) (cs : List (List Fact)) → IsStep u st → Instance u (facts r) st cs
       → within (ofClosing cs (restsOn u r st)) c ≡ true
       → Kept u c a r → KeptSome u c a (map (resting (restsOn u r st)) cs)
   step-kept r st cs g i q m = go (within (restsOn u r st) c) refl cs i q
@@ -134,20 +134,20 @@ module _ (u : Question) (w : HeadInRange u) (d : Distinct ([] ∷ u .literals)) 
       go false e [] i q = absurd (false≢true (sym e ∙ q))
       go false e (k ∷ cs) i q = inl (dropped-child u c a (restsOn u r st) k e)
 
-  step-alive : (r : Rested) (st : Step) (cs : List (List Fact)) (ss : List (Waiting Rested Rested)) → StepInRange u st → Instance u (facts r) st cs
+  step-alive : (r : Rested) (st : Step) (cs : List (List Fact)) (ss : List (Waiting Rested Rested)) → IsStep u st → Instance u (facts r) st cs
       → within (ofClosing cs (restsOn u r st)) c ≡ true
       → Alive u c a (working r ss) → Alive u c a (enterResting u r st cs ss)
   step-alive r st cs ss g i q (inl m) = enter-alive u c a r (map (resting (restsOn u r st)) cs) ss (inl (m, step-kept r st cs g i q m))
   step-alive r st cs ss g i q (inr h) = enter-alive u c a r (map (resting (restsOn u r st)) cs) ss (inr h)
 
-  core-sound : (sts : List Step) (k : Walk Rested Rested) → StateInRange u (erase k) → All (StepInRange u) sts → Walked u (erase k) sts
+  core-sound : (sts : List Step) (k : Walk Rested Rested) → StateInRange u (erase k) → All (IsStep u) sts → Walked u (erase k) sts
       → within (coreFrom u k sts) c ≡ true → Alive u c a k → ⊥
-  unfolding WalkedBy coreFrom
+  unfolding Arrives coreFrom
   core-sound [] closed r g h q l = l
-  core-sound [] (working b ss) r g h q l = h
+  core-sound [] (working b ss) r g h q l = working-open (facts b) (map eraseWaiting ss) h
   core-sound (st ∷ sts) closed r g h q l = l
-  core-sound (st ∷ sts) (working b ss) (rb, rs) (g, gs) (cs, e, h) q l =
-      let i : Instance u (facts b) st cs = fits→instance u w (facts b) rb st g e in
+  core-sound (st ∷ sts) (working b ss) r (g, gs) (cs, e, h) q l =
+      let i : Instance u (facts b) st cs = fits→instance u w (facts b) (r .0) st g e in
       let same : childrenOf u b st ≡ cs = ap (λ o. Option·getD o []) e in
       let k : Walk Rested Rested = enterResting u b st cs ss in
       let (now, later) = within-both (ofClosing cs (restsOn u b st)) (coreFrom u k sts) c
@@ -155,7 +155,7 @@ module _ (u : Question) (w : HeadInRange u) (d : Distinct ([] ∷ u .literals)) 
       let erased : erase k ≡ enter _++_ (facts b) cs (map eraseWaiting ss) =
       erase-enter b (map (resting (restsOn u b st)) cs) ss ∙ ap (λ ks. enter _++_ (facts b) ks (map eraseWaiting ss)) (all-resting (restsOn u b st) cs) in
       core-sound sts k
-      (subst (StateInRange u) (sym erased) (enter-in-range u (facts b) cs (map eraseWaiting ss) rb (children-in-range u w (facts b) st cs rb g i) rs))
+      (subst (StateInRange u) (sym erased) (step-in-range u w (facts b) st cs (map eraseWaiting ss) r g i))
       gs (subst (λ k. Walked u k sts) (sym erased) h) later (step-alive b st cs ss g i now l)
 
 -- ---- the question's constraints
@@ -180,9 +180,9 @@ rooted-kept u c a k (f ∷ b) m = go (getD c k false) (within-only k c) (rooted-
 
 -- those in the core alone are met by no assignment
 pub core-unsolvable : (u : Question) (sts : List Step) → HeadInRange u → Distinct ([] ∷ u .literals) → FactsInRange u (u .constraints)
-    → All (StepInRange u) sts
+    → All (IsStep u) sts
     → Walked u (working (u .constraints) []) sts
-    → (a : Assignment) → For u a → Met u a (chosenFrom 0 (coreIn u sts) (u .constraints)) → ⊥
+    → (a : Assignment) → IsAssignment u a → Met u a (chosenFrom 0 (coreIn u sts) (u .constraints)) → ⊥
 core-unsolvable u sts w d r g h a f m =
     let e : facts (rootedFrom 0 (u .constraints)) ≡ u .constraints = facts-rooted 0 (u .constraints) in
     core-sound u w d (coreIn u sts) a f sts (working (rootedFrom 0 (u .constraints)) []) (subst (FactsInRange u) (sym e) r, tt) g

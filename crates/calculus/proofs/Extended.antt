@@ -68,7 +68,7 @@ lower-empty = refl
 -- ---- order
 
 -- a character that both begin with changes nothing
-precedes-behind : {c d : ℕ} {s t : List ℕ} → c ≡ d → Precedes s t → Precedes (c ∷ s) (d ∷ t)
+pub precedes-behind : {c d : ℕ} {s t : List ℕ} → c ≡ d → Precedes s t → Precedes (c ∷ s) (d ∷ t)
 precedes-behind q (equal e) = equal (ap₂ _∷_ q e)
 precedes-behind q (prefix x rest e) = prefix x rest (ap₂ _∷_ (sym q) e)
 precedes-behind {c} q (smaller front x y s' t' e f h) = smaller (c ∷ front) x y s' t' (ap (λ r. c ∷ r) e) (ap₂ _∷_ (sym q) f) h
@@ -103,6 +103,27 @@ unfolding precedes
 →precedes s t (prefix c rest e) = subst (λ r. precedes s r ≡ true) (sym e) (precedes-prefix s (c ∷ rest))
 →precedes s t (smaller front c d s' t' e f h) =
     ap₂ precedes e f ∙ precedes-front front (c ∷ s') (d ∷ t') ∙ ap (λ a. a || (eqb c d && precedes s' t')) (lt-ltb c d h)
+
+-- two strings, each equal to or before the other, are one
+precedes-same : (s t : List ℕ) → precedes s t ≡ true → precedes t s ≡ true → s ≡ t
+unfolding precedes
+precedes-same [] [] e f = refl
+precedes-same [] (d ∷ t) e f = absurd (false≢true f)
+precedes-same (c ∷ s) [] e f = absurd (false≢true e)
+precedes-same (c ∷ s) (d ∷ t) e f = go (ltb c d) refl (eqb c d) refl (ltb d c) refl (eqb d c) refl (precedes-same s t) e f
+  where
+    go : (a : Bool) → ltb c d ≡ a → (b : Bool) → eqb c d ≡ b → (a' : Bool) → ltb d c ≡ a' → (b' : Bool) → eqb d c ≡ b' → (precedes s t ≡ true → precedes t s ≡ true → s ≡ t)
+        → (a || (b && precedes s t)) ≡ true → (a' || (b' && precedes t s)) ≡ true → c ∷ s ≡ d ∷ t
+    go true h b g true h' b' g' ih e f = absurd (let i = ltb-true c d h in let j = ltb-true d c h' in omega arith)
+    go true h b g false h' true g' ih e f = absurd (let i = ltb-true c d h in let j = eqb-true d c g' in omega arith)
+    go true h b g false h' false g' ih e f = absurd (false≢true f)
+    go false h true g true h' b' g' ih e f = absurd (let i = ltb-true d c h' in let j = eqb-true c d g in omega arith)
+    go false h true g false h' true g' ih e f = ap₂ _∷_ (eqb-true c d g) (ih e f)
+    go false h true g false h' false g' ih e f = absurd (false≢true f)
+    go false h false g a' h' b' g' ih e f = absurd (false≢true e)
+
+pub precedes-both : (s t : List ℕ) → Precedes s t → Precedes t s → s ≡ t
+precedes-both s t p q = precedes-same s t (→precedes s t p) (→precedes t s q)
 
 -- ---- the test of an extended constraint
 

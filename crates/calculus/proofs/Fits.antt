@@ -30,10 +30,10 @@ use Rattle.calculus.specs.Rules.{guard, then, summand, sumOf, divided, i
 use Rattle.calculus.specs.Rules.{isFalse, joinForm, joinOf, statesZero, statesDifference, found}
 use Rattle.calculus.specs.Rules.{sameLength, neighbours, distinct, leastPower, lastChild, cardChildren, children, apartOf, statesEqual}
 use Rattle.calculus.specs.Instances.{entry, FactAt, Multiplier, Summands, total, Exact, SumRelation, IsSum, IsApart, IsAConf}
-use Rattle.calculus.specs.Instances.{IsClassLiteral, LengthsStated, Neighbours, LastChild, IsJoin, Instance, StepInRange}
+use Rattle.calculus.specs.Instances.{IsClassLiteral, LengthsStated, Neighbours, LastChild, IsJoin, Instance, IsStep}
+use Rattle.calculus.specs.InRange.{HeadInRange, FactInRange, FactsInRange}
 use Rattle.calculus.proofs.Alphabet.{some-character}
 use Rattle.lists.proofs.Searches.{turn, lowest-passes}
-use Rattle.calculus.proofs.InRange.{HeadInRange, FactInRange, FactsInRange}
 use Rattle.calculus.proofs.Tests.{guard→, →guard, then→, →then, differ→, →differ, distinct→, →distinct}
 use Rattle.calculus.proofs.LinearForms.{eqℤ→, →eqℤ, eqIntegers→, →eqIntegers}
 use Rattle.calculus.proofs.Relations.{nonzero→, →nonzero, fails→, →fails, positive→, →positive}
@@ -383,8 +383,8 @@ module _ (u : Question) (w : HeadInRange u) (b : Branch) (r : FactsInRange u b) 
       → then (classLiteral u b x) (λ l. some (literalChild u f x l)) ≡ some cs
   fits-literal f x i = →then (λ l. some (literalChild u f x l)) (counts→literal u w b r x (i .held) (i .counts)) (ap some (sym (i .adds)))
 
-  pub fits→instance : (st : Step) {cs : List (List Fact)} → StepInRange u st → children u b st ≡ some cs → Instance u b st cs
-  unfolding Instance StepInRange
+  pub fits→instance : (st : Step) {cs : List (List Fact)} → IsStep u st → children u b st ≡ some cs → Instance u b st cs
+  unfolding Instance IsStep
   fits→instance (Sum d ts) g e = sum-fits u b r d ts (g .1) e
   fits→instance (BranchOn a) g e = sym (some-injective e)
   fits→instance (Apart k) g e = let (f, h, e1) = then→ (getElem? b k) apartOf e in apart-fits b k f h e1
@@ -408,8 +408,8 @@ module _ (u : Question) (w : HeadInRange u) (b : Branch) (r : FactsInRange u b) 
       let (a, ha, e2) = then→ (getElem? b k) (λ g. joinOf f g) e1 in
       join-fits b j k f a hf ha e2
 
-  pub instance→fits : (st : Step) {cs : List (List Fact)} → StepInRange u st → Instance u b st cs → children u b st ≡ some cs
-  unfolding Instance StepInRange
+  pub instance→fits : (st : Step) {cs : List (List Fact)} → IsStep u st → Instance u b st cs → children u b st ≡ some cs
+  unfolding Instance IsStep
   instance→fits (Sum d ts) g i = fits-sum u b r d ts i
   instance→fits (BranchOn a) g i = ap some (sym i)
   instance→fits (Apart k) g i = →then apartOf (i .named) (ap some (sym (i .adds)))

@@ -20,7 +20,7 @@ use Rattle.calculus.specs.Steps.{Step, SProp, LIntro, LValid, CCollapse,
 use Rattle.calculus.specs.Children.{one, lValidChildren, codeChild, cValidChildren, cInjChildren}
 use Rattle.calculus.specs.Instances.{Instance}
 use Rattle.calculus.specs.Model.{modelValue}
-use Rattle.calculus.specs.Saturation.{HoldsAlready, SomeChild}
+use Rattle.calculus.specs.Settled.{HoldsAlready, SomeChild}
 use Rattle.calculus.proofs.LinearForms.{dot-minus, dot-number, dot-column, dot-less, dot-above}
 use Rattle.calculus.proofs.Alphabet.{InCodes, ranges→}
 

@@ -1,5 +1,4 @@
 pub mod Alphabet
-pub mod InRange
 pub mod Cases
 pub mod Tests
 pub mod LinearForms
@@ -17,12 +16,16 @@ pub mod Columns
 pub mod Sound
 pub mod Trees
 pub mod Walks
+pub mod Limits
 pub mod Everywhere
+pub mod Leads
 pub mod Shapes
 pub mod Lowest
 pub mod Leaf
-pub mod Saturation
+pub mod Settled
+pub mod Agreements
 pub mod Strings
+pub mod Given
 pub mod Alongside
 pub mod Before
 pub mod CoreCases

@@ -17,8 +17,8 @@ use Rattle.calculus.specs.Facts.{Question, Branch, len}
 use Rattle.calculus.specs.Chains.{varNode, Chain, here, OneClass}
 use Rattle.calculus.specs.Classes.{labels, sameClass}
 use Rattle.calculus.specs.Model.{modelValue}
-use Rattle.calculus.specs.SaturationTest.{lowestFrom, lowestVariable, lowestOfLength}
-use Rattle.calculus.proofs.InRange.{HeadInRange, FactsInRange}
+use Rattle.calculus.specs.SettledTest.{lowestFrom, lowestVariable, lowestOfLength}
+use Rattle.calculus.specs.InRange.{HeadInRange, FactsInRange}
 use Rattle.calculus.proofs.LinearForms.{eqℤ→, →eqℤ}
 use Rattle.calculus.proofs.Classes.{chain-trans, chain-sym, class→chain, chain→class}
 

@@ -13,8 +13,8 @@ use Rattle.calculus.specs.LinearForms.{number, minus}
 use Rattle.calculus.specs.Facts.{Question, Fact, Branch, Function, len, code, literal, apply, valueOf}
 use Rattle.calculus.specs.Steps.{Step, Sum, BranchOn, Apart, AConf, SConf, SProp, LIntro, LValid, CCollapse, CValid, CInj, Card, Join}
 use Rattle.calculus.specs.Children.{codeChild, pairChildrenWith, pairChildren}
-use Rattle.calculus.specs.Instances.{LastChild, Instance, StepInRange}
-use Rattle.calculus.proofs.InRange.{HeadInRange, FactInRange, FactsInRange}
+use Rattle.calculus.specs.Instances.{LastChild, Instance, IsStep}
+use Rattle.calculus.specs.InRange.{HeadInRange, FactInRange, FactsInRange}
 use Rattle.calculus.proofs.Entries.{Whole, whole-number, whole-column, whole-minus, whole-above, whole-below}
 
 module _ (u : Question) (w : HeadInRange u) where
@@ -51,8 +51,8 @@ module _ (u : Question) (w : HeadInRange u) where
         codes-range x rs h,
       )
 
-  pub children-in-range : (b : Branch) (st : Step) (cs : List (List Fact)) → FactsInRange u b → StepInRange u st → Instance u b st cs → All (FactsInRange u) cs
-  unfolding Instance StepInRange
+  pub children-in-range : (b : Branch) (st : Step) (cs : List (List Fact)) → FactsInRange u b → IsStep u st → Instance u b st cs → All (FactsInRange u) cs
+  unfolding Instance IsStep
   children-in-range b (Sum d ts) cs r g i = subst InRange (sym (i .adds)) ((i .size, tt), tt)
   children-in-range b (BranchOn e) cs r g i = subst InRange (sym i) ((g, tt), ((whole-below e g, tt), tt))
   children-in-range b (Apart k) cs r g i = let h : Whole (i .form) = all-at (FactInRange u) b k r (i .named) in

@@ -13,7 +13,7 @@ use Rattle.lists.proofs.Tests.{and→, →and}
 use Rattle.calculus.specs.Logic.{Iff}
 use Rattle.calculus.specs.Facts.{Question, ge, eq, ne, Holds, same, notSame, isLiteral, arithmetic}
 use Rattle.calculus.specs.Alphabet.{Over}
-use Rattle.calculus.specs.Meaning.{Assignment, str, For, value}
+use Rattle.calculus.specs.Meaning.{Assignment, str, IsAssignment, value}
 use Rattle.calculus.specs.Extended.{Extended, isUpper, isLower, isValue, isDecimal, inOrder, MeetsExtended}
 use Rattle.calculus.specs.Extended.{Constraint, basic, extended, constraintsOf, MeetsConstraint}
 use Rattle.calculus.specs.NormalForms.{normalConstraint, normals, constraintTag, constraintOperands, constraintForm, Alike, alike}
@@ -148,7 +148,7 @@ met-there u v es ds a each met = all-map (constraintsOf v ds) (λ d found. one d
         (alike-met u v a (normalConstraint c) (normalConstraint d) (alike-sym l) (normal-constraint-met a u c .0 m))
     one d (c ∷ cs) (m, ms) (inr found) = one d cs ms found
 
-for-there : (u v : Question) (a : Assignment) → u .n ≡ v .n → u .p ≡ v .p → u .q ≡ v .q → For u a → For v a
+for-there : (u v : Question) (a : Assignment) → u .n ≡ v .n → u .p ≡ v .p → u .q ≡ v .q → IsAssignment u a → IsAssignment v a
 for-there u v a n p q f = record {
   strings = f .strings ∙ p;
   integers = f .integers ∙ q;
@@ -156,7 +156,7 @@ for-there u v a n p q f = record {
 }
 
 pub same-solutions : (u v : Question) (es ds : List Extended) → SameSets u es v ds → (a : Assignment)
-    → Iff (For u a × All (MeetsConstraint u a) (constraintsOf u es)) (For v a × All (MeetsConstraint v a) (constraintsOf v ds))
+    → Iff (IsAssignment u a × All (MeetsConstraint u a) (constraintsOf u es)) (IsAssignment v a × All (MeetsConstraint v a) (constraintsOf v ds))
 same-solutions u v es ds h a = (
   λ (f, m). (for-there u v a (h .n-agrees) (h .p-agrees) (h .q-agrees) f, met-there u v es ds a (h .second-in-first) m),
   λ (f, m). (for-there v u a (sym (h .n-agrees)) (sym (h .p-agrees)) (sym (h .q-agrees)) f, met-there v u ds es a (h .first-in-second) m),

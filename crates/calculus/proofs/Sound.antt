@@ -22,9 +22,9 @@ use Rattle.calculus.specs.Chains.{varNode, litNode, Edge, AnyEdge, Chain
 use Rattle.calculus.specs.Steps.{Step, Sum, BranchOn, Apart, AConf, SConf, SProp, LIntro, LValid, CCollapse, CValid, CInj, Card, Join}
 use Rattle.calculus.specs.Children.{pairChildren, codeChild, cValidChildren, cInjChildren}
 use Rattle.calculus.specs.Instances.{entry, FactAt, IsAConf, LiteralsMeet, SidesMeet}
-use Rattle.calculus.specs.Instances.{IsClassLiteral, LengthsStated, Neighbours, LastChild, IsCard, Instance, StepInRange}
-use Rattle.calculus.specs.Saturation.{MeetsArithmetic}
-use Rattle.calculus.specs.Meaning.{Assignment, str, For, columns, value, Meets, Met}
+use Rattle.calculus.specs.Instances.{IsClassLiteral, LengthsStated, Neighbours, LastChild, IsCard, Instance, IsStep}
+use Rattle.calculus.specs.Settled.{MeetsArithmetic}
+use Rattle.calculus.specs.Meaning.{Assignment, str, IsAssignment, columns, value, Meets, Met}
 use Rattle.calculus.proofs.LinearForms.{dot-minus, dot-number, dot-column, dot-less, dot-above, dot-below}
 use Rattle.calculus.proofs.Alphabet.{InCodes, →ranges}
 use Rattle.calculus.proofs.Arithmetic.{sum-holds, join-holds}
@@ -52,7 +52,7 @@ no-code-or-equal s t = go (one-or-no-code s) (one-or-no-code t) (ℤ-discrete (c
     go (inl (c, p)) (inl (d, q)) (yes e) = inr (inr (p ∙ ap (λ c. c ∷ []) (pos-injective (sym (ap codeOf p) ∙ e ∙ ap codeOf q)) ∙ sym q))
     go (inl (c, p)) (inr (f, q)) (yes e) = absurd (pos-ne-negsuc c 0 (sym (ap codeOf p) ∙ e ∙ q))
 
-module _ (u : Question) (a : Assignment) (f : For u a) where
+module _ (u : Question) (a : Assignment) (f : IsAssignment u a) where
   -- ---- values
 
   -- the values of the columns
@@ -202,11 +202,11 @@ module _ (u : Question) (a : Assignment) (f : For u a) where
 
   pub instance-sound : Distinct ([] ∷ u .literals)
       → (b : Branch) (st : Step) (cs : List (List Fact))
-      → StepInRange u st
+      → IsStep u st
       → Instance u b st cs
       → Met u a b
       → AnyMet u a cs
-  unfolding Instance StepInRange
+  unfolding Instance IsStep
   instance-sound d b (Sum k ts) cs g i m =
       subst (AnyMet u a) (sym (i .adds))
       (inl (sum-holds v b k ts (i .forms) (i .new) (i .relation) (met-arithmetic b m) (i .summands) (sum-divided i) (i .is-equation), tt))

@@ -1,4 +1,4 @@
--- The strings of a saturated leaf: they have the model's lengths and codes, are equal inside a class and different between classes, and with the model's
+-- The strings of a settled leaf: they have the model's lengths and codes, are equal inside a class and different between classes, and with the model's
 -- integers they meet every fact of the leaf.
 use Prim.Native.Nat.{ℕ, zero, suc, _+_, _-_, _^_, _<_, _≤_}
 use native.Mathlib.Omega.{arith}
@@ -25,17 +25,17 @@ use Rattle.calculus.specs.Chains.{varNode, litNode, Edge, AnyEdge, Chain
 use Rattle.calculus.specs.Classes.{labels, classLiteral}
 use Rattle.calculus.specs.Instances.{FactAt, Instance}
 use Rattle.calculus.specs.Model.{modelValue}
-use Rattle.calculus.specs.Saturation.{Saturated, MeetsArithmetic}
-use Rattle.calculus.specs.SaturationTest.{lowestVariable, lowestOfLength}
+use Rattle.calculus.specs.Settled.{Settled, MeetsArithmetic}
+use Rattle.calculus.specs.SettledTest.{lowestVariable, lowestOfLength}
 use Rattle.calculus.specs.Strings.{word, freshFrom, oneChar, fixedBy, fixedString, fixedStrings, stringOf, stringsTo, strings}
-use Rattle.calculus.specs.Meaning.{Assignment, str, For, columns, Meets, Met}
-use Rattle.calculus.proofs.InRange.{HeadInRange, FactInRange, FactsInRange}
+use Rattle.calculus.specs.Meaning.{Assignment, str, IsAssignment, columns, Meets, Met}
+use Rattle.calculus.specs.InRange.{HeadInRange, FactInRange, FactsInRange}
 use Rattle.calculus.proofs.LinearForms.{eqℤ→, →eqℤ}
 use Rattle.calculus.proofs.Classes.{chain-trans, chain-sym, literal→counts, no-literal, literal-same}
 use Rattle.calculus.proofs.Words.{one-or-no-code, length-word, word-over, words, length-words, in-words→, words-distinct, Fresh, fresh, length-fresh}
 use Rattle.calculus.proofs.Lowest.{lowest-joined, lowest-le, lowest→class, class→lowest, lowest-lowest, in-lowests, lowests-few}
 use Rattle.calculus.proofs.Leaf.{ByClasses, class-value, literal-value, length-nonneg, CodeValid, code-valid, code-injective}
-use Rattle.calculus.proofs.Saturation.{enough, by-classes}
+use Rattle.calculus.proofs.Settled.{enough, by-classes}
 
 -- the strings, and the model's integers
 abbrev pub answer : Question → Branch → List ℤ → Assignment
@@ -107,11 +107,11 @@ module _ (u : Question) (b : Branch) (m : List ℤ) where
       go (yes p) ih = subst (λ o. In s (fixedBehind k o)) (sym e ∙ ap (fixedString u b m) p) (inl refl)
       go (no f) ih = behind (fixedString u b m k) (ih (omega arith) e)
 
-  abbrev L : ℕ → ℕ
+  abbrev pub L : ℕ → ℕ
   L x = natAbs (modelValue u m len x)
 
   -- what is given before the string of x
-  abbrev before : ℕ → List (List ℕ)
+  abbrev pub before : ℕ → List (List ℕ)
   before x = fixedStrings u b m (u .p) ++ stringsTo u b m x
 
   abbrev chosen : ℕ → Option (List ℕ) → Bool → List ℕ
@@ -131,19 +131,19 @@ module _ (u : Question) (b : Branch) (m : List ℤ) where
   pub S-new : (x : ℕ) → fixedString u b m x ≡ none → lowestVariable (labels b) x ≡ x → S x ≡ freshFrom (u .p) (u .n) (L x) (before x) 0
   S-new x e h = ap₂ (chosen x) e (le-ltb (lowestVariable (labels b) x) x (omega arith))
 
--- ---- a saturated leaf
+-- ---- a settled leaf
 
-module _ (u : Question) (w : HeadInRange u) (b : Branch) (r : FactsInRange u b) (m : List ℤ) (sat : Saturated u b m) where
-  abbrev M : Function → ℕ → ℤ
+module _ (u : Question) (w : HeadInRange u) (b : Branch) (r : FactsInRange u b) (m : List ℤ) (sat : Settled u b m) where
+  abbrev pub M : Function → ℕ → ℤ
   M f x = modelValue u m f x
 
-  abbrev low : ℕ → ℕ
+  abbrev pub low : ℕ → ℕ
   low x = lowestVariable (labels b) x
 
-  abbrev string : ℕ → List ℕ
+  abbrev pub string : ℕ → List ℕ
   string x = S u b m x
 
-  abbrev fixed : ℕ → Option (List ℕ)
+  abbrev pub fixed : ℕ → Option (List ℕ)
   fixed x = fixedString u b m x
 
   held : ByClasses u b m
@@ -173,7 +173,7 @@ module _ (u : Question) (w : HeadInRange u) (b : Branch) (r : FactsInRange u b) 
   -- ---- lengths and codes are the model's
 
   -- a class with a literal, or of length 1
-  abbrev Fixed : ℕ → List ℕ → Type 0
+  abbrev pub Fixed : ℕ → List ℕ → Type 0
   Fixed x s = ((l : ℕ) × Counts u b x l × (literal u l ≡ s)) ⊎ ((c : ℕ) × (s ≡ c ∷ []) × (M len x ≡ pos 1) × (M code x ≡ pos c) × Character (u .n) c)
 
   one-character : (x : ℕ) (s : List ℕ)
@@ -189,14 +189,14 @@ module _ (u : Question) (w : HeadInRange u) (b : Branch) (r : FactsInRange u b) 
       go (inl (f, _)) = absurd (f (eqℤ→ (M len x) (pos 1) (true→ q)))
       go (inr (p, (c, e, g))) = (c, sym (some-injective k) ∙ ap (λ z. natAbs z ∷ []) e, p, e, g)
 
-  fixed→ : (x : ℕ) (s : List ℕ) → x < u .p → fixed x ≡ some s → Fixed x s
+  pub fixed→ : (x : ℕ) (s : List ℕ) → x < u .p → fixed x ≡ some s → Fixed x s
   fixed→ x s h e = go (classLiteral u b x) refl e
     where
       go : (o : Option ℕ) → classLiteral u b x ≡ o → fixedBy u o (M len x) (M code x) ≡ some s → Fixed x s
       go (some l) p k = inl (l, literal→counts u w b r x p, some-injective k)
       go none p k = inr (one-character x s h (eqℤ (M len x) (pos 1)) refl k)
 
-  not-fixed→ : (x : ℕ) → fixed x ≡ none → M len x ≢ pos 1
+  pub not-fixed→ : (x : ℕ) → fixed x ≡ none → M len x ≢ pos 1
   not-fixed→ x e p = go (classLiteral u b x) e
     where
       char : (t : Bool) → t ≡ true → oneChar t (M code x) ≡ none → ⊥
@@ -216,7 +216,7 @@ module _ (u : Question) (w : HeadInRange u) (b : Branch) (r : FactsInRange u b) 
   values-fixed x s h (inr (c, e, p, q, g)) len = p ∙ ap (valueOf len) (sym e)
   values-fixed x s h (inr (c, e, p, q, g)) code = q ∙ ap (valueOf code) (sym e)
 
-  length-is : (x : ℕ) → x < u .p → M len x ≡ pos (L u b m x)
+  pub length-is : (x : ℕ) → x < u .p → M len x ≡ pos (L u b m x)
   length-is x h = abs-nonneg (M len x) (length-nonneg u b m held x h)
 
   values-new : (x : ℕ) (s : List ℕ) → x < u .p → fixed x ≡ none → length s ≡ L u b m x → Values x s
@@ -298,12 +298,18 @@ module _ (u : Question) (w : HeadInRange u) (b : Branch) (r : FactsInRange u b) 
         given s i = let (j, g, q) = in-words→ (u .n) (L u b m x) (length (ofLength x)) s i in
             given-others s (ap length q ∙ length-word (u .n) (L u b m x) j) (subst (λ t. In t (before u b m x)) (sym q) (f j g))
 
-    new-string : Over (u .n) (string x) × (In (string x) (before u b m x) → ⊥)
+    -- it is over the alphabet and not given, and the words before it are
+    abbrev NewString : Type 0
+    NewString = Over (u .n) (string x) × (In (string x) (before u b m x) → ⊥)
+        × ((j : ℕ) × (string x ≡ word (u .n) (L u b m x) j) × ((i : ℕ) → i < j → In (word (u .n) (L u b m x) i) (before u b m x)))
+
+    pub new-string : NewString
     new-string = go (subst (Fresh (u .n) (L u b m x) (before u b m x) (u .p)) (sym (S-new u b m x e l)) (fresh (u .p) (u .n) (L u b m x) (before u b m x)))
       where
-        go : Fresh (u .n) (L u b m x) (before u b m x) (u .p) (string x) → Over (u .n) (string x) × (In (string x) (before u b m x) → ⊥)
+        go : Fresh (u .n) (L u b m x) (before u b m x) (u .p) (string x) → NewString
         go (inr f) = absurd (some-left (λ i g. f i (omega (arith, lowests-few u (labels b) m (M len x) (u .p)))))
-        go (inl (j, q, f, k)) = (subst (Over (u .n)) (sym q) (word-over (u .n) (L u b m x) j (w .alphabet) (below (decLt j (length (ofLength x))))), f)
+        go (inl (j, q, f, k)) =
+            (subst (Over (u .n)) (sym q) (word-over (u .n) (L u b m x) j (w .alphabet) (below (decLt j (length (ofLength x))))), f, (j, q, k))
           where
             below : Dec (j < length (ofLength x)) → j < characterCount (u .n) ^ L u b m x
             below (yes g) = omega (arith, enough u w b r m sat x)
@@ -387,7 +393,7 @@ module _ (u : Question) (w : HeadInRange u) (b : Branch) (r : FactsInRange u b) 
       str-is : (x : ℕ) → x < u .p → str (answer u b m) x ≡ string x
       str-is x h = strings-at u b m (u .p) x h
 
-      answer-for : For u (answer u b m)
+      answer-for : IsAssignment u (answer u b m)
       answer-for = record { strings = length-strings u b m (u .p); integers = length-take-le (u .q) m (omega arith); over = λ x. go x (decLt x (u .p)) }
         where
           go : (x : ℕ) → Dec (x < u .p) → Over (u .n) (str (answer u b m) x)
@@ -474,14 +480,14 @@ module _ (u : Question) (w : HeadInRange u) (b : Branch) (r : FactsInRange u b) 
 
 -- what the strings of a leaf are, with the model's integers
 pub record Answers (u : Question) (b : Branch) (m : List ℤ) (a : Assignment) : Type 0 where
-  pub for-question : For u a
+  pub for-question : IsAssignment u a
   pub values : (f : Function) (x : ℕ) → x < u .p → valueOf f (str a x) ≡ modelValue u m f x
   pub equal : (x y : ℕ) → x < u .p → y < u .p → OneClass b x y → str a x ≡ str a y
   pub differ : (x y : ℕ) → x < u .p → y < u .p → (OneClass b x y → ⊥) → str a x ≢ str a y
   pub met : Met u a b
 
 pub strings-answer : (u : Question) → HeadInRange u → Distinct ([] ∷ u .literals) → All (Over (u .n)) (u .literals) → (b : Branch) → FactsInRange u b
-    → (m : List ℤ) → length m ≡ u .q + (u .p + u .p) → All (MeetsArithmetic m) b → Saturated u b m → Answers u b m (answer u b m)
+    → (m : List ℤ) → length m ≡ u .q + (u .p + u .p) → All (MeetsArithmetic m) b → Settled u b m → Answers u b m (answer u b m)
 strings-answer u w d over b r m size kept sat = record {
   for-question = answer-for u w b r m sat d over size;
   values = λ f x h. ap (valueOf f) (str-is u w b r m sat d over size x h) ∙ sym (values u w b r m sat x h f);

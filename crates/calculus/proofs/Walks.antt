@@ -1,25 +1,27 @@
 -- Walking by what checking computes: the steps of claim 1 fit one after another and close every branch exactly when they are one closed tree; the children of
 -- claim 2 are taken exactly when the path is proper.
 use Prim.Native.Nat.{ℕ, zero, suc, _-_}
-use mathlib.Core.Path.{_≡_, refl, sym, _∙_, ap, subst}
+use mathlib.Core.Path.{_≡_, refl, sym, _∙_, subst}
 use mathlib.Core.Option.{Option, some}
-use mathlib.Core.List.{List, [], _∷_, _++_, append-nil, append-assoc}
+use mathlib.Core.List.{List, [], _∷_, _++_}
 use lib.ListN.{getElem?}
 use Rattle.lists.specs.Lists.{All}
-use Rattle.lists.proofs.Options.{none-some}
-use Rattle.lists.proofs.Lists.{all-append, all-left, all-right, all-at, down}
+use Rattle.lists.proofs.Options.{some-injective, none-some}
+use Rattle.lists.proofs.Lists.{all-map, all-append, all-left, all-at, down}
 use Rattle.calculus.specs.Facts.{Question, Fact, Branch}
 use Rattle.calculus.specs.Steps.{Step}
 use Rattle.calculus.specs.Children.{childAt}
 use Rattle.calculus.specs.Rules.{RuleSet, then, children}
-use Rattle.calculus.specs.Instances.{Instance, StepInRange}
-use Rattle.calculus.specs.Walk.{Waiting, Walk, working, closed, wait, cutBack, enter}
-use Rattle.calculus.specs.Derivations.{Closes, by, ClosesAll, none-left, child, Takes, Path}
+use Rattle.calculus.specs.Instances.{Instance, IsStep}
+use Rattle.calculus.specs.Walk.{Waiting, Walk, working, closed, enter}
+use Rattle.calculus.specs.Derivations.{Closes, Leads, Takes, Path}
 use Rattle.calculus.specs.Meaning.{Assignment, Met, Meets}
-use Rattle.calculus.proofs.InRange.{HeadInRange, FactsInRange}
+use Rattle.calculus.specs.InRange.{HeadInRange, FactsInRange}
 use Rattle.calculus.proofs.Tests.{then→, →then}
 use Rattle.calculus.proofs.Fits.{fits→instance, instance→fits}
 use Rattle.calculus.proofs.Ranges.{children-in-range}
+use Rattle.calculus.proofs.Everywhere.{Everywhere, enter-everywhere}
+use Rattle.calculus.proofs.Leads.{Arrives, closed→walk, walk→closed, leads→walk, arrives-everywhere, one-lead, arrives-as}
 
 -- ---- claim 1
 
@@ -29,134 +31,68 @@ Pending = List (Waiting Branch (List Fact))
 abbrev pub State : Type 0
 State = Walk Branch (List Fact)
 
+-- the children of a step by a rule set
+abbrev pub FitsBy : RuleSet → Question → Branch → Step → List (List Fact) → Type 0
+FitsBy rules u b st cs = rules u b st ≡ some cs
+
 -- the steps fit one after another, by a rule set, and with the last the last branch closes
-unfoldable pub WalkedBy : RuleSet → Question → State → List Step → Type 0
-WalkedBy rules u closed [] = Unit {0}
-WalkedBy rules u (working b ss) [] = ⊥
-WalkedBy rules u closed (st ∷ sts) = ⊥
-WalkedBy rules u (working b ss) (st ∷ sts) = (cs : List (List Fact)) × (rules u b st ≡ some cs) × WalkedBy rules u (enter _++_ b cs ss) sts
+abbrev pub WalkedBy : RuleSet → Question → State → List Step → Type 0
+WalkedBy rules u k sts = Arrives (FitsBy rules u) _++_ k sts closed
 
 abbrev pub Walked : Question → State → List Step → Type 0
 Walked = WalkedBy children
 
--- the steps are a first part with P, and a rest with Q
-abbrev Parts : (List Step → Type 0) → (List Step → Type 0) → List Step → Type 0
-Parts P Q s = (f : List Step) × (r : List Step) × (s ≡ f ++ r) × P f × Q r
-
-cut-back-wait : (b : Branch) (cs : List (List Fact)) (ss : Pending) → cutBack _++_ (wait b cs ss) ≡ enter _++_ b cs ss
-cut-back-wait b [] ss = refl
-cut-back-wait b (c ∷ cs) ss = refl
-
-module _ (u : Question) where
-  -- ---- every branch of a state is in range
-
-  abbrev pub WaitingInRange : Waiting Branch (List Fact) → Type 0
-  WaitingInRange s = FactsInRange u (s .mark) × FactsInRange u (s .child) × All (FactsInRange u) (s .rest)
-
-  abbrev pub StateInRange : State → Type 0
-  StateInRange (working b ss) = FactsInRange u b × All WaitingInRange ss
-  StateInRange closed = Unit {0}
-
-  wait-in-range : (b : Branch) (cs : List (List Fact)) (ss : Pending)
-      → FactsInRange u b
-      → All (FactsInRange u) cs
-      → All WaitingInRange ss
-      → All WaitingInRange (wait b cs ss)
-  wait-in-range b [] ss h g r = r
-  wait-in-range b (c ∷ cs) ss h (g, gs) r = ((h, g, gs), r)
-
-  cut-back-in-range : (ss : Pending) → All WaitingInRange ss → StateInRange (cutBack _++_ ss)
-  cut-back-in-range [] r = tt
-  cut-back-in-range (s ∷ ss) ((h, g, gs), r) = (all-append _ (s .mark) (s .child) h g, wait-in-range (s .mark) (s .rest) ss h gs r)
-
-  pub enter-in-range : (b : Branch) (cs : List (List Fact)) (ss : Pending)
-      → FactsInRange u b
-      → All (FactsInRange u) cs
-      → All WaitingInRange ss
-      → StateInRange (enter _++_ b cs ss)
-  enter-in-range b [] ss h g r = cut-back-in-range ss r
-  enter-in-range b (c ∷ cs) ss h (g, gs) r = (all-append _ b c h g, wait-in-range b cs ss h gs r)
-
-  -- ---- a walk is a closed tree
-
-  -- parts of the steps close every pending split, the last first, and no step is left
-  abbrev ClosesWaiting : Pending → List Step → Type 0
-  ClosesWaiting [] s = s ≡ []
-  ClosesWaiting (p ∷ ps) s = Parts (ClosesAll u (p .mark) (p .child ∷ p .rest)) (ClosesWaiting ps) s
-
-  abbrev ClosesState : State → List Step → Type 0
-  ClosesState (working b ss) s = Parts (Closes u b) (ClosesWaiting ss) s
-  ClosesState closed s = s ≡ []
-
-  pop : (b : Branch) (cs : List (List Fact)) (ss : Pending) (s : List Step) → ClosesWaiting (wait b cs ss) s → Parts (ClosesAll u b cs) (ClosesWaiting ss) s
-  pop b [] ss s h = ([], s, refl, none-left, h)
-  pop b (c ∷ cs) ss s h = h
-
-  joined : (b : Branch) (c : List Fact) (cs : List (List Fact)) (ss : Pending) (s : List Step)
-      → ClosesState (working (b ++ c) (wait b cs ss)) s
-      → Parts (ClosesAll u b (c ∷ cs)) (ClosesWaiting ss) s
-  joined b c cs ss s (f, r, e, k, h) =
-      let (f', r', e', k', h') = pop b cs ss r h in
-      (f ++ f', r', e ∙ ap (λ l. f ++ l) e' ∙ sym (append-assoc f f' r'), child refl k k', h')
-
-  cut-back-closes : (ss : Pending) (s : List Step) → ClosesState (cutBack _++_ ss) s → ClosesWaiting ss s
-  cut-back-closes [] s h = h
-  cut-back-closes (p ∷ ps) s h = joined (p .mark) (p .child) (p .rest) ps s h
-
-  step-closes : (b : Branch) (st : Step) (cs : List (List Fact)) (ss : Pending) (s : List Step)
-      → Instance u b st cs
-      → ClosesState (enter _++_ b cs ss) s
-      → ClosesState (working b ss) (st ∷ s)
-  step-closes b st [] ss s i h = (st ∷ [], s, refl, by i none-left, cut-back-closes ss s h)
-  step-closes b st (c ∷ cs) ss s i h =
-      let (f, r, e, k, h') = joined b c cs ss s h in
-      (st ∷ f, r, ap (λ l. st ∷ l) e, by i k, h')
+-- every branch of a state is in range
+abbrev pub StateInRange : Question → State → Type 0
+StateInRange u = Everywhere _++_ (FactsInRange u)
 
 module _ (u : Question) (w : HeadInRange u) where
-  walked-closes : (s : List Step) (k : State) → StateInRange u k → All (StepInRange u) s → Walked u k s → ClosesState u k s
-  unfolding WalkedBy
-  walked-closes [] closed r g h = refl
-  walked-closes [] (working b ss) r g h = absurd h
-  walked-closes (st ∷ s) closed r g h = absurd h
-  walked-closes (st ∷ s) (working b ss) (rb, rs) (g, gs) (cs, e, h) =
-      let i : Instance u b st cs = fits→instance u w b rb st g e in
-      step-closes u b st cs ss s i (walked-closes s (enter _++_ b cs ss) (enter-in-range u b cs ss rb (children-in-range u w b st cs rb g i) rs) gs h)
+  -- the branches that the children of a proper step begin
+  pub children-kept : (b : Branch) (st : Step) (cs : List (List Fact)) → FactsInRange u b → IsStep u st → Instance u b st cs
+      → All (λ c. FactsInRange u (b ++ c)) cs
+  children-kept b st cs r g i = all-map cs (λ c. all-append _ b c r) (children-in-range u w b st cs r g i)
 
-  -- ---- a closed tree is a walk
+  pub step-in-range : (b : Branch) (st : Step) (cs : List (List Fact)) (ss : Pending) → StateInRange u (working b ss) → IsStep u st
+      → Instance u b st cs
+      → StateInRange u (enter _++_ b cs ss)
+  step-in-range b st cs ss (r, rs) g i = enter-everywhere _++_ (FactsInRange u) b cs ss (children-kept b st cs r g i) rs
 
-  mutual
-    unfolding WalkedBy
+  -- a step fits in one way
+  pub one-instance : (b : Branch) (st : Step) (cs ds : List (List Fact)) → FactsInRange u b → IsStep u st → Instance u b st cs → Instance u b st ds → cs ≡ ds
+  one-instance b st cs ds r g i j = some-injective (sym (instance→fits u w b r st g i) ∙ instance→fits u w b r st g j)
 
-    closes-walked : {b : Branch} {s : List Step} → Closes u b s → (ss : Pending) (r : List Step) → FactsInRange u b → All (StepInRange u) s
-        → Walked u (cutBack _++_ ss) r → Walked u (working b ss) (s ++ r)
-    closes-walked (by {b = b} {st = st} {cs = cs} i k) ss r rb (g, gs) h =
-        (cs, instance→fits u w b rb st g i, all-walked k ss r rb (children-in-range u w b st cs rb g i) gs h)
+  -- ---- walking by the children that checking computes is walking by proper steps
 
-    all-walked : {b : Branch} {cs : List (List Fact)} {s : List Step}
-        → ClosesAll u b cs s
-        → (ss : Pending) (r : List Step)
-        → FactsInRange u b
-        → All (FactsInRange u) cs
-        → All (StepInRange u) s
-        → Walked u (cutBack _++_ ss) r → Walked u (enter _++_ b cs ss) (s ++ r)
-    all-walked none-left ss r rb rc g h = h
-    all-walked (child {b = b} {c = c} {cs = cs} {first = f} {others = m} {sts = s} d k ks) ss r rb (rc, rcs) g h =
-        let g' : All (StepInRange u) (f ++ m) = subst (All (StepInRange u)) d g in
-        let rest : Walked u (enter _++_ b cs ss) (m ++ r) = all-walked ks ss r rb rcs (all-right _ f m g') h in
-        subst (Walked u (working (b ++ c) (wait b cs ss))) (sym (ap (λ q. q ++ r) d ∙ append-assoc f m r))
-        (closes-walked k (wait b cs ss) (m ++ r) (all-append _ b c rb rc) (all-left _ f m g')
-        (subst (λ q. Walked u q (m ++ r)) (sym (cut-back-wait b cs ss)) rest))
+  pub fitting→proper : (k to : State) (sts : List Step) → StateInRange u k → All (IsStep u) sts
+      → Arrives (FitsBy children u) _++_ k sts to
+      → Arrives (Instance u) _++_ k sts to
+  fitting→proper = arrives-as (FitsBy children u) (Instance u) _++_ (FactsInRange u) (IsStep u)
+      (λ b st cs r g e. children-kept b st cs r g (fits→instance u w b r st g e)) (λ b st cs r g e. fits→instance u w b r st g e)
+
+  pub proper→fitting : (k to : State) (sts : List Step) → StateInRange u k → All (IsStep u) sts
+      → Arrives (Instance u) _++_ k sts to
+      → Arrives (FitsBy children u) _++_ k sts to
+  proper→fitting = arrives-as (Instance u) (FitsBy children u) _++_ (FactsInRange u) (IsStep u) children-kept (λ b st cs r g i. instance→fits u w b r st g i)
 
   -- ---- the steps of claim 1
 
-  pub walked→closes : (b : Branch) (sts : List Step) → FactsInRange u b → All (StepInRange u) sts → Walked u (working b []) sts → Closes u b sts
-  walked→closes b sts r g h =
-      let (f, z, d, k, e) = walked-closes sts (working b []) (r, tt) g h in
-      subst (Closes u b) (sym (d ∙ ap (λ l. f ++ l) e ∙ append-nil f)) k
+  pub walked→closes : (b : Branch) (sts : List Step) → FactsInRange u b → All (IsStep u) sts → Walked u (working b []) sts → Closes u b sts
+  walked→closes b sts r g h = walk→closed (Instance u) _++_ b sts (fitting→proper (working b []) closed sts (r, tt) g h)
 
-  pub closes→walked : (b : Branch) (sts : List Step) → FactsInRange u b → All (StepInRange u) sts → Closes u b sts → Walked u (working b []) sts
-  unfolding WalkedBy
-  closes→walked b sts r g k = subst (Walked u (working b [])) (append-nil sts) (closes-walked k [] [] r g tt)
+  pub closes→walked : (b : Branch) (sts : List Step) → FactsInRange u b → All (IsStep u) sts → Closes u b sts → Walked u (working b []) sts
+  closes→walked b sts r g k = proper→fitting (working b []) closed sts (r, tt) g (closed→walk (Instance u) _++_ b sts k)
+
+  -- they lead to one open branch, in range, with one number of splits pending
+  pub leads-to-one : (b leaf leaf' : Branch) (sts : List Step) (pending pending' : ℕ) → FactsInRange u b → All (IsStep u) sts
+      → Leads u b sts leaf pending
+      → Leads u b sts leaf' pending'
+      → (leaf ≡ leaf') × (pending ≡ pending')
+  leads-to-one = one-lead (Instance u) _++_ (FactsInRange u) (IsStep u) children-kept one-instance
+
+  pub led-in-range : (b leaf : Branch) (sts : List Step) (pending : ℕ) → FactsInRange u b → All (IsStep u) sts → Leads u b sts leaf pending → FactsInRange u leaf
+  led-in-range b leaf sts pending r g l =
+      let (ss, n, h) = leads→walk (Instance u) _++_ b leaf sts pending l in
+      arrives-everywhere (Instance u) _++_ (FactsInRange u) (IsStep u) children-kept (working b []) (working leaf ss) sts (r, tt) g h .0
 
 -- ---- claim 2
 
@@ -180,35 +116,45 @@ abbrev pub Followed : Question → Branch → List (Step × ℕ) → Branch → 
 Followed = FollowedBy children
 
 module _ (u : Question) (w : HeadInRange u) where
-  pub taken-in-range : (b : Branch) (t : Step × ℕ) (c : List Fact) → FactsInRange u b → StepInRange u (t .0) → Takes u b t c → FactsInRange u (b ++ c)
+  pub taken-in-range : (b : Branch) (t : Step × ℕ) (c : List Fact) → FactsInRange u b → IsStep u (t .0) → Takes u b t c → FactsInRange u (b ++ c)
   taken-in-range b t c r g k =
       all-append _ b c r (all-at (FactsInRange u) (k .children) (t .1 - 1) (children-in-range u w b (t .0) (k .children) r g (k .proper))
       (child-at (k .children) (t .1) (k .taken)))
 
-  pub taken→takes : (b : Branch) (t : Step × ℕ) (c : List Fact) → FactsInRange u b → StepInRange u (t .0) → childTaken u b t ≡ some c → Takes u b t c
+  pub taken→takes : (b : Branch) (t : Step × ℕ) (c : List Fact) → FactsInRange u b → IsStep u (t .0) → childTaken u b t ≡ some c → Takes u b t c
   taken→takes b t c r g e =
       let (cs, o, h) = then→ (children u b (t .0)) (λ cs. childAt cs (t .1)) e in
       record { children = cs; proper = fits→instance u w b r (t .0) g o; taken = h }
 
-  pub takes→taken : (b : Branch) (t : Step × ℕ) (c : List Fact) → FactsInRange u b → StepInRange u (t .0) → Takes u b t c → childTaken u b t ≡ some c
+  pub takes→taken : (b : Branch) (t : Step × ℕ) (c : List Fact) → FactsInRange u b → IsStep u (t .0) → Takes u b t c → childTaken u b t ≡ some c
   takes→taken b t c r g k = →then _ (instance→fits u w b r (t .0) g (k .proper)) (k .taken)
 
-  pub followed→path : (ts : List (Step × ℕ)) (b leaf : Branch) → FactsInRange u b → All (λ t. StepInRange u (t .0)) ts → Followed u b ts leaf → Path u b ts leaf
+  -- a step takes one child
+  pub one-child : (b : Branch) (t : Step × ℕ) (c d : List Fact) → FactsInRange u b → IsStep u (t .0) → Takes u b t c → Takes u b t d → c ≡ d
+  one-child b t c d r g k j = some-injective (sym (takes→taken b t c r g k) ∙ takes→taken b t d r g j)
+
+  pub followed→path : (ts : List (Step × ℕ)) (b leaf : Branch) → FactsInRange u b → All (λ t. IsStep u (t .0)) ts → Followed u b ts leaf → Path u b ts leaf
   unfolding FollowedBy Path
   followed→path [] b leaf r g h = h
   followed→path (t ∷ ts) b leaf r (g, gs) (c, e, h) =
       let k : Takes u b t c = taken→takes b t c r g e in
       (c, k, followed→path ts (b ++ c) leaf (taken-in-range b t c r g k) gs h)
 
-  pub path→followed : (ts : List (Step × ℕ)) (b leaf : Branch) → FactsInRange u b → All (λ t. StepInRange u (t .0)) ts → Path u b ts leaf → Followed u b ts leaf
+  pub path→followed : (ts : List (Step × ℕ)) (b leaf : Branch) → FactsInRange u b → All (λ t. IsStep u (t .0)) ts → Path u b ts leaf → Followed u b ts leaf
   unfolding FollowedBy Path
   path→followed [] b leaf r g h = h
   path→followed (t ∷ ts) b leaf r (g, gs) (c, k, h) = (c, takes→taken b t c r g k, path→followed ts (b ++ c) leaf (taken-in-range b t c r g k) gs h)
 
-  pub leaf-in-range : (ts : List (Step × ℕ)) (b leaf : Branch) → FactsInRange u b → All (λ t. StepInRange u (t .0)) ts → Path u b ts leaf → FactsInRange u leaf
+  pub leaf-in-range : (ts : List (Step × ℕ)) (b leaf : Branch) → FactsInRange u b → All (λ t. IsStep u (t .0)) ts → Path u b ts leaf → FactsInRange u leaf
   unfolding Path
   leaf-in-range [] b leaf r g h = subst (FactsInRange u) h r
   leaf-in-range (t ∷ ts) b leaf r (g, gs) (c, k, h) = leaf-in-range ts (b ++ c) leaf (taken-in-range b t c r g k) gs h
+
+-- the first steps of a path are one
+pub path-first : (u : Question) (b leaf : Branch) (first others : List (Step × ℕ)) → Path u b (first ++ others) leaf → (l : Branch) × Path u b first l
+unfolding Path
+path-first u b leaf [] others h = (b, refl)
+path-first u b leaf (t ∷ first) others (c, k, h) = let (l, p) = path-first u (b ++ c) leaf first others h in (l, (c, k, p))
 
 -- what meets the leaf meets what it started from
 pub leaf-met : (u : Question) (a : Assignment) (ts : List (Step × ℕ)) (b leaf : Branch) → Path u b ts leaf → Met u a leaf → Met u a b

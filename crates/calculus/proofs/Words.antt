@@ -58,7 +58,7 @@ word-injective n (suc l) i j z h g e =
 
 -- ---- the number of a string among those of its length
 
-place : ℕ → List ℕ → ℕ
+pub place : ℕ → List ℕ → ℕ
 place n [] = 0
 place n (c ∷ s) = place n s + characterCount n ^ length s * placeOf n c
 
@@ -73,7 +73,7 @@ place-below n (c ∷ s) (h, hs) =
     pow-succ' (characterCount n) (length s) ∙ mul-comm (characterCount n) (characterCount n ^ length s) in
     omega arith
 
-word-place : (n : ℕ) (s : List ℕ) → Over n s → word n (length s) (place n s) ≡ s
+pub word-place : (n : ℕ) (s : List ℕ) → Over n s → word n (length s) (place n s) ≡ s
 unfolding place
 word-place n [] h = refl
 word-place n (c ∷ s) (h, hs) =

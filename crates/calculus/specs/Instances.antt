@@ -211,18 +211,19 @@ Instance u b (Join j k) cs = IsJoin b j k cs
 
 -- ---- the part of a step's form (refusals 5 and 6) that the rules rest on
 
--- multipliers' ranges and greatest counts are not in it; Card's 16 holds since its variables differ and p is at most 16
-unfoldable pub StepInRange : Question → Step → Type 0
-StepInRange u (Sum d ts) = (1 ≤ d) × (1 ≤ length ts)
-StepInRange u (BranchOn e) = length e ≡ suc columnLimit
-StepInRange u (Apart k) = Unit {0}
-StepInRange u (AConf k) = Unit {0}
-StepInRange u SConf = Unit {0}
-StepInRange u (SProp f x y) = (x < u .p) × (y < u .p)
-StepInRange u (LIntro x) = x < u .p
-StepInRange u (LValid x) = x < u .p
-StepInRange u (CCollapse x) = x < u .p
-StepInRange u (CValid x) = x < u .p
-StepInRange u (CInj x y) = (x < u .p) × (y < u .p)
-StepInRange u (Card xs) = All (λ x. x < u .p) xs × (2 ≤ length xs)
-StepInRange u (Join j k) = Unit {0}
+-- a step of the question: its variables are the question's, a form is whole, and pairs and variables are enough. Multipliers' ranges and greatest counts are
+-- not in it; Card's 16 holds since its variables differ and p is at most 16.
+unfoldable pub IsStep : Question → Step → Type 0
+IsStep u (Sum d ts) = (1 ≤ d) × (1 ≤ length ts)
+IsStep u (BranchOn e) = length e ≡ suc columnLimit
+IsStep u (Apart k) = Unit {0}
+IsStep u (AConf k) = Unit {0}
+IsStep u SConf = Unit {0}
+IsStep u (SProp f x y) = (x < u .p) × (y < u .p)
+IsStep u (LIntro x) = x < u .p
+IsStep u (LValid x) = x < u .p
+IsStep u (CCollapse x) = x < u .p
+IsStep u (CValid x) = x < u .p
+IsStep u (CInj x y) = (x < u .p) × (y < u .p)
+IsStep u (Card xs) = All (λ x. x < u .p) xs × (2 ≤ length xs)
+IsStep u (Join j k) = Unit {0}

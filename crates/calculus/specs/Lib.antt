@@ -5,6 +5,7 @@ pub mod LinearForms
 pub mod Facts
 pub mod Chains
 pub mod Classes
+pub mod InRange
 pub mod Steps
 pub mod Children
 pub mod Rules
@@ -13,9 +14,11 @@ pub mod Walk
 pub mod Cores
 pub mod Derivations
 pub mod Model
-pub mod Saturation
-pub mod SaturationTest
+pub mod Settled
+pub mod SettledTest
+pub mod Agreements
 pub mod Strings
 pub mod Meaning
 pub mod Extended
+pub mod Given
 pub mod NormalForms

@@ -19,7 +19,7 @@ abbrev pub str : Assignment → ℕ → List ℕ
 str a x = getD (a .strs) x []
 
 -- an assignment of the question's variables
-pub record For (u : Question) (a : Assignment) : Type 0 where
+pub record IsAssignment (u : Question) (a : Assignment) : Type 0 where
   pub strings : length (a .strs) ≡ u .p
   pub integers : length (a .ints) ≡ u .q
   pub over : (x : ℕ) → Over (u .n) (str a x)

@@ -12,7 +12,7 @@ use Rattle.calculus.specs.LinearForms.{eqℤ}
 use Rattle.calculus.specs.Facts.{Question, Branch, len, code, literal}
 use Rattle.calculus.specs.Classes.{labels, classLiteral}
 use Rattle.calculus.specs.Model.{modelValue}
-use Rattle.calculus.specs.SaturationTest.{lowestVariable}
+use Rattle.calculus.specs.SettledTest.{lowestVariable}
 
 -- the k-th string of length l over n characters: "smallest .. by code points" is lexicographic
 abbrev pub word : ℕ → ℕ → ℕ → List ℕ

@@ -18,14 +18,14 @@ use Rattle.deciding.specs.declared.Outcome.{Outcome}
 use Rattle.deciding.specs.declared.Outcome.the-variants.{Refused}
 use Rattle.deciding.specs.Outcomes.{told, Decided}
 use Rattle.checking.specs.Outcomes.{Promised}
-use Rattle.checking.proofs.Numbers.{OtherThanOne, never-one}
+use Rattle.format.proofs.Sizes.{OtherThanOne, never-one}
 
 -- "with every other outcome the empty set", of which nothing is told
 set-told : (b : List ℕ) (o : format.Outcome) → told o (core b) ≡ told o (coreOf o b)
 unfolding told
 set-told b (format.Refused c r) = refl
 set-told b format.NoSolution = refl
-set-told b (format.Strings s) = refl
+set-told b (format.Strings given) = refl
 
 module _ (b : List ℕ) (w : List ℤ) (a : List ℕ) where
   abbrev bySize : Bool → format.Outcome
@@ -55,7 +55,7 @@ module _ (b : List ℕ) (w : List ℤ) (a : List ℕ) where
   cleared : (o : format.Outcome) → OtherThanOne o → replicate (length w) (pos 0) ≡ workAfter o w
   cleared (format.Refused c r) other = rw (ne-eqb c 1 other)
   cleared format.NoSolution other = refl
-  cleared (format.Strings s) other = refl
+  cleared (format.Strings given) other = refl
 
   pub decided : {w' : List ℤ} {a' : List ℕ} {r : Outcome} → workNumbers ≤ length w → answerBytes ≤ length a → w' ≡ replicate (length w) (pos 0)
       → Decided (outcomeOf (readBehind checker b (question b))) (core b) a a' r → Promised b w w' a a' r

@@ -5,7 +5,7 @@ use Prim.Native.Nat.{ℕ}
 use lib.IntN.{ℤ}
 use Rattle.calculus.specs.Cores.{Set}
 use Rattle.format.specs.Checking as format
-use Rattle.format.specs.Demands.{Checked}
+use Rattle.format.specs.Demands.{TH-1}
 use Rattle.deciding.specs.declared.Outcome.{Outcome}
 use Rattle.deciding.specs.Outcomes.{told}
 
@@ -13,5 +13,5 @@ use Rattle.deciding.specs.Outcomes.{told}
 pub record Promised (ticket : List ℕ) (work work' : List ℤ) (answer answer' : List ℕ) (r : Outcome) : Type 0 where
   pub outcome : format.Outcome
   pub set : Set
-  pub checked : Checked ticket work work' answer answer' outcome set
+  pub checked : TH-1 ticket work work' answer answer' outcome set
   pub tells : r ≡ told outcome set

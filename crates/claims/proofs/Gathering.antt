@@ -14,15 +14,15 @@ use Rattle.lists.specs.Lists.{All}
 use Rattle.calculus.specs.Facts.{Question, Fact, Branch}
 use Rattle.calculus.specs.Steps.{Step}
 use Rattle.calculus.specs.Walk.{Waiting, Walk, working, cutBack, enter}
-use Rattle.calculus.specs.Cores.{Set, union, Rested, facts, rootedFrom, resting, setAt, restsOn, ofClosing, coreFrom, coreIn}
+use Rattle.calculus.specs.Cores.{Set, union, Rested, rootedFrom, resting, setAt, restsOn, ofClosing, coreFrom, coreIn}
 use Rattle.calculus.proofs.Cores.{facts-append, facts-resting}
 use Rattle.calculus.proofs.Shapes.{children-add}
 use Rattle.format.specs.Records.{size, kind, next, records}
-use Rattle.format.specs.Reading.{stepWithChild, Ticket}
+use Rattle.format.specs.Reading.{stepWithChild}
 use Rattle.format.specs.StepForms.{stepAt}
 use Rattle.format.specs.ProperForm.{stepsAt}
 use Rattle.format.proofs.Records.{records-more}
-use Rattle.format.specs.Checking.{fits, orNone}
+use Rattle.format.specs.Checking.{fits, orNone, Outcome}
 use Rattle.rows.specs.Rows.{branchOf}
 use Rattle.rows.proofs.Branches.{length-branch}
 use Rattle.question.specs.declared.Progress.{Progress}
@@ -445,7 +445,7 @@ module _ (b : List ℕ) (s : Progress) where
 
   -- ---- what follows a step, under either claim, from where the loop stands
 
-  in-order : {n i k : ℕ} {outcome : Ticket Branch (List Fact)} {w : List ℤ} {c : code.Branch} {known : Known} → Going b s NoSolution n outcome w c known i k → InOrder b s w c
+  in-order : {n i k : ℕ} {outcome : Outcome} {w : List ℤ} {c : code.Branch} {known : Known} → Going b s NoSolution n outcome w c known i k → InOrder b s w c
   unfolding Holds
   in-order h = h .holds
 
@@ -453,7 +453,7 @@ module _ (b : List ℕ) (s : Progress) where
   unfolding Acts
   closing {w} {y} {c} {i} t q = subst (Acts NoSolution b u i (c .depth) w (c .count) y) q (t .acts) .0
 
-  pub fact-at-mark : (claim : Claim) {all : Set} {n : ℕ} {outcome : Ticket Branch (List Fact)} {w : List ℤ} {v : List ℕ} {c : code.Branch} {known : Known} {grounds : Grounds}
+  pub fact-at-mark : (claim : Claim) {all : Set} {n : ℕ} {outcome : Outcome} {w : List ℤ} {v : List ℕ} {c : code.Branch} {known : Known} {grounds : Grounds}
       {i k m : ℕ} {y : List ℤ} {a : Action}
       → Gathering claim all w v c known grounds i
       → Going b s claim n outcome w c known i k
@@ -464,7 +464,7 @@ module _ (b : List ℕ) (s : Progress) where
   fact-at-mark NoSolution g h p q deep t last = below-mark (in-order h) deep t last (g .under refl .grown)
   fact-at-mark Strings {w = w} {c = c} {i = i} {y = y} g h p q deep t last = absurd (subst (Acts Strings b u i (c .depth) w (c .count) y) q (p .acts))
 
-  cut-state : {n i k m : ℕ} {outcome : Ticket Branch (List Fact)} {w y : List ℤ} {c : code.Branch} {known : Known} {a : Action}
+  cut-state : {n i k m : ℕ} {outcome : Outcome} {w y : List ℤ} {c : code.Branch} {known : Known} {a : Action}
       → Going b s NoSolution n outcome w c known i k
       → Stepped b s NoSolution w c i m y a
       → a ≡ Closes
@@ -472,7 +472,7 @@ module _ (b : List ℕ) (s : Progress) where
   cut-state {i = i} {y = y} {c = c} {a = a} h p q x d state =
       state ∙ ap (λ (l : Branch). cutBack _++_ (waitings b u l (stack c))) (same-rows (in-order h) i y a (p .acts) q)
 
-  module _ {all : Set} {n : ℕ} {outcome : Ticket Branch (List Fact)} {w : List ℤ} {v : List ℕ} {c : code.Branch} {known : Known} {grounds : Grounds}
+  module _ {all : Set} {n : ℕ} {outcome : Outcome} {w : List ℤ} {v : List ℕ} {c : code.Branch} {known : Known} {grounds : Grounds}
       {i k m : ℕ} {y : List ℤ} {a : Action} where
     -- one child begins
     module _ (f : ℕ) (q : a ≡ Extends f) (d : code.Branch) (ed : d .count ≡ f) (es : stack d ≡ stack c) where

@@ -15,8 +15,8 @@ use Rattle.calculus.specs.Facts.{Fact, Branch}
 use Rattle.calculus.specs.Walk.{Waiting, Walk, closed, cutBack}
 use Rattle.format.specs.Records.{size, kind, next}
 use Rattle.format.specs.StepForms.{childField}
-use Rattle.format.specs.Reading.{State, proving, taking, fault, Ticket, stepsOn}
-use Rattle.format.specs.Checking.{checker}
+use Rattle.format.specs.Reading.{State, proving, taking, fault}
+use Rattle.format.specs.Checking.{checker, Outcome, outcomeOf}
 use Rattle.rows.specs.Rows.{branchOf}
 use Rattle.rows.specs.Work.{Fine}
 use Rattle.rows.proofs.Branches.{length-branch, branch-take}
@@ -44,7 +44,7 @@ use Rattle.claims.proofs.Next.{the-type}
 use Rattle.claims.specs.declared.Walked as walked
 use Rattle.claims.specs.declared.Next as next-record
 use Rattle.claims.specs.declared.Next.{Next}
-use Rattle.claims.specs.Outcomes.{firstUpto, walkedOf, LeafAt, CoreAt}
+use Rattle.claims.specs.Outcomes.{firstUpto, outcomeFrom, walkedOf, LeafAt, CoreAt}
 use Rattle.claims.specs.Steps.{NextAt, endedBy}
 use Rattle.format.proofs.Faults.{not-both}
 use Rattle.format.proofs.StepTurns.{turn-faulty, turn-stepped}
@@ -66,8 +66,8 @@ fine-rows NoSolution b s w c h = fine h
 fine-rows Strings b s w c h = h
 
 module _ (b : List ℕ) (s : Progress) where
-  abbrev on : State Branch (List Fact) → ℕ → ℕ → Ticket Branch (List Fact)
-  on st r at = stepsOn (checker (asked b s)) b (asked b s) st r at
+  abbrev on : State Branch (List Fact) → ℕ → ℕ → Outcome
+  on st r at = outcomeFrom b s st r at
 
   abbrev pub pendingOn : List ℤ → code.Branch → List (Waiting Branch (List Fact))
   pendingOn w c = waitings b (asked b s) (branchOf w (c .count)) (stack c)
@@ -79,7 +79,7 @@ module _ (b : List ℕ) (s : Progress) where
   faultAt claim w c i = fault (checker (asked b s)) b (asked b s) (standsAt claim w c) i
 
   -- where the loop stands, with the work area w: n is its length, and the outcome is fixed
-  pub record Going (claim : Claim) (n : ℕ) (outcome : Ticket Branch (List Fact)) (w : List ℤ) (c : code.Branch) (known : Known) (i k : ℕ) : Type 0 where
+  pub record Going (claim : Claim) (n : ℕ) (outcome : Outcome) (w : List ℤ) (c : code.Branch) (known : Known) (i k : ℕ) : Type 0 where
     pub kept : length w ≡ n
     pub low : k ≤ i
     pub holds : Holds claim b s w c
@@ -87,7 +87,7 @@ module _ (b : List ℕ) (s : Progress) where
     pub rest : on (standsAt claim w c) k i ≡ outcome
 
   -- a state by other names
-  pub going-same : {claim : Claim} {n : ℕ} {outcome : Ticket Branch (List Fact)} {i k : ℕ} {x y : List ℤ} {c d : code.Branch} {f g : Known}
+  pub going-same : {claim : Claim} {n : ℕ} {outcome : Outcome} {i k : ℕ} {x y : List ℤ} {c d : code.Branch} {f g : Known}
       → x ≡ y
       → c ≡ d
       → f ≡ g
@@ -142,7 +142,7 @@ module _ (b : List ℕ) (s : Progress) where
 
   -- ---- a record that ends the steps
 
-  module _ {claim : Claim} {n : ℕ} {outcome : Ticket Branch (List Fact)} {w : List ℤ} {c : code.Branch} {known : Known} {i k : ℕ}
+  module _ {claim : Claim} {n : ℕ} {outcome : Outcome} {w : List ℤ} {c : code.Branch} {known : Known} {i k : ℕ}
       (g : Going claim n outcome w c known i k) (v : List ℤ) where
     -- at its record
     going-stopped : (f : ℕ) → NextAt claim b s i (next-record.the-variants.Refused f) → walkedOf b s v (walked.the-variants.Refused f k) ≡ outcome
@@ -156,9 +156,9 @@ module _ (b : List ℕ) (s : Progress) where
         → (f ≡ 0 → ⊥)
         → walkedOf b s v (walked.the-variants.Refused f k) ≡ outcome
     unfolding walkedOf
-    going-refused h f e z = sym (turn-faulty (checker (asked b s)) b (asked b s) (standsAt claim w c) k i h f e z) ∙ g .rest
+    going-refused h f e z = sym (ap outcomeOf (turn-faulty (checker (asked b s)) b (asked b s) (standsAt claim w c) k i h f e z)) ∙ g .rest
 
-  going-model : (claim : Claim) (n : ℕ) (outcome : Ticket Branch (List Fact)) (w : List ℤ) (c : code.Branch) (known : Known) (i k j : ℕ)
+  going-model : (claim : Claim) (n : ℕ) (outcome : Outcome) (w : List ℤ) (c : code.Branch) (known : Known) (i k j : ℕ)
       → Going claim n outcome w c known i k
       → endsAt claim j ≡ true
       → walkedOf b s w (walked.the-variants.Model i k (c .count)) ≡ outcome
@@ -166,7 +166,7 @@ module _ (b : List ℕ) (s : Progress) where
   going-model NoSolution n outcome w c known i k j g e = absurd (not-both false e refl)
   going-model Strings n outcome w c known i k j g e = g .rest
 
-  leaf-here : (claim : Claim) (n : ℕ) (outcome : Ticket Branch (List Fact)) (w : List ℤ) (c : code.Branch) (known : Known) (i k j : ℕ)
+  leaf-here : (claim : Claim) (n : ℕ) (outcome : Outcome) (w : List ℤ) (c : code.Branch) (known : Known) (i k j : ℕ)
       → Going claim n outcome w c known i k
       → endsAt claim j ≡ true
       → j ≡ kind b i
@@ -177,7 +177,7 @@ module _ (b : List ℕ) (s : Progress) where
   leaf-here Strings n outcome w c known i k j g e q h = record { model = sym q ∙ eqb-true j 7 e; whole = h; fine = g .holds; low = g .low }
 
   -- what was found there is no step, by its tag
-  pub going-ended : (claim : Claim) (n : ℕ) (outcome : Ticket Branch (List Fact)) (w : List ℤ) (c : code.Branch) (known : Known) (i k at : ℕ) (x : Next)
+  pub going-ended : (claim : Claim) (n : ℕ) (outcome : Outcome) (w : List ℤ) (c : code.Branch) (known : Known) (i k at : ℕ) (x : Next)
       → Going claim n outcome w c known i k
       → NextAt claim b s i x
       → (tagOf the-type x ≡ 0) ⊎ (tagOf the-type x ≡ 1)
@@ -224,7 +224,7 @@ module _ (b : List ℕ) (s : Progress) where
     unfolding Acts
     splits-alone f l q = subst Does q (t .acts)
 
-  module _ {n : ℕ} {outcome : Ticket Branch (List Fact)} {w : List ℤ} {c : code.Branch} {known : Known} {i k : ℕ} {m : ℕ} {v : List ℤ} {a : Action} where
+  module _ {n : ℕ} {outcome : Outcome} {w : List ℤ} {c : code.Branch} {known : Known} {i k : ℕ} {m : ℕ} {v : List ℤ} {a : Action} where
     -- ---- claim 1
 
     module _ (g : Going NoSolution n outcome w c known i k) (t : Stepped NoSolution w c i m v a) where
@@ -241,7 +241,7 @@ module _ (b : List ℕ) (s : Progress) where
       on-from x q z =
           ap (λ (y : Walk Branch (List Fact)). on (proving y) (k + 1) (i + 6 + m)) q
           ∙ ap₂ (λ (l r : ℕ). on (proving into) r (i + 6 + l)) (t .sized) (add-one k)
-          ∙ sym (turn-stepped (checker (asked b s)) b (asked b s) (standsAt NoSolution w c) k i (t .whole) (t .step) (sym (t .number) ∙ z))
+          ∙ sym (ap outcomeOf (turn-stepped (checker (asked b s)) b (asked b s) (standsAt NoSolution w c) k i (t .whole) (t .step) (sym (t .number) ∙ z)))
           ∙ g .rest
 
       going-on : (x : List ℤ) (d : code.Branch) (known' : Known)
@@ -278,7 +278,7 @@ module _ (b : List ℕ) (s : Progress) where
           ap (λ (l : Branch). on (taking l) (k + 1) (i + 6 + m)) (f .rows)
           ∙ ap₂ (λ (l r : ℕ). on (taking (branchOf w (c .count) ++ childOn b (asked b s) (branchOf w (c .count)) i (childField b (i + 6)))) r (i + 6 + l))
           (t .sized) (add-one k)
-          ∙ sym (turn-stepped (checker (asked b s)) b (asked b s) (standsAt Strings w c) k i (t .whole) (t .step) (sym (t .number) ∙ z))
+          ∙ sym (ap outcomeOf (turn-stepped (checker (asked b s)) b (asked b s) (standsAt Strings w c) k i (t .whole) (t .step) (sym (t .number) ∙ z)))
           ∙ g .rest;
     }
 

@@ -11,8 +11,8 @@ use Rattle.calculus.specs.Cores.{Set, coreIn}
 use Rattle.format.specs.Records.{kind, next, records}
 use Rattle.format.specs.ProperForm.{stepsAt}
 use Rattle.format.specs.Cores.{low, high}
-use Rattle.format.specs.Reading.{proving, taking, Ticket, Faulty, stepsOn}
-use Rattle.format.specs.Checking.{checker}
+use Rattle.format.specs.Reading.{State, proving, taking, stepsOn}
+use Rattle.format.specs.Checking.{checker, Outcome, Refused, outcomeOf}
 use Rattle.delimiters.specs.declared.Claim.{Claim}
 use Rattle.delimiters.specs.declared.Claim.the-variants.{NoSolution, Strings}
 use Rattle.delimiters.specs.Claims.{openUnder}
@@ -32,15 +32,19 @@ firstUpto Strings constraints = 0
 abbrev pub Loaded : List ℕ → Progress → List ℤ → Type 0
 Loaded b s work = Posed b s × Fine work (s .constraints) × (branchOf work (s .constraints) ≡ asked b s .constraints)
 
--- what is left to read of the steps under a claim, from record r at a position on, with nothing but the question's constraints on the branch
-abbrev pub walkFrom : Claim → List ℕ → Progress → ℕ → ℕ → Ticket Branch (List Fact)
-walkFrom claim b s r at = stepsOn (checker (asked b s)) b (asked b s) (openUnder claim (asked b s .constraints) []) r at
+-- what reading comes to in a state behind the claim, from record r at a position on
+abbrev pub outcomeFrom : List ℕ → Progress → State Branch (List Fact) → ℕ → ℕ → Outcome
+outcomeFrom b s st r at = outcomeOf (stepsOn (checker (asked b s)) b (asked b s) st r at)
+
+-- under a claim, from record r at a position on, with nothing but the question's constraints on the branch
+abbrev pub walkFrom : Claim → List ℕ → Progress → ℕ → ℕ → Outcome
+walkFrom claim b s r at = outcomeFrom b s (openUnder claim (asked b s .constraints) []) r at
 
 -- refused; or every branch is closed, and reading goes on at a position and record; or it goes on at the model's record, on the branch of the first count rows
-unfoldable pub walkedOf : List ℕ → Progress → List ℤ → Walked → Ticket Branch (List Fact)
-walkedOf b s w (walked.the-variants.Refused c r) = Faulty c r
-walkedOf b s w (walked.the-variants.Closed at r low high) = stepsOn (checker (asked b s)) b (asked b s) (proving closed) r at
-walkedOf b s w (walked.the-variants.Model at r count) = stepsOn (checker (asked b s)) b (asked b s) (taking (branchOf w count)) r at
+unfoldable pub walkedOf : List ℕ → Progress → List ℤ → Walked → Outcome
+walkedOf b s w (walked.the-variants.Refused c r) = Refused c r
+walkedOf b s w (walked.the-variants.Closed at r low high) = outcomeFrom b s (proving closed) r at
+walkedOf b s w (walked.the-variants.Model at r count) = outcomeFrom b s (taking (branchOf w count)) r at
 
 -- the model's record is all there, and the rows are in order
 pub record AtModel (b : List ℕ) (w : List ℤ) (at r count : ℕ) : Type 0 where

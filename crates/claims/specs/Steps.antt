@@ -11,8 +11,8 @@ use Rattle.calculus.specs.Walk.{Waiting}
 use Rattle.calculus.specs.Cores.{Rested, rootedFrom}
 use Rattle.format.specs.Records.{size as sizeOf, kind, next}
 use Rattle.format.specs.StepForms.{rule as ruleAt}
-use Rattle.format.specs.Reading.{fault, Faulty, stepsOn}
-use Rattle.format.specs.Checking.{checker}
+use Rattle.format.specs.Reading.{fault}
+use Rattle.format.specs.Checking.{checker, Refused}
 use Rattle.delimiters.specs.declared.Claim.{Claim}
 use Rattle.delimiters.specs.declared.Claim.the-variants.{NoSolution, Strings}
 use Rattle.delimiters.specs.Claims.{openUnder, endsAt}
@@ -33,6 +33,7 @@ use Rattle.claims.specs.declared.Walked.{Walked}
 use Rattle.claims.specs.declared.Walked.the-variants as walked
 use Rattle.claims.specs.declared.Next as next-record
 use Rattle.claims.specs.declared.Next.{Next}
+use Rattle.claims.specs.Outcomes.{outcomeFrom}
 
 -- ---- sets, which are kept under claim 1 alone
 
@@ -82,7 +83,7 @@ pub record StepAt (claim : Claim) (b : List ℕ) (s : Progress) (at : ℕ) (rule
 -- refused whatever the branch; or it ends the steps; or a step
 unfoldable pub NextAt : Claim → List ℕ → Progress → ℕ → Next → Type 0
 NextAt claim b s at (next-record.the-variants.Refused c) =
-    (br : Branch) (ss : List (Waiting Branch (List Fact))) (r : ℕ) → stepsOn (checker (asked b s)) b (asked b s) (openUnder claim br ss) r at ≡ Faulty c r
+    (br : Branch) (ss : List (Waiting Branch (List Fact))) (r : ℕ) → outcomeFrom b s (openUnder claim br ss) r at ≡ Refused c r
 NextAt claim b s at next-record.the-variants.Model = (endsAt claim (kind b at) ≡ true) × (next b at ≤ length b)
 NextAt claim b s at (next-record.the-variants.Step rule m) = StepAt claim b s at rule m
 

@@ -18,7 +18,7 @@ use Rattle.lists.proofs.Below.{→any-below}
 use Rattle.calculus.specs.Facts.{Fact, Branch, same, notSame, isLiteral, arithmetic}
 use Rattle.calculus.specs.Chains.{varNode, litNode}
 use Rattle.calculus.specs.Classes.{upFrom, relabel, mergeNodes, mergeFact, labelsFrom, labels, sameClass, lowestLiteral, sidesMeet}
-use Rattle.calculus.specs.SaturationTest.{lowestFrom}
+use Rattle.calculus.specs.SettledTest.{lowestFrom}
 use Rattle.rows.specs.Rows.{index, factOf, branchOf}
 use Rattle.rows.specs.Work.{tagOf}
 use Rattle.rows.proofs.Branches.{branch-take, branch-grown}

@@ -10,7 +10,7 @@ ghost use Rattle.calculus.specs.Limits.{variableLimit, factLimit};
 ghost use Rattle.calculus.specs.Chains.{varNode, litNode};
 ghost use Rattle.calculus.specs.Classes as classes;
 ghost use Rattle.calculus.specs.Classes.{nodeCount, upFrom, mergeNodes, mergeFact, sameClass, lowestLiteral, sidesMeet, literalMeets, clash};
-ghost use Rattle.calculus.specs.SaturationTest.{lowestVariable};
+ghost use Rattle.calculus.specs.SettledTest.{lowestVariable};
 ghost use Rattle.rows.specs.Rows.{rowLength, factOf, branchOf};
 ghost use Rattle.classes.specs.Classes.{Knows, setBack, literalOf};
 use limits::NODE_COUNT;

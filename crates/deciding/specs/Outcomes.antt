@@ -2,19 +2,16 @@
 use mathlib.Core.Path.{_≡_}
 use mathlib.Core.List.{List}
 use Prim.Native.Nat.{ℕ}
-use Rattle.calculus.specs.Facts.{Fact, Branch}
 use Rattle.calculus.specs.Cores.{Set}
 use Rattle.format.specs.Question.{Ended, question}
-use Rattle.format.specs.Reading.{State, stepsOn, readClaim, readBehind}
+use Rattle.format.specs.Reading.{readClaim, readBehind}
 use Rattle.format.specs.Checking as format
 use Rattle.format.specs.Checking.{checker, outcomeOf}
 use Rattle.format.specs.Cores.{low, high}
 use Rattle.format.specs.Demands.{answerAfter}
-use Rattle.delimiters.specs.declared.Claim.{Claim}
-use Rattle.claims.specs.Outcomes.{walkFrom}
 use Rattle.question.specs.declared.Progress.{Progress}
 use Rattle.question.specs.Progress.{progressOf}
-use Rattle.question.specs.Posed.{asked, ReadTo}
+use Rattle.question.specs.Posed.{ReadTo}
 use Rattle.deciding.specs.declared.Outcome.{Outcome}
 use Rattle.deciding.specs.declared.Outcome.the-variants.{Refused, NoSolution, Strings}
 
@@ -23,16 +20,9 @@ use Rattle.deciding.specs.declared.Outcome.the-variants.{Refused, NoSolu
 unfoldable pub told : format.Outcome → Set → Outcome
 told (format.Refused c r) set = Refused c r
 told format.NoSolution set = NoSolution (low set) (high set)
-told (format.Strings s) set = Strings
+told (format.Strings a) set = Strings
 
--- what reading comes to in a state behind the claim, from record r at a position on
-abbrev pub outcomeFrom : List ℕ → Progress → State Branch (List Fact) → ℕ → ℕ → format.Outcome
-outcomeFrom b s st r at = outcomeOf (stepsOn (checker (asked b s)) b (asked b s) st r at)
-
--- behind a claim, at the claim, and at the first record
-abbrev pub steppedFrom : Claim → List ℕ → Progress → ℕ → ℕ → format.Outcome
-steppedFrom claim b s r at = outcomeOf (walkFrom claim b s r at)
-
+-- at the claim, and at the first record
 abbrev pub claimedFrom : List ℕ → Progress → ℕ → ℕ → format.Outcome
 claimedFrom b s at r = outcomeOf (readClaim checker b (progressOf b s) at r)
 

@@ -14,8 +14,8 @@ ghost use Rattle.question.specs.declared.Progress.{Progress};
 ghost use Rattle.question.specs.Posed.{asked, Posed};
 ghost use Rattle.rows.specs.Rows.{branchOf};
 ghost use Rattle.rows.specs.Work.{Fine};
-ghost use Rattle.deciding.specs.Outcomes.{outcomeFrom, steppedFrom, claimedFrom, readWhole, ReadToClaim, Decided};
-ghost use Rattle.claims.specs.Outcomes.{Loaded, stepsFrom};
+ghost use Rattle.deciding.specs.Outcomes.{claimedFrom, readWhole, ReadToClaim, Decided};
+ghost use Rattle.claims.specs.Outcomes.{Loaded, outcomeFrom, walkFrom, stepsFrom};
 use claims::Walked;
 use claims::walk;
 use constraints::load;
@@ -114,7 +114,7 @@ fn behind_claim(
     answer: &mut [u8],
 ) -> Outcome
     requires { ⌜ Loaded (now ticket) s (now work) × (r ≤ at) × (answerBytes ≤ length (now answer)) ⌝ }
-    ensures { λ o. ⌜ Decided (steppedFrom claim (now (ticket .entry)) s r at)
+    ensures { λ o. ⌜ Decided (walkFrom claim (now (ticket .entry)) s r at)
         (coreIn (asked (now (ticket .entry)) s) (stepsFrom (now (ticket .entry)) at)) (now (answer .entry)) (now (answer .exit)) o ⌝ }
 {
     let mut sets = [0u64; SET_NUMBERS];

@@ -12,7 +12,7 @@ use Rattle.delimiters.specs.Numbers.{endFault}
 use Rattle.format.proofs.StepTurns.{nonzero}
 use Rattle.delimiters.proofs.Ends.{model-refused, model-taken, modelled-refused, modelled-done}
 
-module _ {B C : Type 0} (w : Method B C) (none : (br : B) (v : List ℤ) → w .endFault (modelled br v) ≡ 0) (b : List ℕ) (u : Question) (br : B) (r at m : ℕ)
+module _ {B C : Type 0} (w : Method B C) (b : List ℕ) (u : Question) (br : B) (r at m : ℕ)
     (em : m ≡ size b at) (k : kind b at ≡ 7) (h : next b at ≤ length b) where
   abbrev fromHere : Ticket B C
   fromHere = stepsOn w b u (taking br) r at
@@ -33,7 +33,7 @@ module _ {B C : Type 0} (w : Method B C) (none : (br : B) (v : List ℤ) → w .
 
     pub unended : (c : ℕ) → c ≡ endFault b (at + 6 + m) → (c ≡ 0 → ⊥) → fromHere ≡ Faulty c (r + 1)
     unended c f n =
-        onward ∙ nonzero (modelled-refused w b u (suc r) (at + 6 + m) br model (none br model)) c f n ∙ ap (Faulty c) (sym (add-one r))
+        onward ∙ nonzero (modelled-refused w b u (suc r) (at + 6 + m) br model) c f n ∙ ap (Faulty c) (sym (add-one r))
 
-    pub ended : endFault b (at + 6 + m) ≡ 0 → fromHere ≡ Done u (modelled br model)
-    ended f = onward ∙ modelled-done w b u (suc r) (at + 6 + m) br model (none br model) f
+    pub ended : endFault b (at + 6 + m) ≡ 0 → fromHere ≡ Done u (modelled br model) (suc r)
+    ended f = onward ∙ modelled-done w b u (suc r) (at + 6 + m) br model f

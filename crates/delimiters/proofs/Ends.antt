@@ -1,5 +1,5 @@
 -- The model's record and the end, whatever the method.
-use Prim.Native.Nat.{ℕ, zero, suc, _+_, _≤_, _<_}
+use Prim.Native.Nat.{ℕ, suc, _+_, _≤_, _<_}
 use native.Mathlib.Omega.{arith}
 use mathlib.Core.Path.{_≡_, refl, sym, _∙_, ap}
 use mathlib.Core.Bool.{Bool, true, false, cond}
@@ -12,10 +12,10 @@ use Rattle.calculus.specs.Facts.{Question}
 use Rattle.calculus.specs.Walk.{closed}
 use Rattle.format.specs.Records.{size, kind, next, whole, need}
 use Rattle.format.specs.Reading.{State, proving, taking, modelled, Method, modelAt, modelFault}
-use Rattle.format.specs.Reading.{lastFault, bodyFault, fault, advanced, Ticket, Faulty, Done, stepsOn, endForm}
+use Rattle.format.specs.Reading.{lastFault, bodyFault, fault, advanced, Faulty, Done, stepsOn}
 use Rattle.format.proofs.Faults.{none-applies}
 use Rattle.format.proofs.StepTurns.{steps-none, steps-faulty, steps-done, steps-more}
-use Rattle.delimiters.specs.Numbers.{endFault}
+use Rattle.delimiters.specs.Numbers.{endForm, endFault}
 
 -- ---- the model's record, whole
 
@@ -27,7 +27,7 @@ module _ {B C : Type 0} (w : Method B C) (b : List ℕ) (u : Question) (br : B) 
   unfolding fault
   by-model =
       rw (le-leb (next b at) (length b) h)
-      (ap (λ j. cond (eqb j 8) (lastFault w b (taking br) at) (bodyFault w b u (taking br) j (at + 6) (size b at))) k)
+      (ap (λ j. cond (eqb j 8) (lastFault b at) (bodyFault w b u (taking br) j (at + 6) (size b at))) k)
 
   on-model : advanced w b u (taking br) at ≡ modelled br (modelAt b u (at + 6))
   unfolding advanced
@@ -60,7 +60,7 @@ module _ {B C : Type 0} (w : Method B C) (b : List ℕ) (u : Question) (st : Sta
           let three : 3 ≡ suc c = sym (rw (lt-leb (next b at) (length b) (omega arith))) ∙ e in
           steps-none w b u st r at short ∙ ap (λ n. Faulty n r) three
 
-  end-done : endFault b at ≡ 0 → stepsOn w b u st r at ≡ Done u st
+  end-done : endFault b at ≡ 0 → stepsOn w b u st r at ≡ Done u st r
   unfolding endFault
   end-done e =
       let a3 = none-applies 2 (whole b at) (need 4 (eqb (kind b at) 8) (endForm (length b) (next b at) (size b at) 0)) e in
@@ -68,25 +68,23 @@ module _ {B C : Type 0} (w : Method B C) (b : List ℕ) (u : Question) (st : Sta
       steps-done w b u st r at (omega arith) (same ∙ e) (none-applies 3 (eqb (kind b at) 8) _ (a3 .1) .0)
 
 module _ {B C : Type 0} (w : Method B C) (b : List ℕ) (u : Question) (r at : ℕ) where
-  at-end : (st : State B C) → bodyFault w b u st (kind b at) (at + 6) (size b at) ≡ 4 → w .endFault st ≡ 0 → fault w b u st at ≡ endFault b at
+  at-end : (st : State B C) → bodyFault w b u st (kind b at) (at + 6) (size b at) ≡ 4 → fault w b u st at ≡ endFault b at
   unfolding fault endFault
-  at-end st four none =
-      ap (λ f. need 3 (whole b at) (cond (eqb (kind b at) 8) (lastFault w b st at) f)) four
-      ∙ ap (need 3 (whole b at))
-      (must-end (eqb (kind b at) 8) (lastFault w b st at) ∙ ap (λ f. need 4 (eqb (kind b at) 8) (endForm (length b) (next b at) (size b at) f)) none)
+  at-end st four =
+      ap (λ f. need 3 (whole b at) (cond (eqb (kind b at) 8) (lastFault b at) f)) four
+      ∙ ap (need 3 (whole b at)) (must-end (eqb (kind b at) 8) (lastFault b at))
 
   -- claim 1: every branch is closed
-  module _ (none : w .endFault (proving closed) ≡ 0) where
-    pub closed-refused : (c : ℕ) → endFault b at ≡ suc c → stepsOn w b u (proving closed) r at ≡ Faulty (suc c) r
-    closed-refused c e = end-refused w b u (proving closed) r at (at-end (proving closed) refl none) c e
+  pub closed-refused : (c : ℕ) → endFault b at ≡ suc c → stepsOn w b u (proving closed) r at ≡ Faulty (suc c) r
+  closed-refused c e = end-refused w b u (proving closed) r at (at-end (proving closed) refl) c e
 
-    pub closed-done : endFault b at ≡ 0 → stepsOn w b u (proving closed) r at ≡ Done u (proving closed)
-    closed-done e = end-done w b u (proving closed) r at (at-end (proving closed) refl none) e
+  pub closed-done : endFault b at ≡ 0 → stepsOn w b u (proving closed) r at ≡ Done u (proving closed) r
+  closed-done e = end-done w b u (proving closed) r at (at-end (proving closed) refl) e
 
   -- claim 2: behind the model
-  module _ (br : B) (m : List ℤ) (none : w .endFault (modelled br m) ≡ 0) where
+  module _ (br : B) (m : List ℤ) where
     pub modelled-refused : (c : ℕ) → endFault b at ≡ suc c → stepsOn w b u (modelled br m) r at ≡ Faulty (suc c) r
-    modelled-refused c e = end-refused w b u (modelled br m) r at (at-end (modelled br m) refl none) c e
+    modelled-refused c e = end-refused w b u (modelled br m) r at (at-end (modelled br m) refl) c e
 
-    pub modelled-done : endFault b at ≡ 0 → stepsOn w b u (modelled br m) r at ≡ Done u (modelled br m)
-    modelled-done e = end-done w b u (modelled br m) r at (at-end (modelled br m) refl none) e
+    pub modelled-done : endFault b at ≡ 0 → stepsOn w b u (modelled br m) r at ≡ Done u (modelled br m) r
+    modelled-done e = end-done w b u (modelled br m) r at (at-end (modelled br m) refl) e

@@ -5,7 +5,10 @@ use lib.ListN.{length}
 use lib.Dec.{eqb}
 use mathlib.Core.Bool.{cond}
 use Rattle.format.specs.Records.{size, kind, next, whole, need}
-use Rattle.format.specs.Reading.{endForm}
+
+-- an end record with a body of m bytes that ends at a position, in a ticket of n bytes: its numbers, then what is asked next
+abbrev pub endForm : ℕ → ℕ → ℕ → ℕ → ℕ
+endForm n to m later = need 4 (eqb to n) (need 5 (eqb m 0) later)
 
 -- a record of kind k where a branch is open: "11 when the end comes before every branch closed, or before a model". At a step it is what is asked next.
 abbrev pub openFault : ℕ → ℕ → ℕ → ℕ → ℕ → ℕ

@@ -18,7 +18,8 @@ use Rattle.format.specs.Records.{kind, next, records}
 use Rattle.format.specs.Question.{extendedKind, extendedRank, rankOf, Progress, Manner, formManner, ending, questionForm}
 use Rattle.format.specs.Checking.{Outcome, Refused, NoSolution, Strings, verdict}
 use Rattle.format.specs.Reading.{Ticket, Faulty, Done, readBehind}
-use Rattle.format.specs.Needs.{Needs, Report, needBy, reportOf, needing, needed}
+use Rattle.format.specs.Needs.{Needs, Report, needBy, reportOf, needed}
+use Rattle.format.specs.ProperForm.{byShape}
 use Rattle.format.specs.Demands.{AcceptedAs, TH-L3-absent}
 use Rattle.format.proofs.Faults.{clash, not-both}
 use Rattle.format.proofs.Records.{records-none, records-more}
@@ -76,12 +77,12 @@ extended-absent t r (at, there, is, w) = (λ work answer claim a. accepted work 
     accepted work answer claim (Refused c r) e a = a
     accepted work answer claim NoSolution e a =
         let (u, k) = accepted→closed children work answer t e in absent (claimed-none (k .held .claimed) _ _ _ (k .held .formed))
-    accepted work answer claim (Strings out) e a =
-        let (u, k) = accepted→given children work answer t out e in absent (claimed-none (k .held .claimed) _ _ _ (k .held .formed))
+    accepted work answer claim (Strings given) e a =
+        let (u, k) = accepted→given children work answer t given e in absent (claimed-none (k .held .claimed) _ _ _ (k .held .formed))
 
-    reported : (rep : Report) → needBy (reportOf t) (readBehind needing t (questionForm t)) ≡ Needs rep → ⊥
-    reported rep e = go (readBehind needing t (questionForm t)) refl e
+    reported : (rep : Report) → needBy (reportOf t) (readBehind byShape t (questionForm t)) ≡ Needs rep → ⊥
+    reported rep e = go (readBehind byShape t (questionForm t)) refl e
       where
-        go : (x : Ticket ℕ ℕ) → readBehind needing t (questionForm t) ≡ x → needBy (reportOf t) x ≡ Needs rep → ⊥
+        go : (x : Ticket ℕ ℕ) → readBehind byShape t (questionForm t) ≡ x → needBy (reportOf t) x ≡ Needs rep → ⊥
         go (Faulty c i) p e = clash cc
-        go (Done u s) p e = let (c, x, k, read) = ticket→ needing t (questionForm t) p in absent (claimed-none c _ _ _ (read .formed))
+        go (Done u s q) p e = let (c, x, k, read) = ticket→ byShape t (questionForm t) p in absent (claimed-none c _ _ _ (read .formed))

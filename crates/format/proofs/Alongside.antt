@@ -30,7 +30,6 @@ module _ {B C D E : Type 0} (w : Method B C) (x : Method D E) (R : B → D → T
         → w .takenFault b st k ≡ 0
         → (x .takenFault d st k ≡ 0) × R (w .taken b st k) (x .taken d st k)
     pub leaf : (b : B) (d : D) (m : List ℤ) → R b d → w .leafFault b m ≡ 0 → x .leafFault d m ≡ 0
-    pub end : (s : State B C) (t : State D E) → Beside s t → w .endFault s ≡ 0 → x .endFault t ≡ 0
 
   module _ (f : Follows) where
     pub taken-beside : (ts : List (Step × ℕ)) (o : Option (List ℤ)) (s s' : State B C) (t : State D E)
@@ -38,10 +37,10 @@ module _ {B C D E : Type 0} (w : Method B C) (x : Method D E) (R : B → D → T
         → Taken w s ts o s'
         → (t' : State D E) × Taken x t ts o t' × Beside s' t'
     unfolding Taken
-    taken-beside [] none s s' t r (e, p) = (t, (f .end s t r e, refl), subst (λ z. Beside z t) p r)
+    taken-beside [] none s s' t r p = (t, refl, subst (λ z. Beside z t) p r)
     taken-beside [] (some m) _ s' _ (both-proving r) h = absurd h
-    taken-beside [] (some m) _ s' _ (both-taking {b = b} {d = d} r) (l, e, p) =
-        (modelled d m, (f .leaf b d m r l, f .end (modelled b m) (modelled d m) (both-modelled r) e, refl), subst (λ z. Beside z (modelled d m)) p (both-modelled r))
+    taken-beside [] (some m) _ s' _ (both-taking {b = b} {d = d} r) (l, p) =
+        (modelled d m, (f .leaf b d m r l, refl), subst (λ z. Beside z (modelled d m)) p (both-modelled r))
     taken-beside [] (some m) _ s' _ (both-modelled r) h = absurd h
     taken-beside (t ∷ ts) o _ s' _ (both-proving (both-working {b = b} {d = d} {ss = ss} {ts = rs} r g)) (e, h) =
         let (e', k) = f .split b d ss rs (t .0) r (matched-length (PendingRelated (w .add) (x .add) R) ss rs g) e in

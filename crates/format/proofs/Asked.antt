@@ -16,17 +16,17 @@ use Rattle.format.specs.Question.{headRank, literalRank, extendedRank, r
 use Rattle.format.specs.Question.{checkingManner, formManner, roomFor, questionFault, questionAdvanced, Reading}
 use Rattle.format.specs.Question.{Stopped, Ended, ending, readFrom, readBy, readIn, question, questionForm, headedIn}
 use Rattle.format.proofs.RecordFaults.{uncrowded, →uncrowded, not-extended}
-use Rattle.format.proofs.Entries.{QuestionInRange, Entry, head, literal, constraint, extended, entry}
+use Rattle.format.proofs.Entries.{ReadInRange, Entry, head, literal, constraint, extended, entry}
 
 -- nothing was read yet, or a head and what is in range behind it
 abbrev pub Ready : Progress → Type 0
-Ready s = (s ≡ unread) ⊎ ((1 ≤ s .last) × QuestionInRange (s .question))
+Ready s = (s ≡ unread) ⊎ ((1 ≤ s .last) × ReadInRange (s .question))
 
 pub before-head : (s : Progress) → Ready s → s .last ≡ 0 → s ≡ unread
 before-head s (inl e) h = e
 before-head s (inr (l, d)) h = absurd (omega arith)
 
-behind-head : (s : Progress) → Ready s → 1 ≤ s .last → QuestionInRange (s .question)
+behind-head : (s : Progress) → Ready s → 1 ≤ s .last → ReadInRange (s .question)
 behind-head s (inl e) h = absurd (let z : s .last ≡ 0 = ap (λ (t : Progress). t .last) e in omega arith)
 behind-head s (inr (l, d)) h = d
 
@@ -37,7 +37,7 @@ module _ (b : List ℕ) (s : Progress) (h : Ready s) (at : ℕ) (t : Progress) w
   entry-ready e (head k l n c x q) = inr (omega arith, q)
   entry-ready e (literal k l n c x q) = inr (omega arith, q (behind-head s h l))
   entry-ready e (constraint k o l n c x q) = inr (omega arith, q (behind-head s h l))
-  entry-ready e (extended k l n c q) = inr (omega arith, subst QuestionInRange (sym q) (behind-head s h l))
+  entry-ready e (extended k l n c q) = inr (omega arith, subst ReadInRange (sym q) (behind-head s h l))
 
   abbrev r : ℕ
   r = rankOf (kind b at)
@@ -68,7 +68,7 @@ module _ (b : List ℕ) (s : Progress) (h : Ready s) (at : ℕ) (t : Progress) w
   entry-room limit (constraint k o l n c x q) g m = (omega arith, room-behind (omega arith))
   entry-room limit (extended k l n c q) g m = (omega arith, room-behind (omega arith))
 
-  entry-few : Entry b s at t → roomFor true r count ≡ true → count ≤ factLimit → constraintCount t ≤ factLimit
+  pub entry-few : Entry b s at t → roomFor true r count ≡ true → count ≤ factLimit → constraintCount t ≤ factLimit
   entry-few (head k l n c x q) e m = omega arith
   entry-few (literal k l n c x q) e m = omega arith
   entry-few (constraint k o l n c x q) e m = omega (arith, room-left k e)
@@ -200,7 +200,7 @@ unfolding readBy
 →whole m b l h = ap (bySize m b) l ∙ →reads m b h
 
 -- behind the head, the question that is read is in range
-pub read-in-range : (m : Manner) (b : List ℕ) {s : Progress} {at r : ℕ} → readIn m b ≡ Ended s at r → headRank ≤ s .last → QuestionInRange (s .question)
+pub read-in-range : (m : Manner) (b : List ℕ) {s : Progress} {at r : ℕ} → readIn m b ≡ Ended s at r → headRank ≤ s .last → ReadInRange (s .question)
 read-in-range m b {s} e h = behind-head s (reads-ready (whole→ m b e .1) (inl refl)) h
 
 -- with 10 it has no more than 128 constraints
@@ -211,7 +211,7 @@ pub read-few : (m : Manner)
     → constraintCount s ≤ factLimit
 read-few m l b e = reads-few l (whole→ m b e .1) (inl refl) (omega arith)
 
-pub asked-in-range : (b : List ℕ) {s : Progress} {at r : ℕ} → questionForm b ≡ Ended s at r → 1 ≤ s .last → QuestionInRange (s .question)
+pub asked-in-range : (b : List ℕ) {s : Progress} {at r : ℕ} → questionForm b ≡ Ended s at r → 1 ≤ s .last → ReadInRange (s .question)
 asked-in-range b e h = read-in-range formManner b e h
 
 -- what reads no kind 11 reads no extended constraint

@@ -15,17 +15,16 @@ use Rattle.calculus.specs.Logic.{Iff}
 use Rattle.calculus.specs.Limits.{factLimit, pendingLimit}
 use Rattle.calculus.specs.Facts.{Question, Fact, Branch, Relation, ge, arithmetic}
 use Rattle.calculus.specs.Steps.{Step, Sum, BranchOn, Apart, AConf, SConf, SProp, LIntro, LValid, CCollapse, CValid, CInj, Card, Join}
-use Rattle.calculus.specs.Walk.{Waiting}
+use Rattle.calculus.specs.Walk.{Waiting, working, closed}
 use Rattle.calculus.specs.Children.{childAt, one}
 use Rattle.calculus.specs.Rules.{then, sumOf, divided, sumRelation, joinOf, joinBefore, children, childrenBefore}
 use Rattle.calculus.specs.Instances.{HasRelation}
-use Rattle.calculus.specs.SaturationTest.{saturated}
+use Rattle.calculus.specs.SettledTest.{settled}
 use Rattle.calculus.proofs.Tests.{then→, →then}
 use Rattle.calculus.proofs.Alongside.{ChildrenRelated, both-working, both-closed}
-use Rattle.calculus.proofs.Before.{Raised, raised-alike, RaisedBranch, RaisedChild, raised-same, raised-append, fitted-now, joined-before, saturated-same, strings-same}
+use Rattle.calculus.proofs.Before.{Raised, raised-alike, RaisedBranch, RaisedChild, raised-same, raised-append, fitted-now, joined-before, settled-same, strings-same}
 use Rattle.format.specs.Records.{need}
-use Rattle.format.specs.Answer.{encode}
-use Rattle.format.specs.Reading.{State, Method}
+use Rattle.format.specs.Reading.{State, proving, taking, modelled, Method}
 use Rattle.format.specs.Checking.{orNone, factWithin, factsWithin, childrenWithin, room, roomForAll, allTried, takenTried, childIn, keeps, shortLengths, leafFault}
 use Rattle.format.specs.Checking.{Outcome, NoSolution, Strings, checkerBy, checker, accepted, verdict, verdictBefore}
 use Rattle.format.specs.ProperForm.{stepsWithChild}
@@ -33,7 +32,8 @@ use Rattle.format.specs.Demands.{TH-L4, TH-L4-before}
 use Rattle.format.proofs.Faults.{none-applies, passed}
 use Rattle.format.proofs.Leaves.{keeps→, →keeps}
 use Rattle.format.proofs.Claimed.{started}
-use Rattle.format.proofs.Tickets.{NoRefusal, verdict→, →verdict, large-enough}
+use Rattle.format.proofs.Tickets.{NoRefusal, verdict→, →verdict}
+use Rattle.format.proofs.Sizes.{large-enough}
 use Rattle.format.proofs.Checker.{fitting}
 use Rattle.format.proofs.Alongside.{Beside, both-proving, both-taking, both-modelled, Follows, taken-beside}
 
@@ -98,49 +98,53 @@ module _ (u : Question) where
             (subst (λ xs. RaisedBranch (b ++ x) (c ++ xs)) (sym (ap orNone now)) (raised-append b c x y r z)),
       )
 
-  -- ---- the leaf and the end
+  -- ---- the leaf
 
   leaf-now : (b c : Branch) (m : List ℤ) → RaisedBranch b c → leafFault u b m ≡ 0 → leafFault u c m ≡ 0
   leaf-now b c m r e =
       let behind : ℕ = need 14 (shortLengths u m) 0 in
-      let (met, e13) = none-applies 11 (keeps m b) (need 13 (saturated u b m) behind) e in
-      passed 12 (keeps m c) (need 13 (saturated u c m) behind) (→keeps m c (r .met m (keeps→ m b met)))
-      ∙ ap (λ t. need 13 t behind) (saturated-same u m b c (r .facts))
+      let (met, e13) = none-applies 11 (keeps m b) (need 13 (settled u b m) behind) e in
+      passed 12 (keeps m c) (need 13 (settled u c m) behind) (→keeps m c (r .met m (keeps→ m b met)))
+      ∙ ap (λ t. need 13 t behind) (settled-same u m b c (r .facts))
       ∙ e13
 
-  end-now : (s t : State Branch (List Fact)) → Beside before (checker u) RaisedBranch s t → before .endFault s ≡ 0 → checker u .endFault t ≡ 0
-  end-now _ _ (both-proving (both-working r g)) e = e
-  end-now _ _ (both-proving both-closed) e = e
-  end-now _ _ (both-taking r) e = e
-  end-now _ _ (both-modelled r) e = e
-
   follows : Follows before (checker u) RaisedBranch
-  follows = record { split = split-now; taken = taken-now; leaf = leaf-now; end = end-now }
+  follows = record { split = split-now; taken = taken-now; leaf = leaf-now }
 
   start-beside : (claim : Bool) → Beside before (checker u) RaisedBranch (started before claim) (started (checker u) claim)
   start-beside true = both-proving (both-working (raised-same (u .constraints)) tt)
   start-beside false = both-taking (raised-same (u .constraints))
 
-  accepted-same : (s t : State Branch (List Fact)) → Beside before (checker u) RaisedBranch s t → accepted u t ≡ accepted u s
-  accepted-same _ _ (both-proving (both-working r g)) = refl
-  accepted-same _ _ (both-proving both-closed) = refl
-  accepted-same _ _ (both-taking r) = refl
-  accepted-same _ _ (both-modelled {b = b} {d = c} {m = m} r) =
-      ap (λ ss. Strings (encode (record { strs = ss; ints = take (u .q) m }))) (strings-same u m b c (r .facts))
+  accepted-same : (s t : State Branch (List Fact)) (q : ℕ) → Beside before (checker u) RaisedBranch s t → accepted u t q ≡ accepted u s q
+  accepted-same _ _ q (both-proving (both-working r g)) = refl
+  accepted-same _ _ q (both-proving both-closed) = refl
+  accepted-same _ _ q (both-taking r) = refl
+  accepted-same _ _ q (both-modelled {b = b} {d = c} {m = m} r) =
+      ap (λ ss. Strings (record { strs = ss; ints = take (u .q) m })) (strings-same u m b c (r .facts))
 
 -- ---- the ticket
+
+-- where it is no refusal, the end's number does not matter
+whatever-number : (u : Question) (o : Outcome) → NoRefusal o → (s : State Branch (List Fact)) (q r : ℕ) → accepted u s q ≡ o → accepted u s r ≡ o
+whatever-number u o never (proving (working b ss)) q r e = absurd (never _ _ e)
+whatever-number u o never (proving closed) q r e = e
+whatever-number u o never (taking b) q r e = absurd (never _ _ e)
+whatever-number u o never (modelled b m) q r e = e
 
 -- whatever was no refusal
 still : (work answer : ℕ) (t : List ℕ) (o : Outcome) → NoRefusal o → verdictBefore work answer t ≡ o → verdict work answer t ≡ o
 still work answer t o never e =
-    let (u, s, (claim, m, held, taken), few, a) = verdict→ childrenBefore work answer t o never e in
-    let (s', now, z) = taken-beside (before u) (checker u) RaisedBranch (follows u) (stepsWithChild t) m _ s _ (start-beside u claim) taken in
-    →verdict children work answer t u claim m s' (large-enough childrenBefore work answer t o never e) few held now ∙ accepted-same u s s' z ∙ a
+    let v = verdict→ childrenBefore work answer t o never e in
+    let u = v .asked in
+    let (claim, m, held, taken) = v .read in
+    let (s', now, z) = taken-beside (before u) (checker u) RaisedBranch (follows u) (stepsWithChild t) m _ (v .state) _ (start-beside u claim) taken in
+    let (q, given) = →verdict children work answer t u claim m s' (large-enough childrenBefore work answer t (never 1) e) (v .few) held now in
+    given ∙ accepted-same u (v .state) s' q z ∙ whatever-number u o never (v .state) (v .number) q (v .gives)
 
 pub accepted-now : TH-L4
 accepted-now work answer t = (
   still work answer t NoSolution (λ c r z. let z : _≡_ {A = ℕ} 0 1 = cc in omega arith),
-  λ out. still work answer t (Strings out) (λ c r z. let z : _≡_ {A = ℕ} 0 1 = cc in omega arith),
+  λ a. still work answer t (Strings a) (λ c r z. let z : _≡_ {A = ℕ} 0 1 = cc in omega arith),
 )
 
 -- ---- the rules before

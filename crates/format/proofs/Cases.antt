@@ -11,17 +11,19 @@ use Rattle.format.specs.Question.{rankOf, rising, fillCoefficients, fact
 use Rattle.format.specs.StepForms.{multipliersWithin, operandsInRange, stepOf}
 use Rattle.format.specs.Answer.{characterBytes, integerBytes, stringRecords, encode}
 use Rattle.format.specs.Reading.{fault, advanced, readSteps}
+use Rattle.format.specs.ProperForm.{stepsAt}
 use Rattle.format.specs.Checking.{factsWithin, childrenWithin, roomForAll, keeps, verdictBy}
-use Rattle.format.specs.Cases.{shortBytes, pairBytes, ticket, CaseHolds, starred, equationCases}
+use Rattle.format.specs.Written.{u16Bytes, pairBytes}
+use Rattle.format.specs.Cases.{ticket, CaseHolds, starred, equationCases}
 
 pub starred-hold : All CaseHolds starred
 unfolding characterCount character codeRanges isCharacter allCharacters shape allEquations dividesExactly u32 signed u16s u32s i32s pairsAt bytesOf recordsBy records rankOf
     rising fillCoefficients factFault formFault questionFault questionAdvanced readFrom readBy multipliersWithin operandsInRange stepOf characterBytes integerBytes
-    stringRecords encode allWithin fault advanced readSteps factsWithin childrenWithin roomForAll keeps verdictBy shortBytes pairBytes ticket flatMap
-starred-hold = (refl, (refl, (refl, (refl, (refl, (refl, (refl, (refl, (refl, (refl, (refl, (refl, (refl, tt)))))))))))))
+    stringRecords encode allWithin fault advanced readSteps factsWithin childrenWithin roomForAll keeps verdictBy stepsAt u16Bytes pairBytes ticket flatMap
+starred-hold = ((refl, refl, refl), (refl, (refl, (refl, (refl, (refl, (refl, (refl, (refl, (refl, (refl, (refl, (refl, tt)))))))))))))
 
 pub equations-hold : All CaseHolds equationCases
 unfolding shape allEquations dividesExactly u32 signed i32s pairsAt bytesOf recordsBy records rankOf rising fillCoefficients factFault formFault questionFault questionAdvanced readFrom
     readBy multipliersWithin operandsInRange stepOf integerBytes stringRecords encode allWithin fault advanced readSteps factsWithin childrenWithin roomForAll keeps verdictBy
-    shortBytes pairBytes ticket flatMap
+    u16Bytes pairBytes ticket flatMap
 equations-hold = (refl, (refl, (refl, (refl, (refl, (refl, (refl, (refl, tt))))))))

@@ -21,9 +21,9 @@ use Rattle.format.specs.Reading.{State, proving, taking, Method, Done, r
 use Rattle.format.specs.ProperForm.{stepsAt, stepsBehind, stepsWithChild}
 use Rattle.format.proofs.Faults.{none-applies}
 use Rattle.format.proofs.StepTurns.{atClaim, claim-clean}
-use Rattle.format.proofs.Entries.{QuestionInRange}
+use Rattle.format.proofs.Entries.{ReadInRange}
 use Rattle.format.proofs.Asked.{headed-in, asked-in-range, question→form, form→question}
-use Rattle.format.proofs.Behind.{Formed, Taken, childOk, Read, done→, →done}
+use Rattle.format.proofs.Behind.{Formed, Taken, childOk, endNumber, Read, done→, →done}
 
 -- reading the question u came to a claim
 pub record Claimed (b : List ℕ) (g : Reading) (u : Question) : Type 0 where
@@ -41,6 +41,10 @@ claimsNone {b} c = eqb (claimAt b (c .position)) 1
 -- the records behind it
 abbrev pub behindClaim : {b : List ℕ} {g : Reading} {u : Question} → Claimed b g u → List ℕ
 behindClaim {b} c = records b (next b (c .position))
+
+-- the number of the first of them
+abbrev pub numberBehind : {b : List ℕ} {g : Reading} {u : Question} → Claimed b g u → ℕ
+numberBehind c = suc (c .number)
 
 -- the state behind the claim
 abbrev pub started : {B C : Type 0} → Method B C → Bool → State B C
@@ -67,7 +71,19 @@ claimed-headed {b} c =
     claim-headed b (c .last) (c .position)
     (need 5 (eqb (size b (c .position)) 2) (need 6 (leb 1 (claimAt b (c .position)) && leb (claimAt b (c .position)) 2) 0)) (c .claim-formed)
 
-pub claimed-in-range : {b : List ℕ} {u : Question} → Claimed b (questionForm b) u → QuestionInRange u
+-- it is 1 or 2
+pub claimed-range : {b : List ℕ} {g : Reading} {u : Question} (c : Claimed b g u) → (1 ≤ claimAt b (c .position)) × (claimAt b (c .position) ≤ 2)
+claimed-range {b} c =
+    let at : ℕ = c .position in
+    let in-range : Bool = leb 1 (claimAt b at) && leb (claimAt b at) 2 in
+    let sized : ℕ = need 5 (eqb (size b at) 2) (need 6 in-range 0) in
+    let placed : Bool = leb 1 (c .last) && eqb (kind b at) 5 in
+    let a4 = none-applies 3 placed sized (none-applies 2 (whole b at) (need 4 placed sized) (c .claim-formed) .1) in
+    let a6 = none-applies 5 in-range 0 (none-applies 4 (eqb (size b at) 2) (need 6 in-range 0) (a4 .1) .1) in
+    let (low, high) = and-both (leb 1 (claimAt b at)) (leb (claimAt b at) 2) (a6 .0) in
+    (leb-true 1 (claimAt b at) low, leb-true (claimAt b at) 2 high)
+
+pub claimed-in-range : {b : List ℕ} {u : Question} → Claimed b (questionForm b) u → ReadInRange u
 claimed-in-range {b} c = asked-in-range b (c .ended) (claimed-headed c)
 
 pub claimed-asked : {b : List ℕ} {g : Reading} {u : Question} → Claimed b g u → questionIn g ≡ some u
@@ -75,26 +91,27 @@ claimed-asked {b} {g} {u} c =
     ap questionIn (c .ended) ∙ headed-in (λ s. s .question) (record { last = c .last; question = u; extended = c .extended }) (c .position) (c .number) (le-leb 1 (c .last) (claimed-headed c))
 
 module _ {B C : Type 0} (method : Question → Method B C) (b : List ℕ) where
-  abbrev pub ReadBehind : Reading → Question → State B C → Type 0
-  ReadBehind g u s = (c : Claimed b g u) × (x : Bool) × (claimsNone c ≡ x) × Read (method u) b u (started (method u) x) (behindClaim c) u s
+  abbrev pub ReadBehind : Reading → Question → State B C → ℕ → Type 0
+  ReadBehind g u s q = (c : Claimed b g u) × (x : Bool) × (claimsNone c ≡ x) × Read (method u) b u (started (method u) x) (numberBehind c) (behindClaim c) u s q
 
-  pub ticket→ : (g : Reading) {u : Question} {s : State B C} → readBehind method b g ≡ Done u s → ReadBehind g u s
+  pub ticket→ : (g : Reading) {u : Question} {s : State B C} {q : ℕ} → readBehind method b g ≡ Done u s q → ReadBehind g u s q
   ticket→ (Stopped c r) e = absurd (let z : _≡_ {A = ℕ} 0 1 = cc in omega arith)
-  ticket→ (Ended p at r) {u} {s} e = go (claimFault b p at) refl e
+  ticket→ (Ended p at r) {u} {s} {q} e = go (claimFault b p at) refl e
     where
-      go : (f : ℕ) → claimFault b p at ≡ f → atClaim method b p at r f ≡ Done u s → ReadBehind (Ended p at r) u s
+      go : (f : ℕ) → claimFault b p at ≡ f → atClaim method b p at r f ≡ Done u s q → ReadBehind (Ended p at r) u s q
       go (suc c) k e = absurd (let z : _≡_ {A = ℕ} 0 1 = cc in omega arith)
       go zero k e =
           let h = done→ (method (p .question)) b (p .question) (begin (method (p .question)) (claimAt b at)) (suc r) (records b (next b at)) e in
-          subst (λ v. ReadBehind (Ended p at r) v s) (h .same-question) (
+          subst (λ v. ReadBehind (Ended p at r) v s q) (h .same-question) (
             record { last = p .last; extended = p .extended; position = at; number = r; ended = refl; claim-formed = k },
             eqb (claimAt b at) 1,
             refl,
-            record { steps = h .steps; model = h .model; formed = h .formed; same-question = refl; taken = h .taken },
+            record { steps = h .steps; model = h .model; formed = h .formed; same-question = refl; taken = h .taken; end-is = h .end-is },
           )
 
   pub →ticket : {g : Reading} {u : Question} {s : State B C} (c : Claimed b g u) (x : Bool) (ts : List (Step × ℕ)) (o : Option (List ℤ)) → claimsNone c ≡ x
-      → Formed b u (childOk u (started (method u) x)) (behindClaim c) ts o → Taken (method u) (started (method u) x) ts o s → readBehind method b g ≡ Done u s
+      → Formed b u (childOk u (started (method u) x)) (behindClaim c) ts o → Taken (method u) (started (method u) x) ts o s
+      → readBehind method b g ≡ Done u s (endNumber (numberBehind c) ts o)
   →ticket {g} {u} {s} c x ts o e f k =
       ap (readBehind method b) (c .ended)
       ∙ claim-clean method b (record { last = c .last; question = u; extended = c .extended }) (c .position) (c .number) (c .claim-formed)

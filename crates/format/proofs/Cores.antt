@@ -11,12 +11,11 @@ use lib.ListN.{length, getD, take, drop}
 use lib.Seq.{getD-take, getD-drop}
 use Rattle.calculus.specs.Facts.{Question}
 use Rattle.calculus.specs.Rules.{children}
-use Rattle.calculus.specs.Walk.{working, closed}
+use Rattle.calculus.specs.Walk.{working}
 use Rattle.calculus.specs.Meaning.{Met}
 use Rattle.calculus.specs.Cores.{Set, chosenFrom, coreIn}
 use Rattle.calculus.proofs.Cores.{core-unsolvable, core-of-question}
 use Rattle.format.specs.Question.{questionOf}
-use Rattle.format.specs.Reading.{proving}
 use Rattle.format.specs.Checking.{Outcome, Refused, NoSolution, Strings, verdict}
 use Rattle.format.specs.ProperForm.{steps, stepsWithChild}
 use Rattle.format.specs.Cores.{coreAsked, core, coreOf, flag, word}
@@ -40,7 +39,7 @@ core-clashes work answer t e =
       asked,
       subst (λ s. length s ≤ length (u .constraints)) (sym same) (core-of-question u (steps t)),
       λ a f m. core-unsolvable u (steps t) (q .head) (q .literals-differ) (q .constraints) (all-bare u (stepsWithChild t) (steps-in-range (c .held)))
-          (proved→walked children u (working (u .constraints) []) (stepsWithChild t) none (proving closed) (c .taken) .0) a f
+          (proved→walked children u (working (u .constraints) []) (stepsWithChild t) none (c .taken)) a f
           (subst (λ s. Met u a (chosenFrom 0 s (u .constraints))) same m),
     )
 
@@ -50,7 +49,7 @@ others-empty work answer t other = by-outcome (verdict work answer t) other
     by-outcome : (o : Outcome) → o ≢ NoSolution → coreOf o t ≡ []
     by-outcome (Refused c r) other = refl
     by-outcome NoSolution other = absurd (other refl)
-    by-outcome (Strings s) other = refl
+    by-outcome (Strings a) other = refl
 
 -- ---- bits
 

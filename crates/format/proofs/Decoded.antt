@@ -10,7 +10,7 @@ use Rattle.lists.proofs.Lists.{all-true→}
 use Rattle.lists.specs.Lists.{All}
 use Rattle.lists.proofs.Tests.{and-both}
 use Rattle.calculus.specs.Facts.{Question, columnCount}
-use Rattle.calculus.specs.Instances.{StepInRange}
+use Rattle.calculus.specs.Instances.{IsStep}
 use Rattle.format.specs.Fields.{u16, u32}
 use Rattle.format.specs.StepForms.{Rule, sum, branch, apart, aConf, sConf, sProp, lIntro, lValid, cCollapse, cValid, cInj}
 use Rattle.format.specs.StepForms.{card, join, unknown, Form, formFor, fitsForm, rule, lengthFits, sumPairs}
@@ -26,8 +26,8 @@ at-least f m e = leb-true (f .least) m (and-both (leb (f .least) m) _ e .0)
 rule-in-range : (b : List ℕ) (u : Question) (r : Rule) (at m : ℕ)
     → fitsForm (formFor r) m ≡ true
     → operandsInRange b (u .p) (columnCount u) r at m ≡ true
-    → StepInRange u (stepOf b r at m)
-unfolding operandsInRange stepOf StepInRange
+    → IsStep u (stepOf b r at m)
+unfolding operandsInRange stepOf IsStep
 rule-in-range b u sum at m l e =
     let long : 14 ≤ m = at-least (formFor sum) m l in (
       leb-true 1 (u32 b (at + 4)) (and-both _ (leb (u32 b (at + 4)) 2147483647 && multipliersWithin (sumPairs b at m)) e .0),
@@ -53,5 +53,5 @@ rule-in-range b u unknown at m l e = tt
 pub step-in-range : (b : List ℕ) (u : Question) (at m : ℕ)
     → lengthFits b at m ≡ true
     → operandsInRange b (u .p) (columnCount u) (rule b at) at m ≡ true
-    → StepInRange u (stepAt b at m)
+    → IsStep u (stepAt b at m)
 step-in-range b u at m = rule-in-range b u (rule b at) at m

@@ -1,5 +1,5 @@
 -- The answer's bytes: their lengths, and records one after another.
-use mathlib.Core.Path.{_≡_, refl, ap}
+use mathlib.Core.Path.{_≡_, refl, _∙_, ap, ap₂}
 use mathlib.Core.List.{List, [], _∷_, _++_, flatMap}
 use Prim.Native.Nat.{ℕ, zero, suc, _+_, _*_, _≤_}
 use native.Mathlib.Omega.{arith}
@@ -11,13 +11,14 @@ use Rattle.calculus.specs.Limits.{variableLimit, lengthLimit, answerBytes}
 use Rattle.calculus.specs.Meaning.{Assignment}
 use Rattle.format.specs.Fields.{bytesOf, unsigned}
 use Rattle.format.specs.Answer.{recordBytes, characterBytes, integerBytes, stringRecords, encode}
+use Rattle.format.specs.Written.{u16Bytes, pairBytes}
 
 pub length-bytes : (k v : ℕ) → length (bytesOf k v) ≡ k
 unfolding bytesOf
 length-bytes zero v = refl
 length-bytes (suc k) v = ap suc (length-bytes k _)
 
--- ---- items of four bytes, one after another
+-- ---- fields one after another
 
 pub length-characters : (s : List ℕ) → length (characterBytes s) ≡ 4 * length s
 unfolding characterBytes
@@ -26,6 +27,17 @@ length-characters s = length-flatMap (bytesOf 4) 4 (length-bytes 4) s
 pub length-integers : (zs : List ℤ) → length (integerBytes zs) ≡ 4 * length zs
 unfolding integerBytes
 length-integers zs = length-flatMap (λ z. bytesOf 4 (unsigned z)) 4 (λ z. length-bytes 4 (unsigned z)) zs
+
+pub length-shorts : (vs : List ℕ) → length (u16Bytes vs) ≡ 2 * length vs
+unfolding u16Bytes
+length-shorts vs = length-flatMap (bytesOf 2) 2 (length-bytes 2) vs
+
+pub length-pair : (t : ℕ × ℤ) → length (bytesOf 2 (t .0) ++ bytesOf 4 (unsigned (t .1))) ≡ 6
+length-pair t = length-append (bytesOf 2 (t .0)) (bytesOf 4 (unsigned (t .1))) ∙ ap₂ _+_ (length-bytes 2 (t .0)) (length-bytes 4 (unsigned (t .1)))
+
+pub length-pairBytes : (ts : List (ℕ × ℤ)) → length (pairBytes ts) ≡ 6 * length ts
+unfolding pairBytes
+length-pairBytes ts = length-flatMap (λ t. bytesOf 2 (t .0) ++ bytesOf 4 (unsigned (t .1))) 6 length-pair ts
 
 -- ---- records
 

@@ -1,28 +1,28 @@
 -- A record of a question that has no fault of its form: a head, a literal or a constraint, each of which leaves the question in range.
-use Prim.Native.Nat.{ℕ, zero, suc, _+_, _*_, _-_, _/_, _%_, _<_, _≤_}
+use Prim.Native.Nat.{ℕ, zero, suc, _+_, _-_, _/_, _<_, _≤_}
 use native.Mathlib.Omega.{arith}
 use mathlib.Core.Path.{_≡_, refl, sym, ap, subst}
 use mathlib.Core.Logic.{_≢_, inl, inr}
-use mathlib.Core.Bool.{Bool, true, false, not, _&&_, cond}
+use mathlib.Core.Bool.{Bool, true, false, not, cond}
 use mathlib.Core.List.{List, [], _∷_, _++_}
 use lib.ListN.{length, length-append}
-use lib.Dec.{T-not, leb, eqb}
+use lib.Dec.{T-not, eqb}
 use borrow.Author.Tests.{leb-true, eqb-true, eqb-false}
 use Rattle.lists.specs.Lists.{All, Distinct}
 use Rattle.lists.proofs.Tests.{true→, and-both}
 use Rattle.lists.proofs.Lists.{all-map, all-append, In, distinct-snoc}
-use Rattle.calculus.specs.Limits.{alphabetLimit, literalLimit, lengthLimit}
+use Rattle.calculus.specs.Limits.{alphabetLimit, literalLimit}
 use Rattle.calculus.specs.Alphabet.{Over, allCharacters}
 use Rattle.calculus.specs.Facts.{Question, Fact, same, notSame, isLiteral, arithmetic, columnCount}
 use Rattle.calculus.specs.Extended.{Extended}
 use Rattle.calculus.specs.Strings.{given}
-use Rattle.calculus.proofs.InRange.{HeadInRange, FactInRange, FactsInRange}
+use Rattle.calculus.specs.InRange.{HeadInRange, FactInRange, FactsInRange}
 use Rattle.calculus.proofs.Words.{over→, →given}
 use Rattle.format.specs.Fields.{u16, u32s}
 use Rattle.format.specs.Records.{size, kind, need}
 use Rattle.format.specs.Question.{headRank, literalRank, extendedRank, rankOf, Progress, constraintCount}
 use Rattle.format.specs.Question.{withLiteral, withFact, headFault, headOf, textOf, extendedFault, extendedOf}
-use Rattle.format.specs.Question.{literalFault, stringFact, factFault, bodyFact, rankInPlace, formFault, questionAdvanced}
+use Rattle.format.specs.Question.{literalLength, literalFault, stringFact, factFault, bodyFact, rankInPlace, formFault, questionAdvanced}
 use Rattle.format.proofs.Faults.{none-applies}
 use Rattle.format.proofs.Fields.{length-u32s, length-form}
 use Rattle.format.proofs.RecordFaults.{passed, head-first, behind-head, head-formed, StringConstraint}
@@ -34,14 +34,14 @@ not-empty b at k h e = omega (arith, ap length e, length-u32s b at k)
 -- ---- the question
 
 -- what the numbers 4 to 7 leave of a question
-pub record QuestionInRange (u : Question) : Type 0 where
+pub record ReadInRange (u : Question) : Type 0 where
   pub head : HeadInRange u
   pub characters : u .n ≤ alphabetLimit
   pub constraints : FactsInRange u (u .constraints)
   pub literals-differ : Distinct ([] ∷ u .literals)
   pub literals-over : All (Over (u .n)) (u .literals)
 
-head-in-range : (b : List ℕ) (at m : ℕ) → headFault b at m ≡ 0 → QuestionInRange (headOf b at)
+head-in-range : (b : List ℕ) (at m : ℕ) → headFault b at m ≡ 0 → ReadInRange (headOf b at)
 head-in-range b at m e =
     let h = head-formed b at m e in
     record {
@@ -65,14 +65,14 @@ still-in-range u s (isLiteral x l) h = (h .0, omega (arith, length-append (u .li
 still-in-range u s (arithmetic r e) h = h
 
 literal-in-range : (b : List ℕ) (u : Question) (at m : ℕ)
-    → QuestionInRange u
+    → ReadInRange u
     → length (u .literals) < literalLimit
     → literalFault b (u .n) (u .literals) at m ≡ 0
-    → QuestionInRange (withLiteral u (textOf b at m))
+    → ReadInRange (withLiteral u (textOf b at m))
 literal-in-range b u at m d few e =
     let s : List ℕ = textOf b at m in
     let a5 =
-    none-applies 4 (leb 4 m && (leb m (4 * lengthLimit) && eqb (m % 4) 0)) (need 6 (allCharacters (u .n) s) (need 7 (not (given s (u .literals))) 0)) e in
+    none-applies 4 (literalLength m) (need 6 (allCharacters (u .n) s) (need 7 (not (given s (u .literals))) 0)) e in
     let a6 = none-applies 5 (allCharacters (u .n) s) (need 7 (not (given s (u .literals))) 0) (a5 .1) in
     let a7 = none-applies 6 (not (given s (u .literals))) 0 (a6 .1) in
     let four : 4 ≤ m = leb-true _ _ (and-both _ _ (a5 .0) .0) in
@@ -101,7 +101,7 @@ same-range u g (notSame x y) h = h
 same-range u g (isLiteral x l) h = h
 same-range u g (arithmetic r e) h = h
 
-fact-in-range : (u : Question) (f : Fact) → QuestionInRange u → FactInRange u f → QuestionInRange (withFact u f)
+fact-in-range : (u : Question) (f : Fact) → ReadInRange u → FactInRange u f → ReadInRange (withFact u f)
 fact-in-range u f d h = record {
   head = record {
     alphabet = d .head .alphabet;
@@ -142,14 +142,14 @@ pub data Entry (b : List ℕ) (s : Progress) (at : ℕ) (t : Progress) : Type 0 
       → constraintCount t ≡ 0
       → recordCount t ≡ 0
       → t .extended ≡ []
-      → QuestionInRange (t .question)
+      → ReadInRange (t .question)
       → Entry b s at t
   literal : rankOf (kind b at) ≡ literalRank
       → headRank ≤ s .last
       → constraintCount t ≡ constraintCount s
       → recordCount t ≡ suc (recordCount s)
       → t .extended ≡ s .extended
-      → (QuestionInRange (s .question) → QuestionInRange (t .question))
+      → (ReadInRange (s .question) → ReadInRange (t .question))
       → Entry b s at t
   constraint : literalRank < rankOf (kind b at)
       → rankOf (kind b at) ≢ extendedRank
@@ -157,7 +157,7 @@ pub data Entry (b : List ℕ) (s : Progress) (at : ℕ) (t : Progress) : Type 0 
       → constraintCount t ≡ suc (constraintCount s)
       → recordCount t ≡ suc (recordCount s)
       → t .extended ≡ s .extended
-      → (QuestionInRange (s .question) → QuestionInRange (t .question))
+      → (ReadInRange (s .question) → ReadInRange (t .question))
       → Entry b s at t
   extended : rankOf (kind b at) ≡ extendedRank
       → headRank ≤ s .last

@@ -11,6 +11,7 @@ use lib.ListN.{length, getElem?}
 use lib.Dec.{leb, ltb, eqb}
 use borrow.Author.Tests.{leb-true, le-leb, lt-leb, ne-eqb}
 use Rattle.lists.proofs.Options.{none-some, some-injective}
+use Rattle.calculus.specs.Rules.{children}
 use Rattle.calculus.specs.Limits.{literalLimit, ticketBytes}
 use Rattle.calculus.specs.Facts.{Question}
 use Rattle.calculus.specs.Extended.{Extended}
@@ -19,9 +20,11 @@ use Rattle.format.specs.Question.{extendedKind, headRank, literalRank, a
 use Rattle.format.specs.Question.{Manner, checkingManner, judgingManner, rankInPlace, questionBodyFault, formFault}
 use Rattle.format.specs.Question.{findsRoom, orCrowded, questionFault, questionAdvanced, Reading, Stopped, Ended, ending, readFrom, readBy, readIn}
 use Rattle.format.specs.Question.{question, judgedQuestion, questionForm, questionIn, judgedIn, questionOf}
-use Rattle.format.specs.Checking.{Outcome, Refused, outcomeOf, checker, verdictBy}
+use Rattle.format.specs.Checking.{outcomeOf, checker}
+use Rattle.format.proofs.Sizes.{sized}
 use Rattle.format.specs.Reading.{readBehind}
-use Rattle.format.specs.Needs.{needBy, reportOf, needing, needed}
+use Rattle.format.specs.Needs.{needBy, reportOf, needed}
+use Rattle.format.specs.ProperForm.{byShape}
 use Rattle.format.specs.Demands.{WholeExtended, TH-L3, TH-L3-refused}
 use Rattle.format.proofs.Faults.{clash}
 use Rattle.format.proofs.RecordFaults as place
@@ -357,11 +360,10 @@ reads-alike b = record {
     four c r (inr e) = four-refused b false c r e
 
 pub extended-refused : TH-L3-refused
-unfolding verdictBy needed
+unfolding needed
 extended-refused work answer t u e es large asks = (
-  ap (λ x. elim x as (λ _. Outcome) [ false ↦ Refused 1 0 | true ↦ outcomeOf (readBehind checker t (question t)) ]) large
-      ∙ ap (λ g. outcomeOf (readBehind checker t g)) (stops true),
-  ap (λ g. needBy (reportOf t) (readBehind needing t g)) (stops false),
+  sized children work answer t large ∙ ap (λ g. outcomeOf (readBehind checker t g)) (stops true),
+  ap (λ g. needBy (reportOf t) (readBehind byShape t g)) (stops false),
 )
   where
     stops : (limited : Bool) → readIn (taking limited arithmeticRank) t ≡ Stopped 4 (1 + length (u .literals) + length (u .constraints))

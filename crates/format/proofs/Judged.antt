@@ -1,36 +1,35 @@
 -- TH-3: judging says all met exactly when the answer's values meet every constraint, and else names the first that they do not meet.
-use Prim.Native.Nat.{ℕ, zero, suc, _+_}
-use native.Mathlib.Omega.{arith}
+use Prim.Native.Nat.{ℕ, _+_}
 use mathlib.Core.Path.{_≡_, refl, sym, _∙_, ap, ap₂, subst}
 use mathlib.Core.Bool.{Bool, true, false, not}
 use mathlib.Core.Option.{Option, none, some}
-use mathlib.Core.List.{List, [], _∷_}
-use lib.ListN.{getD}
+use mathlib.Core.List.{List, []}
 use lib.Dec.{T-not, not-T, leb}
 use borrow.Author.Tests.{not-true, not-false}
+use Rattle.lists.proofs.Lists.{all-getD}
 use Rattle.lists.proofs.Tests.{→true, true→}
 use Rattle.calculus.specs.Logic.{Iff}
-use Rattle.calculus.specs.Alphabet.{Over, allCharacters}
+use Rattle.calculus.specs.Alphabet.{Over}
 use Rattle.calculus.specs.Facts.{Question, Fact, same, notSame, isLiteral, arithmetic, holds, literal}
 use Rattle.calculus.specs.Strings.{eqString}
-use Rattle.calculus.specs.Meaning.{Assignment, str, value, For, Meets}
+use Rattle.calculus.specs.Meaning.{Assignment, str, value, IsAssignment, Meets}
 use Rattle.calculus.specs.Extended.{Extended, Constraint, basic, extended, constraintsOf, MeetsConstraint}
-use Rattle.calculus.proofs.Words.{over→, eqString→, →eqString}
+use Rattle.calculus.proofs.Words.{eqString→, →eqString}
 use Rattle.calculus.proofs.Relations.{holds→, →holds}
 use Rattle.lists.proofs.Searches.{FirstWithout, lowest-first, first-unique}
 use Rattle.calculus.proofs.Extended.{extended→, →extended}
-use Rattle.format.specs.Records.{next}
 use Rattle.format.specs.Question.{Reading, Stopped, Ended, judgedQuestion, judgedIn, byHead}
-use Rattle.format.specs.Places.{skip, textAt, texts}
+use Rattle.format.specs.Places.{skip, texts}
 use Rattle.format.specs.Answer.{answerForm, assignmentOf, outside}
-use Rattle.format.specs.Judging.{Refused, Judged, byForm, judgeAnswer, judgeBehind, judging, meets, meetsConstraint}
+use Rattle.format.specs.Judging.{Rejected, Submitted, byForm, judgeAnswer, judgeBehind, submission, meets, meetsConstraint}
 use Rattle.format.specs.Judging.{firstUnmet, saidOf, said}
-use Rattle.format.specs.Demands.{Judges, TH-3}
+use Rattle.format.specs.Demands.{TrueJudgement, TH-3}
 use Rattle.format.proofs.Faults.{not-both, clash}
 use Rattle.format.proofs.Fields.{length-i32s}
 use Rattle.format.proofs.Asked.{headed-in}
 use Rattle.format.proofs.Extended.{judged-put}
 use Rattle.format.proofs.Places.{length-texts}
+use Rattle.format.proofs.Outside.{all-inside}
 
 -- ---- a constraint is met exactly when its test holds
 
@@ -68,21 +67,6 @@ module _ (u : Question) (es : List Extended) (a : Assignment) where
 
 -- ---- the answer's values are an assignment of the question
 
-inside-over : (v : List ℕ) (u : Question) (p r at : ℕ) → outside v u p r at ≡ none → (x : ℕ) → Over (u .n) (getD (texts v p at) x [])
-unfolding texts outside
-inside-over v u zero r at e x = tt
-inside-over v u (suc p) r at e x = go (allCharacters (u .n) (textAt v at)) refl e x (λ p' y. inside-over v u p (suc r) (next v at) p' y)
-  where
-    go : (b : Bool)
-        → allCharacters (u .n) (textAt v at) ≡ b
-        → _≡_ {A = Option ℕ} (elim b as (λ _. Option ℕ) [ true ↦ outside v u p (suc r) (next v at) | false ↦ some r ]) none
-        → (x : ℕ)
-        → (outside v u p (suc r) (next v at) ≡ none → (y : ℕ) → Over (u .n) (getD (texts v p (next v at)) y []))
-        → Over (u .n) (getD (textAt v at ∷ texts v p (next v at)) x [])
-    go true t e zero ih = over→ (u .n) (textAt v at) (true→ t)
-    go true t e (suc y) ih = ih e y
-    go false t e x ih = absurd (let z : _≡_ {A = ℕ} 0 1 = cc in omega arith)
-
 -- what was judged is the question that was read and an answer of its form and in its ranges
 pub record Taken (b v : List ℕ) (u : Question) (es : List Extended) (a : Assignment) : Type 0 where
   pub asked-is : judgedIn (judgedQuestion b) ≡ some (u, es)
@@ -90,15 +74,15 @@ pub record Taken (b v : List ℕ) (u : Question) (es : List Extended) (a : Assig
   pub formed : answerForm v (u .p) (u .q) 0 ≡ true
   pub all-inside : outside v u (u .p) 0 0 ≡ none
 
-pub judged-taken : (b v : List ℕ) (u : Question) (es : List Extended) (a : Assignment) → judging b v ≡ Judged u es a → Taken b v u es a
-unfolding judging
+pub judged-taken : (b v : List ℕ) (u : Question) (es : List Extended) (a : Assignment) → submission b v ≡ Submitted u es a → Taken b v u es a
+unfolding submission
 judged-taken b v u es a e = behind (judgedQuestion b) refl e
   where
     answered : (w : Question) (ws : List Extended) (x : Bool) (o : Option ℕ)
         → answerForm v (w .p) (w .q) 0 ≡ x
         → outside v w (w .p) 0 0 ≡ o
         → judgedIn (judgedQuestion b) ≡ some (w, ws)
-        → byForm w ws v x o ≡ Judged u es a
+        → byForm w ws v x o ≡ Submitted u es a
         → Taken b v u es a
     answered w ws false o f p q e = clash cc
     answered w ws true (some r) f p q e = clash cc
@@ -113,13 +97,13 @@ judged-taken b v u es a e = behind (judgedQuestion b) refl e
           all-inside = subst (λ z. outside v z (z .p) 0 0 ≡ none) s p;
         }
 
-    behind : (g : Reading) → judgedQuestion b ≡ g → judgeBehind g v ≡ Judged u es a → Taken b v u es a
+    behind : (g : Reading) → judgedQuestion b ≡ g → judgeBehind g v ≡ Submitted u es a → Taken b v u es a
     behind (Stopped c r) p e = clash cc
     behind (Ended s at r) p e = go (leb 1 (s .last)) refl e
       where
         go : (x : Bool)
             → leb 1 (s .last) ≡ x
-            → byHead Refused (λ u es. judgeAnswer u es v) s r x ≡ Judged u es a
+            → byHead Rejected (λ u es. judgeAnswer u es v) s r x ≡ Submitted u es a
             → Taken b v u es a
         go false h e = clash cc
         go true h e =
@@ -131,14 +115,14 @@ judged-taken b v u es a e = behind (judgedQuestion b) refl e
 pub judging-is-theory : TH-3
 judging-is-theory b v u es a e =
     let t = judged-taken b v u es a e in
-    subst (λ g. Judges b v (said g) u es a) (sym e) (record {
+    subst (λ g. TrueJudgement b v (said g) u es a) (sym e) (record {
       asked = t .asked-is;
       put = λ none-extended. judged-put b (t .asked-is ∙ ap (λ es. some (u, es)) none-extended);
       values = t .values-are;
-      for-question = subst (For u) (sym (t .values-are)) (record {
+      for-question = subst (IsAssignment u) (sym (t .values-are)) (record {
         strings = length-texts v (u .p) 0;
         integers = length-i32s v (skip v (u .p) 0 + 6) (u .q);
-        over = inside-over v u (u .p) 0 0 (t .all-inside);
+        over = λ x. all-getD (Over (u .n)) (texts v (u .p) 0) x [] tt (all-inside v u (t .all-inside) .0);
       });
       all-met = exactly none;
       unmet = λ k. exactly (some k);

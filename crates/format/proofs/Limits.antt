@@ -9,7 +9,7 @@ use lib.ListN.{length}
 use lib.Dec.{leb, ltb}
 use lib.IntN.{ℤ, natAbs}
 use borrow.Author.Tests.{leb-true, ltb-true, le-leb, lt-ltb, leb-false}
-use Rattle.lists.proofs.Lists.{→all-true, all-true→}
+use Rattle.lists.proofs.Lists.{all-map, →all-true, all-true→}
 use Rattle.lists.specs.Lists.{All}
 use Rattle.lists.proofs.Tests.{and-both}
 use Rattle.calculus.specs.Limits.{Small, numberLimit, factLimit, pendingLimit}
@@ -32,13 +32,16 @@ fact-within (notSame x y) h = refl
 fact-within (isLiteral x l) h = refl
 fact-within (arithmetic r e) h = →within numberLimit e h
 
-facts-within : (c : List Fact) → All SmallFact c → factsWithin c ≡ true
+pub facts-within : (c : List Fact) → All SmallFact c → factsWithin c ≡ true
 unfolding factsWithin
 facts-within c h = →all-true factWithin c fact-within h
 
-children-within : (b : Branch) (cs : List (List Fact)) → All (ChildLimits b) cs → childrenWithin cs ≡ true
+pub small-within : (cs : List (List Fact)) → All (All SmallFact) cs → childrenWithin cs ≡ true
 unfolding childrenWithin
-children-within b cs h = →all-true factsWithin cs (λ c l. facts-within c (l .numbers)) h
+small-within cs h = →all-true factsWithin cs facts-within h
+
+children-within : (b : Branch) (cs : List (List Fact)) → All (ChildLimits b) cs → childrenWithin cs ≡ true
+children-within b cs h = small-within cs (all-map cs (λ c l. l .numbers) h)
 
 room-for-all : (b : Branch) (cs : List (List Fact)) → All (ChildLimits b) cs → roomForAll (length b) cs ≡ true
 unfolding roomForAll
@@ -73,9 +76,13 @@ fact-within→ (notSame x y) t = tt
 fact-within→ (isLiteral x l) t = tt
 fact-within→ (arithmetic r e) t = within→ numberLimit e t
 
-facts-within→ : (c : List Fact) → factsWithin c ≡ true → All SmallFact c
+pub facts-within→ : (c : List Fact) → factsWithin c ≡ true → All SmallFact c
 unfolding factsWithin
 facts-within→ c t = all-true→ factWithin c fact-within→ t
+
+pub small-within→ : (cs : List (List Fact)) → childrenWithin cs ≡ true → All (All SmallFact) cs
+unfolding childrenWithin
+small-within→ cs t = all-true→ factsWithin cs facts-within→ t
 
 child-limits→ : (b : Branch) (c : List Fact) → factsWithin c ≡ true → room (length b) c ≡ true → ChildLimits b c
 child-limits→ b c n r = record { numbers = facts-within→ c n; facts = leb-true (length b + length c) factLimit r }

@@ -18,17 +18,17 @@ use Rattle.calculus.specs.Walk.{Waiting, working, closed, enter}
 use Rattle.calculus.specs.Derivations.{ChildLimits}
 use Rattle.calculus.proofs.Walks.{childTaken}
 use Rattle.calculus.proofs.Everywhere.{Everywhere, enter-everywhere, splitsOf, enter-few}
-use Rattle.format.specs.Reading.{State, proving, taking, modelled, stepped, begin}
+use Rattle.format.specs.Reading.{State, proving, taking, modelled, stepped}
 use Rattle.format.specs.Checking.{allTried, takenTried, checker, verdict}
 use Rattle.format.specs.ProperForm.{stepsWithChild}
-use Rattle.format.specs.Needs.{statesMet, factsIn, pendingIn, Report, report, Needs}
+use Rattle.format.specs.Needs.{statesMet, factsIn, pendingIn, Report, report}
 use Rattle.format.specs.Demands.{AcceptedAs, TH-L2-limits}
 use Rattle.format.proofs.Behind.{Taken}
 use Rattle.format.proofs.Claimed.{started}
 use Rattle.format.proofs.Checker.{fitting}
 use Rattle.format.proofs.Limits.{tried→limits, taken→limits}
 use Rattle.format.proofs.Tickets.{verdict→}
-use Rattle.format.proofs.Needs.{needs-counted}
+use Rattle.format.proofs.Needs.{needs-counted, accepted-complete}
 
 -- ---- states within the limits
 
@@ -99,10 +99,13 @@ first-roomy u false h = h
 
 pub within-limits : TH-L2-limits
 within-limits work answer claim t r h e =
-    let (u, s, (x, o, held, k), few, a) = verdict→ children work answer t (verdict work answer t) (λ c r e. subst (AcceptedAs claim) (sym e) h) refl in
-    let met = all-roomy u (started (checker u) x) (stepsWithChild t) o s (first-roomy u x few) k in
+    let v = verdict→ children work answer t (verdict work answer t) (λ c r e. subst (AcceptedAs claim) (sym e) h) refl in
+    let u = v .asked in
+    let (x, o, held, k) = v .read in
+    let met = all-roomy u (started (checker u) x) (stepsWithChild t) o (v .state) (first-roomy u x (v .few)) k in
+    let c = accepted-complete u claim (v .state) (v .number) (subst (AcceptedAs claim) (sym (v .gives)) h) in
     let states = statesMet (checker u) (started (checker u) x) (stepsWithChild t) in
-    let same : r ≡ report length (checker u) (started (checker u) x) (stepsWithChild t) = cc (e, needs-counted t u x o s held k) in
+    let same : r ≡ report length (checker u) (started (checker u) x) (stepsWithChild t) = cc (e, needs-counted t u x o (v .state) held k c) in
     subst (λ (m : Report). (m .facts ≤ factLimit) × (m .pending ≤ pendingLimit)) (sym same) (
       at-most (factsIn length) factLimit states (all-map states roomy-facts met),
       at-most pendingIn pendingLimit states (all-map states roomy-pending met),

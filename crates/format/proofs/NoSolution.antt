@@ -12,21 +12,22 @@ use Rattle.calculus.specs.Limits.{factLimit}
 use Rattle.calculus.specs.Facts.{Question, Fact, Branch}
 use Rattle.calculus.specs.Steps.{Step}
 use Rattle.calculus.specs.Rules.{RuleSet, children}
-use Rattle.calculus.specs.Instances.{StepInRange}
+use Rattle.calculus.specs.Instances.{IsStep}
 use Rattle.calculus.specs.Walk.{working, closed}
 use Rattle.calculus.specs.Derivations.{Closes, WithinLimits}
+use Rattle.calculus.proofs.Limits.{limits→walk}
 use Rattle.calculus.proofs.Walks.{walked→closes, closes→walked}
 use Rattle.calculus.proofs.Trees.{closes-sound}
-use Rattle.format.specs.Reading.{State, proving}
-use Rattle.format.specs.Checking.{NoSolution, largeEnough, verdictBy, verdict, checkerBy, accepted}
-use Rattle.format.specs.ProperForm.{byShape, ProperNo, steps, stepsWithChild}
-use Rattle.format.specs.Demands.{TH-2, TH-4}
+use Rattle.format.specs.Reading.{State, proving, taking, modelled}
+use Rattle.format.specs.Checking.{NoSolution, verdictBy, verdict, checkerBy, accepted}
+use Rattle.format.specs.ProperForm.{byShape, ProperNoSolution, steps, stepsWithChild}
+use Rattle.format.specs.Demands.{LargeEnough, TH-2, TH-4}
 use Rattle.format.proofs.Behind.{Taken, proving-stays, taking-no-walk}
 use Rattle.format.proofs.Claimed.{claimed-asked, claimed-in-range}
 use Rattle.format.proofs.Tickets.{Holding, steps-in-range, ReadAs, proper→, verdict→, →verdict}
-use Rattle.format.proofs.Checker.{bare, proved→walked, walked→proved, taken→reached}
+use Rattle.format.proofs.Checker.{bare, proved→walked, walked→proved}
 
-pub all-bare : (u : Question) (ts : List (Step × ℕ)) → All (λ t. StepInRange u (t .0)) ts → All (StepInRange u) (bare ts)
+pub all-bare : (u : Question) (ts : List (Step × ℕ)) → All (λ t. IsStep u (t .0)) ts → All (IsStep u) (bare ts)
 all-bare u [] h = tt
 all-bare u (t ∷ ts) (h, hs) = (h, all-bare u ts hs)
 
@@ -39,32 +40,31 @@ pub record Closed (rules : RuleSet) (b : List ℕ) (u : Question) : Type 0 where
 -- whatever the rules
 pub accepted→closed : (rules : RuleSet) (work answer : ℕ) (b : List ℕ) → verdictBy rules work answer b ≡ NoSolution → (u : Question) × Closed rules b u
 accepted→closed rules work answer b e =
-    let (u, s, r, few, a) = verdict→ rules work answer b NoSolution (λ c r z. let z : _≡_ {A = ℕ} 0 1 = cc in omega arith) e in
-    (u, by-claim u s r few a)
+    let a = verdict→ rules work answer b NoSolution (λ c r z. let z : _≡_ {A = ℕ} 0 1 = cc in omega arith) e in
+    (a .asked, by-claim (a .asked) (a .state) (a .number) (a .read) (a .few) (a .gives))
   where
-    by-claim : (u : Question) (s : State Branch (List Fact))
+    by-claim : (u : Question) (s : State Branch (List Fact)) (q : ℕ)
         → ReadAs (checkerBy rules) b u s
         → length (u .constraints) ≤ factLimit
-        → accepted u s ≡ NoSolution
+        → accepted u s q ≡ NoSolution
         → Closed rules b u
-    by-claim u s (true, o, h, k) few a =
+    by-claim u (proving closed) q (true, o, h, k) few a =
         let (_, none-left) = proving-stays (checkerBy rules u) (working (u .constraints) []) (stepsWithChild b) o k in
-        let (_, ends) = proved→walked rules u (working (u .constraints) []) (stepsWithChild b) o s k in
         record {
           held = subst (Holding b u true) none-left h;
           few = few;
-          taken = subst (λ o. Taken (checkerBy rules u) (proving (working (u .constraints) [])) (stepsWithChild b) o (proving closed)) none-left
-              (subst (Taken (checkerBy rules u) (proving (working (u .constraints) [])) (stepsWithChild b) o) ends k);
+          taken = subst (λ o. Taken (checkerBy rules u) (proving (working (u .constraints) [])) (stepsWithChild b) o (proving closed)) none-left k;
         }
-    by-claim u s (false, o, h, k) few a =
-        let r = taken→reached rules u (u .constraints) (stepsWithChild b) o s k in
-        absurd (let z : _≡_ {A = ℕ} 0 1 = cc (r .state) in omega arith)
+    by-claim u (proving closed) q (false, o, h, k) few a = absurd (taking-no-walk (checkerBy rules u) (u .constraints) (stepsWithChild b) o closed k)
+    by-claim u (proving (working br ss)) q r few a = absurd (let z : _≡_ {A = ℕ} 0 1 = cc in omega arith)
+    by-claim u (taking br) q r few a = absurd (let z : _≡_ {A = ℕ} 0 1 = cc in omega arith)
+    by-claim u (modelled br m) q r few a = absurd (let z : _≡_ {A = ℕ} 0 1 = cc in omega arith)
 
 closed→closes : (b : List ℕ) (u : Question) → Closed children b u → Closes u (u .constraints) (steps b)
 closed→closes b u c =
     let q = claimed-in-range (c .held .claimed) in
     walked→closes u (q .head) (u .constraints) (steps b) (q .constraints) (all-bare u (stepsWithChild b) (steps-in-range (c .held)))
-    (proved→walked children u (working (u .constraints) []) (stepsWithChild b) none (proving closed) (c .taken) .0)
+    (proved→walked children u (working (u .constraints) []) (stepsWithChild b) none (c .taken))
 
 pub no-solution-sound : TH-4
 no-solution-sound work answer t e =
@@ -77,15 +77,15 @@ no-solution-sound work answer t e =
 
 -- ---- proper form under claim 1
 
-proper-steps : (b : List ℕ) (u : Question) → ProperNo b u → Holding b u true none
-proper-steps b u (w, e) = by-claim (proper→ b u e)
+proper-steps : (b : List ℕ) (u : Question) → ProperNoSolution b u → Holding b u true none
+proper-steps b u (w, q, e) = by-claim (proper→ b u e)
   where
     by-claim : ReadAs byShape b u (proving w) → Holding b u true none
     by-claim (true, o, h, k) = subst (Holding b u true) (proving-stays (byShape u) (working (length (u .constraints)) []) (stepsWithChild b) o k .1) h
     by-claim (false, o, h, k) = absurd (taking-no-walk (byShape u) (length (u .constraints)) (stepsWithChild b) o w k)
 
 closes→accepted : (work answer : ℕ) (b : List ℕ) (u : Question)
-    → largeEnough work answer ≡ true
+    → LargeEnough work answer
     → Holding b u true none
     → WithinLimits u (steps b)
     → Closes u (u .constraints) (steps b)
@@ -94,7 +94,9 @@ closes→accepted work answer b u big h l k =
     let q = claimed-in-range (h .claimed) in
     let walked = closes→walked u (q .head) (u .constraints) (steps b) (q .constraints) (all-bare u (stepsWithChild b) (steps-in-range h)) k in
     →verdict children work answer b u true none (proving closed) big (l .question) h
-    (walked→proved u (q .head) (working (u .constraints) []) (stepsWithChild b) (q .constraints, tt) (steps-in-range h) (l .steps) walked)
+    (walked→proved u (q .head) (working (u .constraints) []) (stepsWithChild b) (q .constraints, tt) (steps-in-range h)
+    (limits→walk u (steps b) l) walked)
+    .1
 
 pub derivations-exact : TH-2
 derivations-exact work answer t u big proper limits =

@@ -10,26 +10,27 @@ use Rattle.lists.specs.Lists.{All}
 use Rattle.calculus.specs.Facts.{Question, Fact, Branch}
 use Rattle.calculus.specs.Steps.{Step}
 use Rattle.calculus.specs.Rules.{children}
-use Rattle.calculus.specs.Instances.{Instance, StepInRange}
+use Rattle.calculus.specs.Instances.{Instance, IsStep}
 use Rattle.calculus.specs.Walk.{Waiting, Walk, working, closed, enter}
-use Rattle.calculus.specs.Derivations.{SplitLimits, ChildLimits, LimitsFrom, WithinLimits, Takes, PathLimitsFrom, PathWithinLimits}
-use Rattle.calculus.proofs.InRange.{HeadInRange, FactsInRange}
+use Rattle.calculus.specs.Meaning.{Assignment}
+use Rattle.calculus.specs.Derivations.{SplitLimits, ChildLimits, WithinLimits, Takes, PathWithinLimits}
+use Rattle.calculus.specs.InRange.{HeadInRange, FactsInRange}
 use Rattle.calculus.proofs.Fits.{fits→instance, instance→fits}
-use Rattle.calculus.proofs.Ranges.{children-in-range}
 use Rattle.calculus.proofs.Shapes.{count, shape-walks, shape-takes}
-use Rattle.calculus.proofs.Walks.{StateInRange, enter-in-range, childTaken, taken→takes, takes→taken, taken-in-range}
-use Rattle.format.specs.Records.{need}
-use Rattle.format.specs.Reading.{State, proving, taking, modelled, complete, stepped}
-use Rattle.format.specs.Checking.{allTried, takenTried, checker, NoSolution, Strings, verdict}
-use Rattle.format.specs.ProperForm.{byShapeTo, ProperNo, ProperStrings, steps, stepsWithChild}
+use Rattle.calculus.proofs.Limits.{LimitsFrom, walk→limits, PathLimitsFrom, path→limits}
+use Rattle.calculus.proofs.Walks.{StateInRange, step-in-range, childTaken, taken→takes, takes→taken, taken-in-range}
+use Rattle.format.specs.Reading.{State, proving, taking, modelled, stepped}
+use Rattle.format.specs.Checking.{allTried, takenTried, checker, NoSolution, verdict}
+use Rattle.format.specs.ProperForm.{byShape, ProperNoSolution, ProperStrings, steps, stepsWithChild}
 use Rattle.format.specs.Needs.{statesMet}
+use Rattle.format.specs.Demands.{TH-6-covers}
 use Rattle.format.proofs.Behind.{Taken}
 use Rattle.format.proofs.Claimed.{claimed-in-range}
 use Rattle.format.proofs.Tickets.{steps-in-range, →proper}
 use Rattle.format.proofs.Limits.{tried→limits, taken→limits}
 use Rattle.format.proofs.Checker.{bare, fitting}
 use Rattle.format.proofs.NoSolution.{accepted→closed}
-use Rattle.format.proofs.Strings.{accepted→given}
+use Rattle.format.proofs.Strings.{Given, accepted→given}
 
 -- ---- what checking takes is taken over shapes, every state counted
 
@@ -39,32 +40,31 @@ countState (proving k) = proving (count k)
 countState (taking b) = taking (length b)
 countState (modelled b m) = modelled (length b) m
 
--- whatever is asked at the end, if it asks no more than checking does
-module _ (u : Question) (end : State ℕ ℕ → ℕ) (ends : (s : State Branch (List Fact)) → need 11 (complete s) 0 ≡ 0 → end (countState s) ≡ 0) where
+module _ (u : Question) where
   split-counted : (b : Branch) (ss : List (Waiting Branch (List Fact))) (t : Step × ℕ)
       → allTried b (length ss) (children u b (t .0)) ≡ 0
-      → countState (stepped (checker u) (proving (working b ss)) t) ≡ stepped (byShapeTo end u) (countState (proving (working b ss))) t
+      → countState (stepped (checker u) (proving (working b ss)) t) ≡ stepped (byShape u) (countState (proving (working b ss))) t
   split-counted b ss t f =
       let (cs, e, d) = fitting (children u b (t .0)) _ f in
       ap (λ ds. proving (count (enter _++_ b ds ss))) d ∙ ap proving (shape-walks u b (t .0) cs ss e)
 
   taken-counted : (b : Branch) (t : Step × ℕ)
       → takenTried b (childTaken u b t) ≡ 0
-      → countState (stepped (checker u) (taking b) t) ≡ stepped (byShapeTo end u) (taking (length b)) t
+      → countState (stepped (checker u) (taking b) t) ≡ stepped (byShape u) (taking (length b)) t
   taken-counted b t f =
       let (c, e, d) = fitting (childTaken u b t) _ f in
       ap (λ x. taking (length (b ++ x))) d ∙ ap taking (shape-takes u b t c e)
 
   abbrev Counted : State Branch (List Fact) → State ℕ ℕ → List (Step × ℕ) → Option (List ℤ) → State Branch (List Fact) → Type 0
-  Counted s k ts o s' = Taken (byShapeTo end u) k ts o (countState s') × (statesMet (byShapeTo end u) k ts ≡ map countState (statesMet (checker u) s ts))
+  Counted s k ts o s' = Taken (byShape u) k ts o (countState s') × (statesMet (byShape u) k ts ≡ map countState (statesMet (checker u) s ts))
 
   pub all-counted : (s : State Branch (List Fact)) (ts : List (Step × ℕ)) (o : Option (List ℤ)) (s' : State Branch (List Fact))
       → Taken (checker u) s ts o s'
       → Counted s (countState s) ts o s'
   unfolding Taken statesMet
-  all-counted s [] none s' (f, e) = ((ends s f, ap countState e), refl)
+  all-counted s [] none s' e = (ap countState e, refl)
   all-counted (proving k) [] (some m) s' h = absurd h
-  all-counted (taking b) [] (some m) s' (_, f, e) = ((refl, ends (modelled b m) f, ap countState e), refl)
+  all-counted (taking b) [] (some m) s' (_, e) = ((refl, ap countState e), refl)
   all-counted (modelled b v) [] (some m) s' h = absurd h
   all-counted (proving (working b ss)) (t ∷ ts) o s' (f, h) =
       let next : State Branch (List Fact) = stepped (checker u) (proving (working b ss)) t in
@@ -82,35 +82,35 @@ module _ (u : Question) (end : State ℕ ℕ → ℕ) (ends : (s : State Branch 
 module _ (u : Question) (w : HeadInRange u) where
   proved→limits : (k : Walk Branch (List Fact)) (ts : List (Step × ℕ))
       → StateInRange u k
-      → All (λ t. StepInRange u (t .0)) ts
+      → All (λ t. IsStep u (t .0)) ts
       → Taken (checker u) (proving k) ts none (proving closed)
       → LimitsFrom u k (bare ts)
   unfolding Taken LimitsFrom
   proved→limits k [] r g h = tt
-  proved→limits (working b ss) (t ∷ ts) (rb, rs) (g, gs) (f, h) =
+  proved→limits (working b ss) (t ∷ ts) r (g, gs) (f, h) =
       let (cs, e, d) = fitting (children u b (t .0)) _ f in
-      let i : Instance u b (t .0) cs = fits→instance u w b rb (t .0) g e in
+      let i : Instance u b (t .0) cs = fits→instance u w b (r .0) (t .0) g e in
       let later =
-      proved→limits (enter _++_ b cs ss) ts (enter-in-range u b cs ss rb (children-in-range u w b (t .0) cs rb g i) rs) gs
+      proved→limits (enter _++_ b cs ss) ts (step-in-range u w b (t .0) cs ss r g i) gs
       (subst (λ ds. Taken (checker u) (proving (enter _++_ b ds ss)) ts none (proving closed)) d h) in
       λ ds j.
-      let same : cs ≡ ds = cc (e, instance→fits u w b rb (t .0) g j) in
+      let same : cs ≡ ds = cc (e, instance→fits u w b (r .0) (t .0) g j) in
       subst (λ ds. SplitLimits b (length ss) ds × LimitsFrom u (enter _++_ b ds ss) (bare ts)) same
       (tried→limits b (length ss) cs (ap (allTried b (length ss)) (sym e) ∙ f), later)
   proved→limits closed (t ∷ ts) r g h = absurd h
 
-  path→limits : (b leaf : Branch) (m : List ℤ) (ts : List (Step × ℕ))
+  followed→limits : (b leaf : Branch) (m : List ℤ) (ts : List (Step × ℕ))
       → FactsInRange u b
-      → All (λ t. StepInRange u (t .0)) ts
+      → All (λ t. IsStep u (t .0)) ts
       → Taken (checker u) (taking b) ts (some m) (modelled leaf m)
       → PathLimitsFrom u b ts
   unfolding Taken PathLimitsFrom
-  path→limits b leaf m [] r g h = tt
-  path→limits b leaf m (t ∷ ts) r (g, gs) (f, h) =
+  followed→limits b leaf m [] r g h = tt
+  followed→limits b leaf m (t ∷ ts) r (g, gs) (f, h) =
       let (c, e, d) = fitting (childTaken u b t) _ f in
       let k : Takes u b t c = taken→takes u w b t c r g e in
       let later =
-      path→limits (b ++ c) leaf m ts (taken-in-range u w b t c r g k) gs
+      followed→limits (b ++ c) leaf m ts (taken-in-range u w b t c r g k) gs
       (subst (λ x. Taken (checker u) (taking (b ++ x)) ts (some m) (modelled leaf m)) d h) in
       λ c' k'.
       let same : c ≡ c' = cc (e, takes→taken u w b t c' r g k') in
@@ -118,20 +118,25 @@ module _ (u : Question) (w : HeadInRange u) where
 
 -- ---- accepted tickets
 
-pub no-solution-proper : (work answer : ℕ) (t : List ℕ) → verdict work answer t ≡ NoSolution → (u : Question) × ProperNo t u × WithinLimits u (steps t)
+pub no-solution-proper : (work answer : ℕ) (t : List ℕ) → verdict work answer t ≡ NoSolution → (u : Question) × ProperNoSolution t u × WithinLimits u (steps t)
 no-solution-proper work answer t e =
     let (u, c) = accepted→closed children work answer t e in
     let q = claimed-in-range (c .held .claimed) in
-    let (n, _) = all-counted u (λ s. 0) (λ s f. refl) (proving (working (u .constraints) [])) (stepsWithChild t) none (proving closed) (c .taken) in
+    let (n, _) = all-counted u (proving (working (u .constraints) [])) (stepsWithChild t) none (proving closed) (c .taken) in
     let l = proved→limits u (q .head) (working (u .constraints) []) (stepsWithChild t) (q .constraints, tt) (steps-in-range (c .held)) (c .taken) in
-    (u, (closed, →proper t u true none (c .held) n), record { question = c .few; steps = l })
+    let (r, done) = →proper t u true none (c .held) n in
+    (u, (closed, r, done), record { question = c .few; steps = walk→limits u (steps t) l })
 
-pub strings-proper : (work answer : ℕ) (t out : List ℕ)
-    → verdict work answer t ≡ Strings out
-    → (u : Question) × (m : List ℤ) × ProperStrings t u m × PathWithinLimits u (stepsWithChild t)
-strings-proper work answer t out e =
-    let (u, k) = accepted→given children work answer t out e in
+pub given-proper : (t : List ℕ) (u : Question) (a : Assignment) (k : Given children t u a) → ProperStrings t u (k .model) × PathWithinLimits u (stepsWithChild t)
+given-proper t u a k =
     let q = claimed-in-range (k .held .claimed) in
-    let (n, _) = all-counted u (λ s. 0) (λ s f. refl) (taking (u .constraints)) (stepsWithChild t) (some (k .model)) (modelled (k .leaf) (k .model)) (k .taken) in
-    let l = path→limits u (q .head) (u .constraints) (k .leaf) (k .model) (stepsWithChild t) (q .constraints) (steps-in-range (k .held)) (k .taken) in
-    (u, k .model, (length (k .leaf), →proper t u false (some (k .model)) (k .held) n), record { question = k .few; steps = l })
+    let (n, _) = all-counted u (taking (u .constraints)) (stepsWithChild t) (some (k .model)) (modelled (k .leaf) (k .model)) (k .taken) in
+    let l = followed→limits u (q .head) (u .constraints) (k .leaf) (k .model) (stepsWithChild t) (q .constraints) (steps-in-range (k .held)) (k .taken) in
+    let (r, done) = →proper t u false (some (k .model)) (k .held) n in
+    ((length (k .leaf), r, done), record { question = k .few; steps = path→limits u (stepsWithChild t) l })
+
+pub strings-proper : TH-6-covers
+strings-proper work answer t a e =
+    let (u, k) = accepted→given children work answer t a e in
+    let (proper, limits) = given-proper t u a k in
+    (u, k .model, proper, limits)

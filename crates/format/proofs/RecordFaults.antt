@@ -2,20 +2,20 @@
 use mathlib.Core.Path.{_≡_, refl, sym, _∙_, ap}
 use mathlib.Core.Bool.{Bool, true, false, not, cond, _&&_, _||_}
 use mathlib.Core.List.{List}
-use Prim.Native.Nat.{ℕ, zero, suc, _+_, _*_, _-_, _/_, _%_, _≤_, _<_}
+use Prim.Native.Nat.{ℕ, zero, suc, _+_, _-_, _/_, _%_, _≤_, _<_}
 use native.Mathlib.Omega.{arith}
 use lib.ListN.{length}
 use lib.Dec.{leb, ltb, eqb}
 use borrow.Author.Tests.{ltb-true, leb-true, eqb-true, le-leb, lt-leb, eq-eqb, ne-eqb}
 use Rattle.lists.proofs.Tests.{and-both}
-use Rattle.calculus.specs.Limits.{alphabetLimit, variableLimit, literalLimit, lengthLimit, columnLimit}
+use Rattle.calculus.specs.Limits.{alphabetLimit, variableLimit, literalLimit, columnLimit}
 use Rattle.calculus.specs.Alphabet.{allCharacters}
 use Rattle.calculus.specs.Facts.{arithmetic}
 use Rattle.calculus.specs.Strings.{given}
 use Rattle.format.specs.Fields.{u16, u32}
 use Rattle.format.specs.Records.{size, kind, next, whole, need}
 use Rattle.format.specs.Question.{headKind, literalKind, stringKind, arithmeticKind, extendedKind, headRank, literalRank, stringRank, arithmeticRank}
-use Rattle.format.specs.Question.{extendedRank, rankOf, Progress, Manner, headRange, headFault, textOf, literalFault}
+use Rattle.format.specs.Question.{extendedRank, rankOf, Progress, Manner, headRange, headFault, textOf, literalLength, literalFault}
 use Rattle.format.specs.Question.{threeFault, extendedRange, extendedFault}
 use Rattle.format.specs.Question.{stringRange, stringFact, stringFault, formRange, formOf, relationOf, arithmeticFault, factFault}
 use Rattle.format.specs.Question.{bodyFact, rankInPlace, inPlace, questionBodyFault, formFault, findsRoom, orCrowded, questionFault}
@@ -189,13 +189,13 @@ pub record Literal (b : List ℕ) (n at m : ℕ) : Type 0 where
 pub literal-formed : (b : List ℕ) (n : ℕ) (ls : List (List ℕ)) (at m : ℕ) → literalFault b n ls at m ≡ 0 → Literal b n at m
 literal-formed b n ls at m e =
     let a5 =
-    none-applies 4 (leb 4 m && (leb m (4 * lengthLimit) && eqb (m % 4) 0))
+    none-applies 4 (literalLength m)
     (need 6 (allCharacters n (textOf b at m)) (need 7 (not (given (textOf b at m) ls)) 0)) e in
-    let l1 = and-both (leb 4 m) (leb m (4 * lengthLimit) && eqb (m % 4) 0) (a5 .0) in
+    let l1 = and-both (leb 4 m) _ (a5 .0) in
     let l2 = and-both _ _ (l1 .1) in
     record {
       some-character = leb-true _ _ (l1 .0);
-      short = leb-true _ _ (l2 .0);
+      short = omega (arith, leb-true m _ (l2 .0));
       characters-whole = eqb-true _ _ (l2 .1);
       characters-over = none-applies _ _ _ (a5 .1) .0;
     }

@@ -1,5 +1,6 @@
--- The numbers of refusals: what holds of 2 to 7, of 10 where it is looked for, and of what the method finds, holds of every number that reading gives.
-use Prim.Native.Nat.{ℕ, zero, suc, _+_, _*_, _-_, _/_, _%_, _≤_}
+-- The numbers of refusals: what holds of 3 to 7, of 2 where the bytes are too many, of 10 where it is looked for, and of what the method finds, holds of every
+-- number that reading gives.
+use Prim.Native.Nat.{ℕ, zero, suc, _+_, _*_, _-_, _/_, _%_, _<_, _≤_}
 use native.Mathlib.Omega.{arith}
 use mathlib.Core.Path.{_≡_, refl, subst}
 use mathlib.Core.Bool.{Bool, true, false, cond, not, _&&_, _||_}
@@ -7,9 +8,9 @@ use mathlib.Core.List.{List, [], _∷_}
 use lib.ListN.{length}
 use lib.Dec.{leb, ltb, eqb}
 use lib.IntN.{ℤ}
-use borrow.Author.Tests.{leb-true}
+use borrow.Author.Tests.{leb-true, leb-false}
 use Rattle.lists.proofs.Tests.{and-both}
-use Rattle.calculus.specs.Limits.{ticketBytes, lengthLimit, columnLimit, valueLimit, factLimit}
+use Rattle.calculus.specs.Limits.{ticketBytes, columnLimit, valueLimit, factLimit}
 use Rattle.calculus.specs.Alphabet.{allCharacters}
 use Rattle.calculus.specs.Strings.{given}
 use Rattle.calculus.specs.Facts.{Question, columnCount}
@@ -17,7 +18,7 @@ use Rattle.calculus.specs.Steps.{Step}
 use Rattle.calculus.specs.Walk.{Waiting, working, closed}
 use Rattle.format.specs.Fields.{u16, allWithin}
 use Rattle.format.specs.Records.{kind, size, next, whole, records, need}
-use Rattle.format.specs.Question.{stringKind, arithmeticKind, headRank, literalRank, extendedRank, rankOf, isConstraint, headRange, textOf, stringRange, formRange}
+use Rattle.format.specs.Question.{stringKind, arithmeticKind, headRank, literalRank, extendedRank, rankOf, isConstraint, headRange, textOf, literalLength, stringRange, formRange}
 use Rattle.format.specs.Question.{factFault, extendedRange, inPlace, Progress, unread, constraintCount, headRead, Manner, formFault, orCrowded, questionFault}
 use Rattle.format.specs.Question.{questionAdvanced, Reading, Stopped, Ended, ending, readFrom, readBy, readIn}
 use Rattle.format.specs.StepForms.{rule, childField, lengthFits, operandsInRange, stepAt, childInRange}
@@ -51,20 +52,19 @@ module _ (P : ℕ → Type 0) where
 
   abbrev pub InTicket : {B C : Type 0} → Ticket B C → Type 0
   InTicket (Faulty c r) = P c
-  InTicket (Done u s) = Unit {0}
+  InTicket (Done u s r) = Unit {0}
 
   -- of the numbers that a method finds
   pub record Finds {B C : Type 0} (w : Method B C) : Type 0 where
     pub split : (br : B) (ss : List (Waiting B C)) (st : Step) → Holds (w .splitFault br ss st)
     pub taken : (br : B) (st : Step) (c : ℕ) → Holds (w .takenFault br st c)
     pub leaf : (br : B) (m : List ℤ) → Holds (w .leafFault br m)
-    pub end : (s : State B C) → Holds (w .endFault s)
 
--- and it holds of 2 to 7
-module _ (P : ℕ → Type 0) (formal : (c : ℕ) → 2 ≤ c → c ≤ 7 → P c) (b : List ℕ) where
-  -- a number of 2 to 7, and then others
-  form : (c : ℕ) (t : Bool) {later : ℕ} → (leb 2 c && leb c 7) ≡ true → Holds P later → Holds P (need c t later)
-  form c t e q = let (g, l) = and-both (leb 2 c) (leb c 7) e in unless P c t (formal c (leb-true 2 c g) (leb-true c 7 l)) q
+-- and it holds of 3 to 7
+module _ (P : ℕ → Type 0) (formal : (c : ℕ) → 3 ≤ c → c ≤ 7 → P c) (b : List ℕ) where
+  -- a number of 3 to 7, and then others
+  form : (c : ℕ) (t : Bool) {later : ℕ} → (leb 3 c && leb c 7) ≡ true → Holds P later → Holds P (need c t later)
+  form c t e q = let (g, l) = and-both (leb 3 c) (leb c 7) e in unless P c t (formal c (leb-true 3 c g) (leb-true c 7 l)) q
 
   -- 5 and 6, the numbers of a body, and then others
   body : (t s : Bool) {later : ℕ} → Holds P later → Holds P (need 5 t (need 6 s later))
@@ -82,7 +82,7 @@ module _ (P : ℕ → Type 0) (formal : (c : ℕ) → 2 ≤ c → c ≤ 7 → P 
       (either P (eqb k arithmeticKind)
       (body (leb 6 m && (eqb (m % 6) 0 && leb (m / 6) (suc columnLimit))) (leb (u16 b at) 2 && formRange b c (at + 2) (m / 6 - 1)) (none P)) four)
 
-  form-number : (greatest : ℕ) (s : Progress) (at : ℕ) → Holds P (formFault greatest b s at)
+  pub form-number : (greatest : ℕ) (s : Progress) (at : ℕ) → Holds P (formFault greatest b s at)
   unfolding formFault
   form-number greatest s at =
       let u : Question = s .question in
@@ -91,7 +91,7 @@ module _ (P : ℕ → Type 0) (formal : (c : ℕ) → 2 ≤ c → c ≤ 7 → P 
       (form 4 (inPlace greatest s (kind b at)) refl
       (either P (eqb (rankOf (kind b at)) headRank) (body (eqb m 8) (headRange b (at + 6)) (none P))
       (either P (eqb (rankOf (kind b at)) literalRank)
-      (body (leb 4 m && (leb m (4 * lengthLimit) && eqb (m % 4) 0)) (allCharacters (u .n) (textOf b (at + 6) m))
+      (body (literalLength m) (allCharacters (u .n) (textOf b (at + 6) m))
       (form 7 (not (given (textOf b (at + 6) m) (u .literals))) refl (none P)))
       (either P (eqb (rankOf (kind b at)) extendedRank)
       (body (eqb m 6) (extendedRange (u .p) (u .q) (u16 b (at + 6)) (u16 b (at + 6 + 2)) (u16 b (at + 6 + 4))) (none P))
@@ -102,7 +102,7 @@ module _ (P : ℕ → Type 0) (formal : (c : ℕ) → 2 ≤ c → c ≤ 7 → P 
   crowded-number false room zero ten p = p
   crowded-number limited room (suc f) ten p = p
 
-  module _ (m : Manner) (ten : m .limited ≡ true → P 10) where
+  module _ (m : Manner) (ten : m .limited ≡ true → P 10) (two : ticketBytes < length b → P 2) where
     number : (s : Progress) (at : ℕ) → Holds P (questionFault m b s at)
     unfolding questionFault
     number s at =
@@ -124,11 +124,11 @@ module _ (P : ℕ → Type 0) (formal : (c : ℕ) → 2 ≤ c → c ≤ 7 → P 
 
     pub question-number : InQuestion P (readIn m b)
     unfolding readBy
-    question-number = go (leb (length b) ticketBytes)
+    question-number = go (leb (length b) ticketBytes) refl
       where
-        go : (x : Bool) → InQuestion P (asked.bySize m b x)
-        go false = formal 2 (omega arith) (omega arith)
-        go true = from-number unread 0 (records b 0)
+        go : (x : Bool) → leb (length b) ticketBytes ≡ x → InQuestion P (asked.bySize m b x)
+        go false e = two (leb-false (length b) ticketBytes e)
+        go true e = from-number unread 0 (records b 0)
 
   -- ---- behind it
 
@@ -150,7 +150,7 @@ module _ (P : ℕ → Type 0) (formal : (c : ℕ) → 2 ≤ c → c ≤ 7 → P 
     unfolding fault
     fault-number s at =
         form 3 (whole b at) refl
-        (either P (eqb (kind b at) 8) (form 4 (eqb (next b at) (length b)) refl (form 5 (eqb (size b at) 0) refl (finds .end s)))
+        (either P (eqb (kind b at) 8) (form 4 (eqb (next b at) (length b)) refl (form 5 (eqb (size b at) 0) refl (none P)))
         (body-number s (kind b at) (at + 6) (size b at)))
 
     steps-number : (s : State B C) (r : ℕ) (ats : List ℕ) → InTicket P (readSteps w b u s r ats)
@@ -179,9 +179,9 @@ module _ (P : ℕ → Type 0) (formal : (c : ℕ) → 2 ≤ c → c ≤ 7 → P 
       go zero p = steps-number (method (s .question)) (finds (s .question)) (s .question) (begin (method (s .question)) (claimAt b at)) (suc r) (records b (next b at))
 
   pub ticket-number : {B C : Type 0} (method : Question → Method B C) → ((u : Question) → Finds P (method u)) → (m : Manner) → (m .limited ≡ true → P 10)
-      → InTicket P (readBehind method b (readIn m b))
-  ticket-number method finds m ten = behind-number method finds (readIn m b) (question-number m ten)
+      → (ticketBytes < length b → P 2) → InTicket P (readBehind method b (readIn m b))
+  ticket-number method finds m ten two = behind-number method finds (readIn m b) (question-number m ten two)
 
 -- the question's are up to 10
 pub refusal-up-to : (m : Manner) (b : List ℕ) {c q : ℕ} → readIn m b ≡ Stopped c q → c ≤ 10
-refusal-up-to m b e = subst (InQuestion (λ c. c ≤ 10)) e (question-number (λ c. c ≤ 10) (λ c h g. omega arith) b m (λ _. omega arith))
+refusal-up-to m b e = subst (InQuestion (λ c. c ≤ 10)) e (question-number (λ c. c ≤ 10) (λ c h g. omega arith) b m (λ _. omega arith) (λ _. omega arith))

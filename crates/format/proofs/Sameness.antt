@@ -16,9 +16,8 @@ use Rattle.calculus.proofs.Divisors.{divisor-greatest}
 use Rattle.calculus.proofs.NormalForms.{reduced-exact, reduced-undivided}
 use Rattle.calculus.proofs.Sameness.{same-sets→, →same-sets, same-solutions}
 use Rattle.format.specs.Question.{Reading, Stopped, Ended, judgedQuestion, headRead, judgedIn, byHead, byReading}
-use Rattle.format.specs.Judging as judged
-use Rattle.format.specs.Judging.{judgeAnswer, judging, judgeBehind}
-use Rattle.format.specs.Sameness.{Which, first, second, byWhich, Sameness, Refused, Same, Different, foundBy, samenessBy, agreement, sameness}
+use Rattle.format.specs.Judging.{Rejected, judgeAnswer, submission, judgeBehind}
+use Rattle.format.specs.Sameness.{Which, first, second, byWhich, Sameness, SameRefused, Same, Different, foundBy, samenessBy, agreement, sameness}
 use Rattle.format.specs.Demands.{Asks, Solves, TH-L6, TH-L6-sets, TH-L6-different, TH-L6-refused, TH-L6-divisor}
 
 -- ---- a question that was read, or refused
@@ -27,7 +26,7 @@ use Rattle.format.specs.Demands.{Asks, Solves, TH-L6, TH-L6-sets, TH-L6-
 data Read (g : Reading) : Type 0 where
   asked : (u : Question) (es : List Extended) → judgedIn g ≡ some (u, es)
       → ((refuse : ℕ → ℕ → Sameness) (compare : Question → List Extended → Sameness) → byReading refuse compare g ≡ compare u es) → Read g
-  stopped : (n r : ℕ) → ((v : List ℕ) → judgeBehind g v ≡ judged.Refused n r)
+  stopped : (n r : ℕ) → ((v : List ℕ) → judgeBehind g v ≡ Rejected n r)
       → ((refuse : ℕ → ℕ → Sameness) (compare : Question → List Extended → Sameness) → byReading refuse compare g ≡ refuse n r)
       → ((u : Question) (es : List Extended) → judgedIn g ≡ some (u, es) → ⊥) → Read g
 
@@ -38,7 +37,7 @@ read (Ended s at r) = go (headRead s) refl
     go : (t : Bool) → headRead s ≡ t → Read (Ended s at r)
     go true e = asked (s .question) (s .extended) (ap (λ x. cond x (some (s .question, s .extended)) none) e)
         (λ refuse compare. ap (byHead refuse compare s r) e)
-    go false e = stopped 4 r (λ v. ap (byHead judged.Refused (λ u es. judgeAnswer u es v) s r) e)
+    go false e = stopped 4 r (λ v. ap (byHead Rejected (λ u es. judgeAnswer u es v) s r) e)
         (λ refuse compare. ap (byHead refuse compare s r) e)
         (λ u es f. none-some (sym (ap (λ x. cond x (some (s .question, s .extended)) none) e) ∙ f))
 
@@ -46,15 +45,15 @@ read (Ended s at r) = go (headRead s) refl
 
 module _ (agree : ℕ → ℕ → Bool) (b c : List ℕ) where
   data Told : Type 0 where
-    of-first : (n r : ℕ) → samenessBy agree b c ≡ Refused first n r → ((v : List ℕ) → judging b v ≡ judged.Refused n r)
+    of-first : (n r : ℕ) → samenessBy agree b c ≡ SameRefused first n r → ((v : List ℕ) → submission b v ≡ Rejected n r)
         → ((u : Question) (es : List Extended) → Asks b u es → ⊥) → Told
-    of-second : (n r : ℕ) → samenessBy agree b c ≡ Refused second n r → ((v : List ℕ) → judging c v ≡ judged.Refused n r)
+    of-second : (n r : ℕ) → samenessBy agree b c ≡ SameRefused second n r → ((v : List ℕ) → submission c v ≡ Rejected n r)
         → ((v : Question) (ds : List Extended) → Asks c v ds → ⊥) → (u : Question) (es : List Extended) → Asks b u es → Told
     of-both : (u : Question) (es : List Extended) (v : Question) (ds : List Extended) → Asks b u es → Asks c v ds
         → samenessBy agree b c ≡ foundBy (sameBy agree u es v ds) → Told
 
   told : Told
-  unfolding judging
+  unfolding submission
   told = go (read (judgedQuestion b)) (read (judgedQuestion c))
     where
       go : Read (judgedQuestion b) → Read (judgedQuestion c) → Told
@@ -65,18 +64,18 @@ module _ (agree : ℕ → ℕ → Bool) (b c : List ℕ) where
 -- ---- what is said of two questions is one thing
 
 abbrev IsSame : Sameness → Type 0
-IsSame (Refused w n r) = ⊥
+IsSame (SameRefused w n r) = ⊥
 IsSame Same = Unit {0}
 IsSame Different = ⊥
 
 abbrev IsDifferent : Sameness → Type 0
-IsDifferent (Refused w n r) = ⊥
+IsDifferent (SameRefused w n r) = ⊥
 IsDifferent Same = ⊥
 IsDifferent Different = Unit {0}
 
 -- a refusal, by which question, number and record
 abbrev AsRefused : (Which → ℕ → ℕ → Type 0) → Sameness → Type 0
-AsRefused P (Refused w n r) = P w n r
+AsRefused P (SameRefused w n r) = P w n r
 AsRefused P Same = ⊥
 AsRefused P Different = ⊥
 
@@ -85,7 +84,7 @@ IsSecond first = ⊥
 IsSecond second = Unit {0}
 
 -- what is compared is not refused
-unrefused : {w : Which} {n r : ℕ} (t : Bool) → foundBy t ≡ Refused w n r → ⊥
+unrefused : {w : Which} {n r : ℕ} (t : Bool) → foundBy t ≡ SameRefused w n r → ⊥
 unrefused true e = subst IsSame e tt
 unrefused false e = subst IsDifferent e tt
 
@@ -142,12 +141,12 @@ pub refused-as-judged : TH-L6-refused
 unfolding sameness
 refused-as-judged b c = record { by-judging = λ w n r e v. judges (told agreement b c) w n r e v; first-asked = λ n r e. asks (told agreement b c) n r e }
   where
-    judges : Told agreement b c → (w : Which) (n r : ℕ) → sameness b c ≡ Refused w n r → (v : List ℕ) → judging (byWhich w b c) v ≡ judged.Refused n r
-    judges (of-first n' r' f j x) w n r e v = subst (AsRefused (λ w n r. judging (byWhich w b c) v ≡ judged.Refused n r)) (sym f ∙ e) (j v)
-    judges (of-second n' r' f j x u es p) w n r e v = subst (AsRefused (λ w n r. judging (byWhich w b c) v ≡ judged.Refused n r)) (sym f ∙ e) (j v)
+    judges : Told agreement b c → (w : Which) (n r : ℕ) → sameness b c ≡ SameRefused w n r → (v : List ℕ) → submission (byWhich w b c) v ≡ Rejected n r
+    judges (of-first n' r' f j x) w n r e v = subst (AsRefused (λ w n r. submission (byWhich w b c) v ≡ Rejected n r)) (sym f ∙ e) (j v)
+    judges (of-second n' r' f j x u es p) w n r e v = subst (AsRefused (λ w n r. submission (byWhich w b c) v ≡ Rejected n r)) (sym f ∙ e) (j v)
     judges (of-both u es v' ds p q f) w n r e v = absurd (unrefused (sameSets u es v' ds) (sym f ∙ e))
 
-    asks : Told agreement b c → (n r : ℕ) → sameness b c ≡ Refused second n r → (u : Question) × (es : List Extended) × Asks b u es
+    asks : Told agreement b c → (n r : ℕ) → sameness b c ≡ SameRefused second n r → (u : Question) × (es : List Extended) × Asks b u es
     asks (of-first n' r' f j x) n r e = absurd (subst (AsRefused (λ w n r. IsSecond w)) (sym e ∙ f) tt)
     asks (of-second n' r' f j x u es p) n r e = (u, es, p)
     asks (of-both u es v' ds p q f) n r e = (u, es, p)

@@ -21,7 +21,7 @@ use Rattle.format.specs.Question.{headRank, Progress, Reading, Stopped, 
 use Rattle.format.specs.Places.{skip, extendedAt, constraintAt, extendedsAt, literalsFrom, constraintsFrom, extendedFrom, Numbers, readTo}
 use Rattle.format.specs.Standing.{StandsTo}
 use Rattle.format.specs.Answer.{answerForm, assignmentOf, outside}
-use Rattle.format.specs.Judging.{Judging, Refused, Judged, byForm, judgeAnswer, judgeBehind, judging, firstUnmet, saidOf}
+use Rattle.format.specs.Judging.{Submission, Rejected, Submitted, byForm, judgeAnswer, judgeBehind, submission, firstUnmet, saidOf}
 use Rattle.format.specs.Judging.{Side, ofQuestion, ofAnswer, recordShown, nothingShown, refusalShown, unmetShown, shownBy}
 use Rattle.format.specs.Demands.{ShowsRecord, Shows, TH-L1, TH-L3-counted}
 use Rattle.format.proofs.Faults.{clash}
@@ -50,8 +50,8 @@ nothing-up-to v c r h = rw (ne-eqb c 15 (λ e. omega arith), ne-eqb c 16 (λ e. 
 -- ---- refusals
 
 module _ (b v : List ℕ) where
-  shows-nothing : (c r : ℕ) → c ≤ 10 → Shows b v (Refused c r) (refusalShown v c r)
-  shows-nothing c r h = subst (Shows b v (Refused c r)) (sym (nothing-up-to v c r h)) (record {
+  shows-nothing : (c r : ℕ) → c ≤ 10 → Shows b v (Rejected c r) (refusalShown v c r)
+  shows-nothing c r h = subst (Shows b v (Rejected c r)) (sym (nothing-up-to v c r h)) (record {
     lies-within = within 0 0 (length b) (omega arith) (omega arith);
     unmet = λ u es a k e g. clash cc;
     out-of-range = λ i e. let z : c ≡ 16 = cc in absurd (omega arith);
@@ -60,7 +60,7 @@ module _ (b v : List ℕ) where
     all-met = λ e. refl;
   })
 
-  shows-answer : Shows b v (Refused 15 0) (refusalShown v 15 0)
+  shows-answer : Shows b v (Rejected 15 0) (refusalShown v 15 0)
   shows-answer = record {
     lies-within = within 0 (length v) (length v) (omega arith) (omega arith);
     unmet = λ u es a k e g. clash cc;
@@ -70,7 +70,7 @@ module _ (b v : List ℕ) where
     all-met = λ e. clash cc;
   }
 
-  shows-record : (r : ℕ) → next v (skip v r 0) ≤ length v → Shows b v (Refused 16 r) (refusalShown v 16 r)
+  shows-record : (r : ℕ) → next v (skip v r 0) ≤ length v → Shows b v (Rejected 16 r) (refusalShown v 16 r)
   shows-record r w = record {
     lies-within = within (skip v r 0) (next v (skip v r 0)) (length v) (omega arith) w;
     unmet = λ u es a k e g. clash cc;
@@ -114,7 +114,7 @@ module _ (b : List ℕ) (t : Numbers) (to : ℕ) (stands : StandsTo b t to) (hea
 
   module _ (v : List ℕ) (a : Assignment) where
     shows-judged : (o : Option ℕ) → firstUnmet asked also a ≡ o → FirstWithout (MeetsConstraint asked a) (constraintsOf asked also) o
-        → Shows b v (Judged asked also a) (unmetShown b asked o)
+        → Shows b v (Submitted asked also a) (unmetShown b asked o)
     shows-judged none e h = record {
       lies-within = within 0 0 (length b) (omega arith) (omega arith);
       unmet = λ u es a' k p g. clash cc;
@@ -149,13 +149,13 @@ module _ (b : List ℕ) (t : Numbers) (to : ℕ) (stands : StandsTo b t to) (hea
 -- ---- the theorem
 
 pub record-concerned : TH-L1
-unfolding judging
+unfolding submission
 record-concerned b v = behind (judgedQuestion b) refl
   where
     answered : (t : Numbers) (to : ℕ) → StandsTo b t to → headRank ≤ t .last →
         let u : Question = readTo b t .question in
         (x : Bool) (o : Option ℕ) → answerForm v (u .p) (u .q) 0 ≡ x → outside v u (u .p) 0 0 ≡ o →
-        let j : Judging = byForm u (readTo b t .extended) v x o in
+        let j : Submission = byForm u (readTo b t .extended) v x o in
         Shows b v j (shownBy b v j)
     answered t to stands head false o formed out = shows-answer b v
     answered t to stands head true (some r) formed out =
@@ -168,7 +168,7 @@ record-concerned b v = behind (judgedQuestion b) refl
         shows-judged b t to stands head v a (firstUnmet u es a) refl (first-unmet u es a)
 
     headed : (t : Numbers) (to r : ℕ) → StandsTo b t to → (x : Bool) → leb headRank (t .last) ≡ x →
-        let j : Judging = byHead Refused (λ u es. judgeAnswer u es v) (readTo b t) r x in
+        let j : Submission = byHead Rejected (λ u es. judgeAnswer u es v) (readTo b t) r x in
         Shows b v j (shownBy b v j)
     headed t to r stands false e = shows-nothing b v 4 r (omega arith)
     headed t to r stands true e =

@@ -29,7 +29,7 @@ module _ {B C : Type 0} (w : Method B C) (b : List ℕ) (u : Question) where
   abbrev turn : State B C → ℕ → ℕ → ℕ → Bool → Ticket B C
   turn s r at f x = elim f as (λ _. Ticket B C) [
     | suc c ↦ Faulty (suc c) r
-    | zero ↦ elim x as (λ _. Ticket B C) [ true ↦ Done u s | false ↦ stepsOn w b u (advanced w b u s at) (suc r) (next b at) ]
+    | zero ↦ elim x as (λ _. Ticket B C) [ true ↦ Done u s r | false ↦ stepsOn w b u (advanced w b u s at) (suc r) (next b at) ]
   ]
 
   steps-turn : (s : State B C) (r at : ℕ) → at + 6 ≤ length b → stepsOn w b u s r at ≡ turn s r at (fault w b u s at) (eqb (kind b at) 8)
@@ -43,7 +43,7 @@ module _ {B C : Type 0} (w : Method B C) (b : List ℕ) (u : Question) where
   pub steps-faulty : (s : State B C) (r at c : ℕ) → at + 6 ≤ length b → fault w b u s at ≡ suc c → stepsOn w b u s r at ≡ Faulty (suc c) r
   steps-faulty s r at c h f = steps-turn s r at h ∙ ap (λ f. turn s r at f (eqb (kind b at) 8)) f
 
-  pub steps-done : (s : State B C) (r at : ℕ) → at + 6 ≤ length b → fault w b u s at ≡ 0 → eqb (kind b at) 8 ≡ true → stepsOn w b u s r at ≡ Done u s
+  pub steps-done : (s : State B C) (r at : ℕ) → at + 6 ≤ length b → fault w b u s at ≡ 0 → eqb (kind b at) 8 ≡ true → stepsOn w b u s r at ≡ Done u s r
   steps-done s r at h f e = steps-turn s r at h ∙ ap₂ (turn s r at) f e
 
   pub steps-more : (s : State B C) (r at : ℕ)

@@ -1,10 +1,12 @@
--- One turn of reading a question, by position: the laws that a loop over its records needs.
+-- One turn of reading a question, by position: the laws that a loop over its records needs, and that what every turn keeps holds where reading comes to.
 use Prim.Native.Nat.{ℕ, zero, suc, _+_, _<_, _≤_}
-use mathlib.Core.Path.{_≡_, _∙_, ap}
+use native.Mathlib.Omega.{arith}
+use mathlib.Core.Path.{_≡_, refl, sym, _∙_, ap, subst}
 use mathlib.Core.Bool.{Bool, true, false}
 use mathlib.Core.List.{List}
 use lib.ListN.{length}
-use borrow.Author.Tests.{le-leb, lt-leb}
+use lib.Dec.{leb}
+use borrow.Author.Tests.{leb-true, leb-false, le-leb, lt-leb}
 use Rattle.calculus.specs.Limits.{ticketBytes}
 use Rattle.format.specs.Records.{kind, next}
 use Rattle.format.specs.Question.{Progress, unread, questionAdvanced, Reading, Stopped, Ended, ending, readFrom, readOn, readBy}
@@ -51,3 +53,34 @@ module _ (test : List ℕ → Progress → ℕ → ℕ) (b : List ℕ) where
   pub read-begin : length b ≤ ticketBytes → readBy test b ≡ readOn test b unread 0 0
   unfolding readBy
   read-begin h = ap bySize (le-leb (length b) ticketBytes h)
+
+-- ---- what holds where reading begins, and after each record without fault, holds where it comes to
+
+-- where reading comes to, by its outcome: I says something of what was read, of the record's number and of its position
+pub data Comes (test : List ℕ → Progress → ℕ → ℕ) (b : List ℕ) (I : Progress → ℕ → ℕ → Type 0) : Reading → Type 0 where
+  ends : {s : Progress} {r at : ℕ} → I s r at → at + 6 ≤ length b → ending (kind b at) ≡ true → Comes test b I (Ended s at r)
+  stops : {s : Progress} {r at c : ℕ} → I s r at → at + 6 ≤ length b → ending (kind b at) ≡ false → test b s at ≡ suc c → Comes test b I (Stopped (suc c) r)
+  lacks : {s : Progress} {r at : ℕ} → I s r at → length b < at + 6 → Comes test b I (Stopped 3 r)
+
+module _ (test : List ℕ → Progress → ℕ → ℕ) (b : List ℕ) (I : Progress → ℕ → ℕ → Type 0)
+    (keeps : (s : Progress) (r at : ℕ) → I s r at → at + 6 ≤ length b → test b s at ≡ 0 → I (questionAdvanced b s at) (suc r) (next b at)) where
+  comes-from : (d : ℕ) (s : Progress) (r at : ℕ) → length b ≤ at + d → I s r at → Comes test b I (readOn test b s r at)
+  comes-from zero s r at l h = let short : length b < at + 6 = omega arith in subst (Comes test b I) (sym (read-none test b s r at short)) (lacks h short)
+  comes-from (suc d) s r at l h =
+      go (leb (at + 6) (length b)) (ending (kind b at)) (test b s at) refl refl refl
+      (λ six f. comes-from d (questionAdvanced b s at) (suc r) (next b at) (omega arith) (keeps s r at h six f))
+    where
+      go : (x y : Bool) (f : ℕ) → leb (at + 6) (length b) ≡ x → ending (kind b at) ≡ y → test b s at ≡ f
+          → (at + 6 ≤ length b → test b s at ≡ 0 → Comes test b I (readOn test b (questionAdvanced b s at) (suc r) (next b at)))
+          → Comes test b I (readOn test b s r at)
+      go false y f ex ey ef later =
+          let short : length b < at + 6 = leb-false (at + 6) (length b) ex in subst (Comes test b I) (sym (read-none test b s r at short)) (lacks h short)
+      go true true f ex ey ef later =
+          let six = leb-true (at + 6) (length b) ex in subst (Comes test b I) (sym (read-ended test b s r at six ey)) (ends h six ey)
+      go true false (suc f) ex ey ef later =
+          let six = leb-true (at + 6) (length b) ex in subst (Comes test b I) (sym (read-stopped test b s r at f six ey ef)) (stops h six ey ef)
+      go true false zero ex ey ef later =
+          let six = leb-true (at + 6) (length b) ex in subst (Comes test b I) (sym (read-more test b s r at six ey ef)) (later six ef)
+
+  pub comes : I unread 0 0 → length b ≤ ticketBytes → Comes test b I (readBy test b)
+  comes h l = subst (Comes test b I) (sym (read-begin test b l)) (comes-from (length b) unread 0 0 (omega arith) h)

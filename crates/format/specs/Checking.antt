@@ -5,7 +5,8 @@ use mathlib.Core.Option.{Option, none, some, Option·getD}
 use mathlib.Core.List.{List, [], _++_}
 use lib.ListN.{length, take}
 use lib.Dec.{ltb, leb}
-use lib.IntN.{ℤ, natAbs}
+use lib.IntN.{ℤ, pos}
+use lib.Signed.{leZ}
 use Rattle.lists.specs.Lists.{all, allBelow}
 use Rattle.calculus.specs.LinearForms.{valueIn}
 use Rattle.calculus.specs.Limits.{workNumbers, answerBytes, lengthLimit, numberLimit, factLimit, pendingLimit}
@@ -14,14 +15,13 @@ use Rattle.calculus.specs.Children.{childAt}
 use Rattle.calculus.specs.Rules as calculus
 use Rattle.calculus.specs.Walk.{working, closed}
 use Rattle.calculus.specs.Model.{modelValue}
-use Rattle.calculus.specs.SaturationTest.{saturated}
+use Rattle.calculus.specs.SettledTest.{settled}
 use Rattle.calculus.specs.Strings.{strings}
 use Rattle.calculus.specs.Meaning.{Assignment}
 use Rattle.format.specs.Fields.{allWithin}
 use Rattle.format.specs.Records.{need}
 use Rattle.format.specs.Question.{question}
-use Rattle.format.specs.Reading.{State, proving, taking, modelled, complete, Method, Ticket, Faulty, Done, readBehind}
-use Rattle.format.specs.Answer.{encode}
+use Rattle.format.specs.Reading.{State, proving, taking, modelled, Method, Ticket, Faulty, Done, readBehind}
 
 -- ---- 8 to 10: a step that does not fit, a number that passes the limit, facts or pending splits that would pass theirs
 
@@ -75,13 +75,13 @@ keepsFact m f = onArithmetic (λ r e. holds r (valueIn m e)) f
 unfoldable pub keeps : List ℤ → Branch → Bool
 keeps m b = all (keepsFact m) b
 
--- "14 when a length passes 64"; a negative length is 13 before
+-- "14 when a length passes 64"
 abbrev pub shortLengths : Question → List ℤ → Bool
-shortLengths u m = allBelow (u .p) (λ x. leb (natAbs (modelValue u m len x)) lengthLimit)
+shortLengths u m = allBelow (u .p) (λ x. leZ (modelValue u m len x) (pos lengthLimit))
 
 -- "at the model, 12 when it breaks an arithmetic fact, 13 when the leaf is not settled, 14 when a length passes 64"
 abbrev pub leafFault : Question → Branch → List ℤ → ℕ
-leafFault u br m = need 12 (keeps m br) (need 13 (saturated u br m) (need 14 (shortLengths u m) 0))
+leafFault u br m = need 12 (keeps m br) (need 13 (settled u br m) (need 14 (shortLengths u m) 0))
 
 -- ---- the whole ticket
 
@@ -95,33 +95,32 @@ checkerBy rules u = record {
   splitFault = λ br ss st. allTried br (length ss) (rules u br st);
   takenFault = λ br st k. takenTried br (childIn (rules u br st) k);
   leafFault = leafFault u;
-  endFault = λ s. need 11 (complete s) 0;
 }
 
 -- by the rules as they are now
 abbrev pub checker : Question → Method Branch (List Fact)
 checker = checkerBy calculus.children
 
--- Refused: the number and the record. Strings: the answer's bytes.
+-- Refused: the number and the record. Strings: the strings and integers that are given.
 pub data Outcome : Type 0 where
   Refused : ℕ → ℕ → Outcome
   NoSolution : Outcome
-  Strings : List ℕ → Outcome
+  Strings : Assignment → Outcome
 
 -- "The strings .. The integers are the model's"
 abbrev pub answerOf : Question → Branch → List ℤ → Assignment
 answerOf u br m = record { strs = strings u br m; ints = take (u .q) m }
 
--- an open branch and a branch without a model do not come here: 11 stands at the end before
-abbrev pub accepted : Question → State Branch (List Fact) → Outcome
-accepted u (proving (working br ss)) = Refused 11 0
-accepted u (proving closed) = NoSolution
-accepted u (taking br) = Refused 11 0
-accepted u (modelled br m) = Strings (encode (answerOf u br m))
+-- by the state at the end, record r: "11 when the end comes before every branch closed, or before a model"
+abbrev pub accepted : Question → State Branch (List Fact) → ℕ → Outcome
+accepted u (proving (working br ss)) r = Refused 11 r
+accepted u (proving closed) r = NoSolution
+accepted u (taking br) r = Refused 11 r
+accepted u (modelled br m) r = Strings (answerOf u br m)
 
 abbrev pub outcomeOf : Ticket Branch (List Fact) → Outcome
 outcomeOf (Faulty c r) = Refused c r
-outcomeOf (Done u s) = accepted u s
+outcomeOf (Done u s r) = accepted u s r
 
 -- "Buffers are large enough when 1 does not apply"
 abbrev pub largeEnough : ℕ → ℕ → Bool

@@ -25,7 +25,7 @@ core t = coreAsked (questionOf t) (steps t)
 abbrev pub coreOf : Outcome → List ℕ → Set
 coreOf (Refused c r) t = []
 coreOf NoSolution t = core t
-coreOf (Strings s) t = []
+coreOf (Strings a) t = []
 
 -- ---- 128 flags as two numbers of 64 bits: constraint k is bit k of the first, constraint 64 + k bit k of the second
 

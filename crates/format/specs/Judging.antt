@@ -16,26 +16,26 @@ use Rattle.format.specs.Question.{Reading, judgedQuestion, byReading}
 use Rattle.format.specs.Places.{skip, constraintsFrom}
 use Rattle.format.specs.Answer.{answerForm, outside, assignmentOf}
 
--- Refused: the number and the record. Judged: the question with its extended constraints, and the strings and integers of the answer.
-pub data Judging : Type 0 where
-  Refused : ℕ → ℕ → Judging
-  Judged : Question → List Extended → Assignment → Judging
+-- Rejected: the number and the record. Submitted: the question with its extended constraints, and the strings and integers of the answer.
+pub data Submission : Type 0 where
+  Rejected : ℕ → ℕ → Submission
+  Submitted : Question → List Extended → Assignment → Submission
 
 -- "15 (record 0) when the answer is not exactly of its form, 16 (the answer's first such record) ..": by whether it is of its form, and by its first record
 -- out of range
-abbrev pub byForm : Question → List Extended → List ℕ → Bool → Option ℕ → Judging
-byForm u es v false o = Refused 15 0
-byForm u es v true (some r) = Refused 16 r
-byForm u es v true none = Judged u es (assignmentOf v u)
+abbrev pub byForm : Question → List Extended → List ℕ → Bool → Option ℕ → Submission
+byForm u es v false o = Rejected 15 0
+byForm u es v true (some r) = Rejected 16 r
+byForm u es v true none = Submitted u es (assignmentOf v u)
 
-abbrev pub judgeAnswer : Question → List Extended → List ℕ → Judging
+abbrev pub judgeAnswer : Question → List Extended → List ℕ → Submission
 judgeAnswer u es v = byForm u es v (answerForm v (u .p) (u .q) 0) (outside v u (u .p) 0 0)
 
-abbrev pub judgeBehind : Reading → List ℕ → Judging
-judgeBehind g v = byReading Refused (λ u es. judgeAnswer u es v) g
+abbrev pub judgeBehind : Reading → List ℕ → Submission
+judgeBehind g v = byReading Rejected (λ u es. judgeAnswer u es v) g
 
-unfoldable pub judging : List ℕ → List ℕ → Judging
-judging b v = judgeBehind (judgedQuestion b) v
+unfoldable pub submission : List ℕ → List ℕ → Submission
+submission b v = judgeBehind (judgedQuestion b) v
 
 -- ---- constraints
 
@@ -66,9 +66,9 @@ abbrev pub saidOf : Option ℕ → Judgement
 saidOf none = AllMet
 saidOf (some k) = Unmet k
 
-abbrev pub said : Judging → Judgement
-said (Refused c r) = Refusal c r
-said (Judged u es a) = saidOf (firstUnmet u es a)
+abbrev pub said : Submission → Judgement
+said (Rejected c r) = Refusal c r
+said (Submitted u es a) = saidOf (firstUnmet u es a)
 
 -- ---- what judging shows
 
@@ -104,9 +104,9 @@ unmetShown b u none = nothingShown
 unmetShown b u (some k) = recordShown ofQuestion b (skip b k (constraintsFrom b (length (u .literals))))
 
 -- what is shown of the question b and the answer v
-abbrev pub shownBy : List ℕ → List ℕ → Judging → Shown
-shownBy b v (Refused c r) = refusalShown v c r
-shownBy b v (Judged u es a) = unmetShown b u (firstUnmet u es a)
+abbrev pub shownBy : List ℕ → List ℕ → Submission → Shown
+shownBy b v (Rejected c r) = refusalShown v c r
+shownBy b v (Submitted u es a) = unmetShown b u (firstUnmet u es a)
 
 -- by a part's side: what holds for the question, and for the answer
 abbrev pub bySide : {A : Type 0} → Side → A → A → A

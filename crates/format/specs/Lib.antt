@@ -5,9 +5,12 @@ pub mod Places
 pub mod Standing
 pub mod StepForms
 pub mod Answer
+pub mod Written
 pub mod Reading
 pub mod Checking
 pub mod ProperForm
+pub mod Refusals
+pub mod Agreements
 pub mod Judging
 pub mod Needs
 pub mod Cores

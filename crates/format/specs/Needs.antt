@@ -1,16 +1,16 @@
 -- How much a ticket will need, document 02's L2: "reads a ticket's records and, judging no premise and treating every step as if it fitted, reports the number of
 -- steps, the most facts on any branch and the most pending splits". Refusals are reading's, the numbers are those of a walk.
 use Prim.Native.Nat.{ℕ}
+use mathlib.Core.Bool.{Bool, true, false, cond}
 use mathlib.Core.List.{List, [], _∷_, map}
 use lib.ListN.{length}
 use Rattle.lists.specs.Lists.{maximum}
 use Rattle.calculus.specs.Facts.{Question}
 use Rattle.calculus.specs.Steps.{Step}
 use Rattle.calculus.specs.Walk.{working, closed}
-use Rattle.format.specs.Records.{need}
 use Rattle.format.specs.Question.{questionForm}
-use Rattle.format.specs.Reading.{State, proving, taking, modelled, complete, Method, stepped, Ticket, Faulty, Done, begin, readBehind}
-use Rattle.format.specs.ProperForm.{byShapeTo, stepsWithChild, claimIn}
+use Rattle.format.specs.Reading.{State, proving, taking, modelled, Method, stepped, Ticket, Faulty, Done, begin, readBehind}
+use Rattle.format.specs.ProperForm.{byShape, stepsWithChild, claimIn}
 
 -- ---- what a walk meets on its way, whatever a branch and a child are
 
@@ -49,23 +49,27 @@ report count w s ts = record {
 
 -- ---- the operation
 
--- "treating every step as if it fitted"; "a tree not closed at its end, or claim 2 without a model, gives 11"
-abbrev pub needing : Question → Method ℕ ℕ
-needing = byShapeTo (λ s. need 11 (complete s) 0)
+-- whether every branch is closed, or a model was read
+abbrev pub complete : {B C : Type 0} → State B C → Bool
+complete (proving (working br ss)) = false
+complete (proving closed) = true
+complete (taking br) = false
+complete (modelled br m) = true
 
--- Refused: the number and the record. Needs: the report.
+-- NeedRefused: the number and the record. Needs: the report.
 pub data Need : Type 0 where
-  Refused : ℕ → ℕ → Need
+  NeedRefused : ℕ → ℕ → Need
   Needs : Report → Need
 
+-- "a tree not closed at its end, or claim 2 without a model, gives 11"
 abbrev pub needBy : (Question → Report) → Ticket ℕ ℕ → Need
-needBy reported (Faulty c r) = Refused c r
-needBy reported (Done u s) = Needs (reported u)
+needBy reported (Faulty c r) = NeedRefused c r
+needBy reported (Done u s r) = cond (complete s) (Needs (reported u)) (NeedRefused 11 r)
 
--- the report of a ticket's steps, a branch being the number of its facts
+-- the report of a ticket's steps, "treating every step as if it fitted"
 abbrev pub reportOf : List ℕ → Question → Report
-reportOf b u = report (λ k. k) (needing u) (begin (needing u) (claimIn b)) (stepsWithChild b)
+reportOf b u = report (λ k. k) (byShape u) (begin (byShape u) (claimIn b)) (stepsWithChild b)
 
 -- "The operation gives 2 to 7, and 4 also for a step after the last branch closed"; "It never gives 10": the question is read without looking for it
 unfoldable pub needed : List ℕ → Need
-needed b = needBy (reportOf b) (readBehind needing b (questionForm b))
+needed b = needBy (reportOf b) (readBehind byShape b (questionForm b))

@@ -14,12 +14,12 @@ use Rattle.calculus.specs.Children.{childAt}
 use Rattle.calculus.specs.Walk.{Walk}
 use Rattle.format.specs.Records.{kind, next, records}
 use Rattle.format.specs.Question.{Reading, Stopped, Ended, questionForm}
-use Rattle.format.specs.Reading.{State, proving, modelled, Method, stepWithChild, Ticket, Done, claimAt, readBehind}
+use Rattle.format.specs.Reading.{proving, modelled, Method, stepWithChild, Ticket, Done, claimAt, readBehind}
 
--- "every step taken as if it fitted": a branch is the number of its facts. Under claim 2 "a closing rule counts as a step, adds no fact and closes nothing" (02, L2).
--- The parameter is the number at the end record, by the state there.
-abbrev pub byShapeTo : (State ℕ ℕ → ℕ) → Question → Method ℕ ℕ
-byShapeTo end u = record {
+-- "every step taken as if it fitted": a branch is the number of its facts, and none of 8 to 14 is looked for. Under claim 2 "a closing rule counts as a step,
+-- adds no fact and closes nothing" (02, L2).
+abbrev pub byShape : Question → Method ℕ ℕ
+byShape u = record {
   root = length (u .constraints);
   add = _+_;
   children = λ k st. shape (u .n) st;
@@ -27,23 +27,19 @@ byShapeTo end u = record {
   splitFault = λ k ss st. 0;
   takenFault = λ k st c. 0;
   leafFault = λ k m. 0;
-  endFault = end;
 }
 
--- "none of 2 to 7": 11, the number at the end, is not among them
-abbrev pub byShape : Question → Method ℕ ℕ
-byShape = byShapeTo (λ s. 0)
-
+-- "none of 2 to 7": 11, at the end, is not among them
 unfoldable pub ticketForm : List ℕ → Ticket ℕ ℕ
 ticketForm b = readBehind byShape b (questionForm b)
 
 -- proper form under claim 1: the bytes put the question u
-abbrev pub ProperNo : List ℕ → Question → Type 0
-ProperNo b u = (w : Walk ℕ ℕ) × (ticketForm b ≡ Done u (proving w))
+abbrev pub ProperNoSolution : List ℕ → Question → Type 0
+ProperNoSolution b u = (w : Walk ℕ ℕ) × (r : ℕ) × (ticketForm b ≡ Done u (proving w) r)
 
 -- proper form under claim 2: the bytes put the question u, and the model m stands before the end
 abbrev pub ProperStrings : List ℕ → Question → List ℤ → Type 0
-ProperStrings b u m = (k : ℕ) × (ticketForm b ≡ Done u (modelled k m))
+ProperStrings b u m = (k : ℕ) × (r : ℕ) × (ticketForm b ≡ Done u (modelled k m) r)
 
 -- ---- the steps of a ticket, each with its child field: the records behind the claim, up to the first that is no step
 

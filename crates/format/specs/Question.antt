@@ -103,9 +103,12 @@ headOf b at = blank (u32 b at) (u16 b (at + 4)) (u16 b (at + 6))
 abbrev pub textOf : List ℕ → ℕ → ℕ → List ℕ
 textOf b at m = u32s b at (m / 4)
 
+abbrev pub literalLength : ℕ → Bool
+literalLength m = leb 4 m && (leb m (4 * lengthLimit) && eqb (m % 4) 0)
+
 abbrev pub literalFault : List ℕ → ℕ → List (List ℕ) → ℕ → ℕ → ℕ
 literalFault b n ls at m =
-    need 5 (leb 4 m && (leb m (4 * lengthLimit) && eqb (m % 4) 0))
+    need 5 (literalLength m)
     (need 6 (allCharacters n (textOf b at m))
     (need 7 (not (given (textOf b at m) ls)) 0))
 

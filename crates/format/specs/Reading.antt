@@ -22,13 +22,6 @@ pub data State (B C : Type 0) : Type 0 where
   taking : B → State B C
   modelled : B → List ℤ → State B C
 
--- false where 11 applies: "when the end comes before every branch closed, or before a model"
-abbrev pub complete : {B C : Type 0} → State B C → Bool
-complete (proving (working br ss)) = false
-complete (proving closed) = true
-complete (taking br) = false
-complete (modelled br m) = true
-
 -- how steps are taken; a fault is the first number that applies, 0 for none
 pub record Method (B C : Type 0) : Type 0 where
   -- the branch of the question's constraints
@@ -45,8 +38,6 @@ pub record Method (B C : Type 0) : Type 0 where
   pub takenFault : B → Step → ℕ → ℕ
   -- 12 to 14
   pub leafFault : B → List ℤ → ℕ
-  -- 11
-  pub endFault : State B C → ℕ
 
 -- the state once a step is taken, with its child field: under claim 1 its first child is entered, or the branch closes and the next child begins; under claim 2
 -- the child taken is added. Behind the last closed branch and behind the model no step may stand.
@@ -79,17 +70,13 @@ bodyFault w b u (taking br) k at m =
     (need 4 (eqb k 7) (modelFault b u (w .leafFault br (modelAt b u at)) at m))
 bodyFault w b u (modelled br v) k at m = 4
 
--- an end record with a body of m bytes that ends at a position, in a ticket of n bytes: "a byte follows the end record, counted at that end record", then
--- its form, then what is asked next
-abbrev pub endForm : ℕ → ℕ → ℕ → ℕ → ℕ
-endForm n to m later = need 4 (eqb to n) (need 5 (eqb m 0) later)
-
-abbrev pub lastFault : {B C : Type 0} → Method B C → List ℕ → State B C → ℕ → ℕ
-lastFault w b s at = endForm (length b) (next b at) (size b at) (w .endFault s)
+-- an end record: "a byte follows the end record, counted at that end record", then its form
+abbrev pub lastFault : List ℕ → ℕ → ℕ
+lastFault b at = need 4 (eqb (next b at) (length b)) (need 5 (eqb (size b at) 0) 0)
 
 -- the first number that applies to the record at a position, 0 for none
 unfoldable pub fault : {B C : Type 0} → Method B C → List ℕ → Question → State B C → ℕ → ℕ
-fault w b u s at = need 3 (whole b at) (cond (eqb (kind b at) 8) (lastFault w b s at) (bodyFault w b u s (kind b at) (at + 6) (size b at)))
+fault w b u s at = need 3 (whole b at) (cond (eqb (kind b at) 8) (lastFault b at) (bodyFault w b u s (kind b at) (at + 6) (size b at)))
 
 -- the step of the record at a position, with its child field
 abbrev pub stepWithChild : List ℕ → ℕ → Step × ℕ
@@ -103,17 +90,17 @@ advanced w b u (modelled br v) at = modelled br v
 
 -- ---- the records behind the claim
 
--- Faulty: the refusal's number and record. Done: read to its end, with the question and the last state.
+-- Faulty: the refusal's number and record. Done: read to its end, with the question, the last state and the number of the end record.
 pub data Ticket (B C : Type 0) : Type 0 where
   Faulty : ℕ → ℕ → Ticket B C
-  Done : Question → State B C → Ticket B C
+  Done : Question → State B C → ℕ → Ticket B C
 
 -- what is left in a state, with the next record's number and the positions of the records left
 unfoldable pub readSteps : {B C : Type 0} → Method B C → List ℕ → Question → State B C → ℕ → List ℕ → Ticket B C
 readSteps w b u s r [] = Faulty 3 r
 readSteps w b u s r (at ∷ ats) = elim (fault w b u s at) [
   | suc c ↦ Faulty (suc c) r
-  | zero ↦ elim (eqb (kind b at) 8) [ true ↦ Done u s | false ↦ readSteps w b u (advanced w b u s at) (suc r) ats ]
+  | zero ↦ elim (eqb (kind b at) 8) [ true ↦ Done u s r | false ↦ readSteps w b u (advanced w b u s at) (suc r) ats ]
 ]
 
 -- what is left from record r at a position on

@@ -14,9 +14,9 @@ abbrev pub byWhich : {A : Type 0} → Which → A → A → A
 byWhich first x y = x
 byWhich second x y = y
 
--- Refused: which of the two, the number and the record
+-- SameRefused: which of the two, the number and the record
 pub data Sameness : Type 0 where
-  Refused : Which → ℕ → ℕ → Sameness
+  SameRefused : Which → ℕ → ℕ → Sameness
   Same : Sameness
   Different : Sameness
 
@@ -28,8 +28,8 @@ foundBy false = Different
 -- constraint occurs on its own side and on the other
 abbrev pub samenessBy : (ℕ → ℕ → Bool) → List ℕ → List ℕ → Sameness
 samenessBy agree b c =
-    byReading (Refused first)
-    (λ u es. byReading (Refused second) (λ v ds. foundBy (sameBy agree u es v ds)) (judgedQuestion c))
+    byReading (SameRefused first)
+    (λ u es. byReading (SameRefused second) (λ v ds. foundBy (sameBy agree u es v ds)) (judgedQuestion c))
     (judgedQuestion b)
 
 -- the test that is in force

@@ -13,7 +13,7 @@ use Rattle.format.specs.Question.{Progress, Stopped, Ended, judgingManner, judg
 use Rattle.format.specs.Places.{skip}
 use Rattle.format.specs.Answer.{answerForm, assignmentOf, outside}
 use Rattle.format.specs.Judging as format
-use Rattle.format.specs.Judging.{Judging, Judged, byForm, judgeAnswer, judging, ofAnswer, recordShown}
+use Rattle.format.specs.Judging.{Submission, Submitted, byForm, judgeAnswer, submission, ofAnswer, recordShown}
 use Rattle.format.proofs.Refusals.{refusal-up-to}
 use Rattle.format.proofs.Shown.{nothing-up-to}
 use Rattle.question.proofs.Posed.{said-stopped, said-headless, said-headed}
@@ -30,7 +30,7 @@ module _ (b v : List ℕ) (u : Question) (es : List Extended) where
       → outside v u (u .p) 0 0 ≡ o
       → Finds b v (byForm u es v t o) r
       → Finds b v (judgeAnswer u es v) r
-  by {r = r} e f h = subst (λ (g : Judging). Finds b v g r) (sym (ap₂ (byForm u es v) e f)) h
+  by {r = r} e f h = subst (λ (g : Submission). Finds b v g r) (sym (ap₂ (byForm u es v) e f)) h
 
   pub unformed : answerForm v (u .p) (u .q) 0 ≡ false
       → Finds b v (judgeAnswer u es v) (record { said = Refused 15 0; shown = record { side = side.Answer; from = 0; to = length v } })
@@ -47,7 +47,7 @@ module _ (b v : List ℕ) (u : Question) (es : List Extended) where
   pub judged : {r : Finding}
       → answerForm v (u .p) (u .q) 0 ≡ true
       → outside v u (u .p) 0 0 ≡ none
-      → Finds b v (Judged u es (assignmentOf v u)) r
+      → Finds b v (Submitted u es (assignmentOf v u)) r
       → Finds b v (judgeAnswer u es v) r
   judged e f h = by e f h
 
@@ -55,29 +55,29 @@ module _ (b v : List ℕ) (u : Question) (es : List Extended) where
 
 module _ (b v : List ℕ) where
   -- its refusals show nothing
-  refused : (c r : ℕ) → c ≤ 10 → Finds b v (format.Refused c r) (record { said = Refused c r; shown = record { side = side.Question; from = 0; to = 0 } })
+  refused : (c r : ℕ) → c ≤ 10 → Finds b v (format.Rejected c r) (record { said = Refused c r; shown = record { side = side.Question; from = 0; to = 0 } })
   refused c r h = record { says = refl; shows = sym (nothing-up-to v c r h) }
 
-  told : {g : Judging} {o : Finding} → judging b v ≡ g → Finds b v g o → Finds b v (judging b v) o
-  told {o = o} e h = subst (λ (g : Judging). Finds b v g o) (sym e) h
+  told : {g : Submission} {o : Finding} → submission b v ≡ g → Finds b v g o → Finds b v (submission b v) o
+  told {o = o} e h = subst (λ (g : Submission). Finds b v g o) (sym e) h
 
   pub stopped : {c r : ℕ}
       → judgedQuestion b ≡ Stopped c r
-      → Finds b v (judging b v) (record { said = Refused c r; shown = record { side = side.Question; from = 0; to = 0 } })
-  unfolding judging
-  stopped {c} {r} e = told (said-stopped format.Refused (λ u es. judgeAnswer u es v) b e) (refused c r (refusal-up-to judgingManner b e))
+      → Finds b v (submission b v) (record { said = Refused c r; shown = record { side = side.Question; from = 0; to = 0 } })
+  unfolding submission
+  stopped {c} {r} e = told (said-stopped format.Rejected (λ u es. judgeAnswer u es v) b e) (refused c r (refusal-up-to judgingManner b e))
 
   pub headless : {s : Progress} {at r : ℕ}
       → judgedQuestion b ≡ Ended s at r
       → s .last ≡ 0
-      → Finds b v (judging b v) (record { said = Refused 4 r; shown = record { side = side.Question; from = 0; to = 0 } })
-  unfolding judging
-  headless {r = r} e f = told (said-headless format.Refused (λ u es. judgeAnswer u es v) b e f) (refused 4 r (omega arith))
+      → Finds b v (submission b v) (record { said = Refused 4 r; shown = record { side = side.Question; from = 0; to = 0 } })
+  unfolding submission
+  headless {r = r} e f = told (said-headless format.Rejected (λ u es. judgeAnswer u es v) b e f) (refused 4 r (omega arith))
 
   pub headed : {s : Progress} {at r : ℕ} {o : Finding}
       → judgedQuestion b ≡ Ended s at r
       → 1 ≤ s .last
       → Finds b v (judgeAnswer (s .question) (s .extended) v) o
-      → Finds b v (judging b v) o
-  unfolding judging
-  headed e f h = told (said-headed format.Refused (λ u es. judgeAnswer u es v) b e f) h
+      → Finds b v (submission b v) o
+  unfolding submission
+  headed e f h = told (said-headed format.Rejected (λ u es. judgeAnswer u es v) b e f) h

@@ -14,7 +14,7 @@ use Rattle.calculus.specs.Meaning.{Assignment}
 use Rattle.lists.proofs.Searches.{lowest-behind, lowest-next, lowest-taken}
 use Rattle.format.specs.Records.{next}
 use Rattle.format.specs.Places.{skip, constraintsFrom, constraintAt, constraintsAt}
-use Rattle.format.specs.Judging.{meetsConstraint, Judged, firstUnmet, saidOf, ofQuestion, recordShown, unmetShown}
+use Rattle.format.specs.Judging.{meetsConstraint, Submitted, firstUnmet, saidOf, ofQuestion, recordShown, unmetShown}
 use Rattle.format.proofs.Places.{length-constraints, constraints-snoc, take-constraints}
 use Rattle.format.proofs.Standing.{all-constraints}
 use Rattle.question.specs.declared.Progress.{Progress}
@@ -78,7 +78,7 @@ module _ (b v : List ℕ) (s : Progress) (a : Assignment) where
           ∙ ap some (length-constraints b k from))
 
       pub finds-unmet : {to : ℕ} → to ≡ next b at
-          → Finds b v (Judged u es a) (record { said = Unmet k; shown = record { side = side.Question; from = at; to = to } })
+          → Finds b v (Submitted u es a) (record { said = Unmet k; shown = record { side = side.Question; from = at; to = to } })
       finds-unmet {to} end =
           let first : some k ≡ firstUnmet u es a = sym first-here in
           let place : at ≡ skip b k (constraintsFrom b (length (u .literals))) =
@@ -86,7 +86,7 @@ module _ (b v : List ℕ) (s : Progress) (a : Assignment) where
           record { says = ap saidOf first; shows = rw end (ap (recordShown ofQuestion b) place) ∙ ap (unmetShown b u) first }
 
     pub finds-all-met : (k : ℕ) → MetTo k → k ≡ count
-        → Finds b v (Judged u es a) (record { said = AllMet; shown = record { side = side.Question; from = 0; to = 0 } })
+        → Finds b v (Submitted u es a) (record { said = AllMet; shown = record { side = side.Question; from = 0; to = 0 } })
     finds-all-met k before e =
         let first : none ≡ firstUnmet u es a = sym before ∙ ap (λ (m : ℕ). lowest test (constraintsAt b m from)) e ∙ ap (lowest test) (sym in-line) in
         record { says = ap saidOf first; shows = ap (unmetShown b u) first }

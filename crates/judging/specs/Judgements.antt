@@ -24,6 +24,6 @@ abbrev pub shownOf : Shown → format.Shown
 shownOf s = record { side = sideOf (s .side); from = s .from; to = s .to }
 
 -- it is what judging g says and shows of the question b and the answer v
-pub record Finds (b v : List ℕ) (g : format.Judging) (r : Finding) : Type 0 where
+pub record Finds (b v : List ℕ) (g : format.Submission) (r : Finding) : Type 0 where
   pub says : judgementOf (r .said) ≡ said g
   pub shows : shownOf (r .shown) ≡ shownBy b v g

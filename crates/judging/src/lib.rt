@@ -16,7 +16,7 @@ ghost use Rattle.format.specs.Records.{next};
 ghost use Rattle.format.specs.Question.{stringFault, stringFact, formOf, relationOf, extendedFault, extendedOf};
 ghost use Rattle.format.specs.Places.{skip, textAt, constraintAt, texts, literalsFrom};
 ghost use Rattle.format.specs.Answer.{answerForm, outside};
-ghost use Rattle.format.specs.Judging.{meets, meetsConstraint, Judged, judgeAnswer, judging, partWithin};
+ghost use Rattle.format.specs.Judging.{meets, meetsConstraint, Submitted, judgeAnswer, submission, partWithin};
 ghost use Rattle.format.specs.Standing.{ConstraintAt};
 ghost use Rattle.question.specs.Posed.{asked, extendedAsked, Posed};
 ghost use Rattle.judging.specs.Ready.{valuesOf, FormIn, Texts, Judgeable};
@@ -272,7 +272,7 @@ fn record_end(b: &[u8], at: usize) -> usize
 // The first constraint that the answer does not meet, by its number and with its record.
 fn first_unmet(b: &[u8], v: &[u8], s: Progress, places: &[usize], values: &[i64]) -> Finding
     requires { ⌜ Judgeable (now b) (now v) s (now places) (now values) ⌝ }
-    ensures { λ r. ⌜ Finds (now (b .entry)) (now (v .entry)) (Judged (asked (now (b .entry)) s) (extendedAsked (now (b .entry)) s) (valuesOf (now (b .entry)) (now (v .entry)) s)) r ⌝ }
+    ensures { λ r. ⌜ Finds (now (b .entry)) (now (v .entry)) (Submitted (asked (now (b .entry)) s) (extendedAsked (now (b .entry)) s) (valuesOf (now (b .entry)) (now (v .entry)) s)) r ⌝ }
 {
     let count = s.constraints + s.extended;
     let mut at = behind_literals(b, s.literals);
@@ -290,7 +290,7 @@ fn first_unmet(b: &[u8], v: &[u8], s: Progress, places: &[usize], values: &[i64]
 // An answer of its form and in its ranges: its strings' places and its columns' values are found once.
 fn judge_values(b: &[u8], v: &[u8], s: Progress) -> Finding
     requires { ⌜ Posed (now b) s × (answerForm (now v) (s .p) (s .q) 0 ≡ true) × (outside (now v) (asked (now b) s) (s .p) 0 0 ≡ none) ⌝ }
-    ensures { λ r. ⌜ Finds (now (b .entry)) (now (v .entry)) (Judged (asked (now (b .entry)) s) (extendedAsked (now (b .entry)) s) (valuesOf (now (b .entry)) (now (v .entry)) s)) r ⌝ }
+    ensures { λ r. ⌜ Finds (now (b .entry)) (now (v .entry)) (Submitted (asked (now (b .entry)) s) (extendedAsked (now (b .entry)) s) (valuesOf (now (b .entry)) (now (v .entry)) s)) r ⌝ }
 {
     let p = s.p;
     let q = s.q;
@@ -322,7 +322,7 @@ fn judge_behind(b: &[u8], v: &[u8], s: Progress) -> Finding
 
 // Judges an answer by a question: all met, the first constraint that is not met, or the refusal of the question or the answer; and which part is to be shown.
 pub fn judge_answer(question: &[u8], answer: &[u8]) -> Finding
-    ensures { λ r. ⌜ Finds (now (question .entry)) (now (answer .entry)) (judging (now (question .entry)) (now (answer .entry))) r ⌝ }
+    ensures { λ r. ⌜ Finds (now (question .entry)) (now (answer .entry)) (submission (now (question .entry)) (now (answer .entry))) r ⌝ }
 {
     match read_question(JUDGING, question) {
         Reading::Stopped(c, r) => found(Judgement::Refused(c, r), Side::Question, 0, 0),

@@ -21,7 +21,7 @@ use Rattle.calculus.specs.Chains.{varNode, litNode}
 use Rattle.calculus.specs.Classes.{labels, sameClass, literalIn, conflict, clash}
 use Rattle.calculus.specs.Rules.{leastPower}
 use Rattle.calculus.specs.Model.{modelValue}
-use Rattle.calculus.specs.SaturationTest.{lowestVariable, lowestOfLength, saturatedCard}
+use Rattle.calculus.specs.SettledTest.{lowestVariable, lowestOfLength, settledCard}
 use Rattle.calculus.proofs.Alphabet.{count-is, ranges-are}
 use Rattle.calculus.proofs.Powers.{least-power}
 use Rattle.calculus.proofs.Lowest.{lowests-few}
@@ -148,19 +148,19 @@ room-fewer n p k size h e = go (leb n 1) refl
 
 -- Card, by the count k of the classes of the length of x
 module _ (u : Question) (ls : List ℕ) (m : List ℤ) (x k : ℕ) (e : k ≡ length (lowestOfLength u ls m (modelValue u m len x) (u .p))) where
-  counted : saturatedCard u ls m x ≡ (leb k 1 || roomy (u .n) k (natAbs (modelValue u m len x)))
+  counted : settledCard u ls m x ≡ (leb k 1 || roomy (u .n) k (natAbs (modelValue u m len x)))
   unfolding roomy
   counted =
       ap₂ (λ (i n : ℕ). leb i 1 || roomy n i (natAbs (modelValue u m len x))) (sym e) (count-is (u .n))
 
-  pub card-few : k ≤ 1 → saturatedCard u ls m x ≡ true
+  pub card-few : k ≤ 1 → settledCard u ls m x ≡ true
   card-few h = counted ∙ rw (le-leb k 1 h)
 
-  pub card-many : 1 < k → saturatedCard u ls m x ≡ roomy (u .n) k (natAbs (modelValue u m len x))
+  pub card-many : 1 < k → settledCard u ls m x ≡ roomy (u .n) k (natAbs (modelValue u m len x))
   card-many h = counted ∙ rw (lt-leb k 1 h)
 
 -- no count is needed where there is room for a string of each variable
-pub card-roomy : (u : Question) (ls : List ℕ) (m : List ℤ) (x : ℕ) → roomy (u .n) (u .p) (natAbs (modelValue u m len x)) ≡ true → saturatedCard u ls m x ≡ true
+pub card-roomy : (u : Question) (ls : List ℕ) (m : List ℤ) (x : ℕ) → roomy (u .n) (u .p) (natAbs (modelValue u m len x)) ≡ true → settledCard u ls m x ≡ true
 card-roomy u ls m x e =
     let k = length (lowestOfLength u ls m (modelValue u m len x) (u .p)) in
     counted u ls m x k refl
@@ -213,7 +213,7 @@ module _ (b : List ℕ) (s : Progress) (ls : List ℕ) (m : List ℤ) where
       ap (λ (l : List ℕ). elim (eqℤ (modelValue (numbered s) m len k) z && eqb (lowestVariable ls k) k) as (λ _. List ℕ) [ true ↦ k ∷ l | false ↦ l ])
       (lowest-any z k)
 
-  pub card-any : (x : ℕ) → saturatedCard (numbered s) ls m x ≡ saturatedCard (asked b s) ls m x
+  pub card-any : (x : ℕ) → settledCard (numbered s) ls m x ≡ settledCard (asked b s) ls m x
   unfolding asked roomy
   card-any x =
       ap (λ (l : List ℕ). leb (length l) 1
@@ -239,23 +239,23 @@ module _ (u : Question) (ls : List ℕ) (m : List ℤ) (x : ℕ) where
 
   pub var-literal : fromLiteral ≡ false → varFits u ls m x ≡ false
   unfolding varFits
-  var-literal e = ap (λ (t : Bool). t && (lValidFits ls x z && (codeFits (u .n) z c && saturatedCard u ls m x))) e
+  var-literal e = ap (λ (t : Bool). t && (lValidFits ls x z && (codeFits (u .n) z c && settledCard u ls m x))) e
 
-  past-literal : fromLiteral ≡ true → varFits u ls m x ≡ (lValidFits ls x z && (codeFits (u .n) z c && saturatedCard u ls m x))
+  past-literal : fromLiteral ≡ true → varFits u ls m x ≡ (lValidFits ls x z && (codeFits (u .n) z c && settledCard u ls m x))
   unfolding varFits
-  past-literal e = ap (λ (t : Bool). t && (lValidFits ls x z && (codeFits (u .n) z c && saturatedCard u ls m x))) e
+  past-literal e = ap (λ (t : Bool). t && (lValidFits ls x z && (codeFits (u .n) z c && settledCard u ls m x))) e
 
   pub var-length : fromLiteral ≡ true → lValidFits ls x z ≡ false → varFits u ls m x ≡ false
-  var-length e f = past-literal e ∙ ap (λ (t : Bool). t && (codeFits (u .n) z c && saturatedCard u ls m x)) f
+  var-length e f = past-literal e ∙ ap (λ (t : Bool). t && (codeFits (u .n) z c && settledCard u ls m x)) f
 
-  past-length : fromLiteral ≡ true → lValidFits ls x z ≡ true → varFits u ls m x ≡ (codeFits (u .n) z c && saturatedCard u ls m x)
-  past-length e f = past-literal e ∙ ap (λ (t : Bool). t && (codeFits (u .n) z c && saturatedCard u ls m x)) f
+  past-length : fromLiteral ≡ true → lValidFits ls x z ≡ true → varFits u ls m x ≡ (codeFits (u .n) z c && settledCard u ls m x)
+  past-length e f = past-literal e ∙ ap (λ (t : Bool). t && (codeFits (u .n) z c && settledCard u ls m x)) f
 
   pub var-code : fromLiteral ≡ true → lValidFits ls x z ≡ true → codeFits (u .n) z c ≡ false → varFits u ls m x ≡ false
-  var-code e f g = past-length e f ∙ ap (λ (t : Bool). t && saturatedCard u ls m x) g
+  var-code e f g = past-length e f ∙ ap (λ (t : Bool). t && settledCard u ls m x) g
 
-  pub var-card : fromLiteral ≡ true → lValidFits ls x z ≡ true → codeFits (u .n) z c ≡ true → varFits u ls m x ≡ saturatedCard u ls m x
-  var-card e f g = past-length e f ∙ ap (λ (t : Bool). t && saturatedCard u ls m x) g
+  pub var-card : fromLiteral ≡ true → lValidFits ls x z ≡ true → codeFits (u .n) z c ≡ true → varFits u ls m x ≡ settledCard u ls m x
+  var-card e f g = past-length e f ∙ ap (λ (t : Bool). t && settledCard u ls m x) g
 
 -- ---- S-Conf
 

@@ -1,4 +1,4 @@
-pub mod Saturation
+pub mod Settling
 pub mod Signed
 pub mod Laws
 pub mod Pairs

@@ -18,7 +18,7 @@ use Rattle.calculus.specs.Classes.{label, sameClass}
 use Rattle.calculus.specs.Model.{modelValue}
 use Rattle.calculus.proofs.LinearForms.{eqℤ→, →eqℤ}
 use Rattle.leaf.specs.Values.{varFits, pairBy, pairFits, byEarlier}
-use Rattle.leaf.proofs.Saturation.{byValues}
+use Rattle.leaf.proofs.Settling.{byValues}
 
 equal-swap : (a b : ℤ) → T (eqℤ a b) → T (eqℤ b a)
 equal-swap a b t = →eqℤ (sym (eqℤ→ a b t))

@@ -1,11 +1,12 @@
 -- What the machine tells of signed numbers.
 use mathlib.Core.Path.{_≡_, refl, sym, _∙_, ap, ap₂}
-use mathlib.Core.Bool.{Bool, true, false}
+use mathlib.Core.Bool.{Bool, true, false, not}
 use Prim.Native.Nat.{ℕ, suc, _-_, _^_}
 use native.Mathlib.Omega.{arith}
-use borrow.Author.Tests.{eqb-true, eqb-false, eq-eqb, ne-eqb}
-use lib.Dec.{eqb}
+use borrow.Author.Tests.{eqb-true, eqb-false, eq-eqb, ne-eqb, le-leb, lt-leb, ltb-true, ltb-false}
+use lib.Dec.{eqb, leb, ltb}
 use lib.IntN.{ℤ, pos, negsuc, _-ℤ_}
+use lib.Signed.{leZ, ltZ}
 use mir.Syntax.{w64}
 use mir.Val.{SFits, toZ, ofZ}
 use mir.Facts.{toZ-ofZ}
@@ -31,3 +32,18 @@ equal-read r a b f g h = h ∙ ap₂ eqℤ (toZ-ofZ f) (toZ-ofZ g)
 -- −1−z of a negative number
 pub rest-is : (z : ℤ) → SFits w64 z → (k : ℕ) → z ≡ negsuc k → toZ w64 (ofZ w64 (negsuc 0 -ℤ toZ w64 (ofZ w64 z))) ≡ pos k
 rest-is z f k e = toZ-ofZ (rest-fits z f) ∙ ap (λ (y : ℤ). negsuc 0 -ℤ y) (toZ-ofZ f ∙ e) ∙ flip (negsuc k)
+
+-- at most, by the test of greater
+pub at-most : (x y : ℤ) → leZ x y ≡ not (ltZ y x)
+at-most (pos m) (pos n) = go (ltb n m) refl
+  where
+    go : (t : Bool) → ltb n m ≡ t → leb m n ≡ not (ltb n m)
+    go true e = lt-leb m n (ltb-true n m e) ∙ sym (ap not e)
+    go false e = le-leb m n (ltb-false n m e) ∙ sym (ap not e)
+at-most (pos m) (negsuc n) = refl
+at-most (negsuc m) (pos n) = refl
+at-most (negsuc m) (negsuc n) = go (ltb m n) refl
+  where
+    go : (t : Bool) → ltb m n ≡ t → leb n m ≡ not (ltb m n)
+    go true e = lt-leb n m (ltb-true m n e) ∙ sym (ap not e)
+    go false e = le-leb n m (ltb-false m n e) ∙ sym (ap not e)

@@ -2,9 +2,10 @@
 use Prim.Native.Nat.{ℕ, _≤_, _<_}
 use mathlib.Core.List.{List}
 use lib.ListN.{length}
-use lib.IntN.{ℤ}
-use Rattle.calculus.specs.Limits.{variableLimit}
-use Rattle.calculus.specs.Facts.{columnCount}
+use lib.IntN.{ℤ, natAbs}
+use Rattle.calculus.specs.Limits.{variableLimit, lengthLimit}
+use Rattle.calculus.specs.Facts.{Question, columnCount, len}
+use Rattle.calculus.specs.Model.{modelValue}
 use Rattle.format.specs.Places.{literalsFrom}
 use Rattle.records.specs.Placed.{Placed}
 use Rattle.question.specs.declared.Progress.{Progress}
@@ -26,3 +27,7 @@ pub record LeafReady (b places : List ℕ) (m : List ℤ) (s : Progress) : Type 
   pub posed : Posed b s
   pub literals : LiteralsAt b places s
   pub columns : columnCount (numbered s) ≤ length m
+
+-- every length is the size of a string of at most 64 characters
+abbrev pub ShortSizes : Question → List ℤ → Type 0
+ShortSizes u m = (x : ℕ) → x < u .p → natAbs (modelValue u m len x) ≤ lengthLimit

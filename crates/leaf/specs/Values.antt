@@ -1,4 +1,4 @@
--- Saturation by values: the tests of rules 6 to 11 on lengths and codes, which the code runs. Card's is that of the calculus, by `roomy`.
+-- Settled leaves by values: the tests of rules 6 to 11 on lengths and codes, which the code runs. Card's is that of the calculus, by `roomy`.
 use Prim.Native.Nat.{ℕ}
 use mathlib.Core.Bool.{Bool, true, false, not, _&&_, _||_}
 use mathlib.Core.Option.{Option, none, some}
@@ -15,7 +15,7 @@ use Rattle.calculus.specs.Chains.{varNode, litNode}
 use Rattle.calculus.specs.Classes.{sameClass, literalIn}
 use Rattle.calculus.specs.Rules.{leastPower}
 use Rattle.calculus.specs.Model.{modelValue}
-use Rattle.calculus.specs.SaturationTest.{saturatedCard}
+use Rattle.calculus.specs.SettledTest.{settledCard}
 
 -- z and c are a text's length and code
 unfoldable pub textFits : List ℕ → ℤ → ℤ → Bool
@@ -53,7 +53,7 @@ varFits u ls m x =
     literalFits u (literalIn u ls x) (modelValue u m len x) (modelValue u m code x)
     && (lValidFits ls x (modelValue u m len x)
     && (codeFits (u .n) (modelValue u m len x) (modelValue u m code x)
-    && saturatedCard u ls m x))
+    && settledCard u ls m x))
 
 -- S-Prop for lengths z, w and codes c, d of one class, C-Inj for those of two
 unfoldable pub pairBy : Bool → ℤ → ℤ → ℤ → ℤ → Bool

@@ -1,4 +1,4 @@
-// The leaf: whether its model saturates it (document 01: "settled"), and whether a length passes 64. A leaf is held as its question's numbers and the labels of its
+// The leaf: whether its model settles it (document 01: "settled"), and whether a length passes 64. A leaf is held as its question's numbers and the labels of its
 // nodes; what does not read the literals is said of the question by its numbers alone.
 ghost use mathlib.Core.Path.{_≡_};
 ghost use mathlib.Core.Bool.{true, false, cond, _&&_};
@@ -12,8 +12,8 @@ ghost use Rattle.calculus.specs.LinearForms.{eqℤ};
 ghost use Rattle.calculus.specs.Classes as classes;
 ghost use Rattle.calculus.specs.Classes.{nodeCount, literalIn};
 ghost use Rattle.calculus.specs.Model.{modelValue};
-ghost use Rattle.calculus.specs.SaturationTest as test;
-ghost use Rattle.calculus.specs.SaturationTest.{lowestVariable, lowestOfLength, saturatedCard};
+ghost use Rattle.calculus.specs.SettledTest as test;
+ghost use Rattle.calculus.specs.SettledTest.{lowestVariable, lowestOfLength, settledCard};
 ghost use Rattle.format.specs.Fields.{u32s};
 ghost use Rattle.format.specs.StepForms.{functionOf};
 ghost use Rattle.format.specs.Checking.{shortLengths};
@@ -172,7 +172,7 @@ fn has_room(n: usize, k: usize, size: usize) -> bool
 // Card for the length of variable x. It has at most p classes, which are counted only where there is no room for p strings.
 fn card_fits(model: &[i64], s: Progress, labels: &[u8], x: usize) -> bool
     requires { ⌜ Modelled (now model) s × (length (now labels) ≡ nodeCount) × (s .n ≤ alphabetLimit) × (x < s .p) ⌝ }
-    ensures { λ r. ⌜ r ≡ saturatedCard (numbered s) (now (labels .entry)) (now (model .entry)) x ⌝ }
+    ensures { λ r. ⌜ r ≡ settledCard (numbered s) (now (labels .entry)) (now (model .entry)) x ⌝ }
 {
     let len = value_of(model, s, LEN, x);
     let size = magnitude(len);
@@ -301,7 +301,7 @@ fn every_fits(ticket: &[u8], places: &[usize], model: &[i64], s: Progress, label
 }
 
 // "A leaf is settled by its model if S-Conf does not fit and, for every choice of operands whose premise holds in rules 6 to 12, some child holds already".
-pub fn saturated(
+pub fn settled(
     ticket: &[u8],
     places: &[usize],
     work: &[i64],
@@ -312,7 +312,7 @@ pub fn saturated(
 ) -> bool
     requires { ⌜ LeafReady (now ticket) (now places) (now model) s × (count ≤ factLimit) × (rowLength * count ≤ length (now work)) × (length (now labels) ≡ nodeCount) ⌝ }
     requires { ⌜ now labels ≡ classes.labels (branchOf (now work) count) ⌝ }
-    ensures { λ r. ⌜ r ≡ test.saturated (asked (now (ticket .entry)) s) (branchOf (now (work .entry)) count) (now (model .entry)) ⌝ }
+    ensures { λ r. ⌜ r ≡ test.settled (asked (now (ticket .entry)) s) (branchOf (now (work .entry)) count) (now (model .entry)) ⌝ }
 {
     if classes::conflict(work, count, labels, s.literals + 1) {
         return false;
@@ -328,7 +328,7 @@ pub fn short_lengths(model: &[i64], s: Progress) -> bool
     let mut x = 0;
     while x < s.p {
         let len = value_of(model, s, LEN, x);
-        if magnitude(len) > LENGTH_LIMIT {
+        if len > LENGTH_LIMIT as i64 {
             return false;
         }
         x += 1;

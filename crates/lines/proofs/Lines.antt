@@ -13,7 +13,8 @@ use Rattle.format.specs.Fields.{u32, u32s, i32s, i32, signed}
 use Rattle.format.specs.Records.{size, kind, next, whole, records}
 use Rattle.format.proofs.Fields.{length-u32s}
 use Rattle.format.proofs.Records.{records-none, records-more}
-use Rattle.lines.specs.Lines.{digits, decimal, integer, spaced, stringLine, integerLine, integerLines, endLine, recordLines}
+use Rattle.lines.specs.Lines.{digits, decimal, integer, spaced, stringLine, integerLine, integerLines, endLine}
+use Rattle.lines.specs.Buffers.{recordLines}
 
 -- ---- numbers
 

@@ -1,3 +1,4 @@
 pub mod Lines
 pub mod Put
+pub mod Buffers
 pub mod Reports

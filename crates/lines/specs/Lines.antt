@@ -3,11 +3,9 @@ use Prim.Native.Nat.{ℕ, zero, suc, _+_, _/_, _%_}
 use mathlib.Core.Bool.{true, false}
 use mathlib.Core.List.{List, [], _∷_, _++_}
 use lib.ListN.{length}
-use lib.Dec.{ltb, eqb}
+use lib.Dec.{ltb}
 use lib.IntN.{ℤ, pos, negsuc}
-use Rattle.format.specs.Fields.{i32s}
-use Rattle.format.specs.Records.{size, kind, whole}
-use Rattle.format.specs.Places.{textAt}
+use Rattle.calculus.specs.Meaning.{Assignment}
 
 -- ---- numbers
 
@@ -63,14 +61,11 @@ endLine = 101 ∷ 110 ∷ 100 ∷ 10 ∷ []
 
 -- ---- the answer
 
--- of the answer's records left, by their positions, the first of which has number k: "one record of kind 9 for each string variable ..,
--- one of kind 10 (q i32 values), one of kind 8"
-unfoldable pub recordLines : List ℕ → ℕ → List ℕ → List ℕ
-recordLines b k [] = endLine
-recordLines b k (at ∷ ats) = elim (whole b at) [
-  | false ↦ endLine
-  | true ↦ elim (eqb (kind b at) 9) [
-    | true ↦ stringLine k (textAt b at) ++ recordLines b (suc k) ats
-    | false ↦ integerLines 0 (i32s b (at + 6) (size b at / 4)) ++ endLine
-  ]
-]
+-- of the strings left, the first of which has number k
+unfoldable pub stringLines : ℕ → List (List ℕ) → List ℕ
+stringLines k [] = []
+stringLines k (s ∷ ss) = stringLine k s ++ stringLines (suc k) ss
+
+-- the strings, "Integers follow strings", and the end
+abbrev pub answerLines : Assignment → List ℕ
+answerLines a = stringLines 0 (a .strs) ++ (integerLines 0 (a .ints) ++ endLine)

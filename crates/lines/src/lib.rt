@@ -5,8 +5,9 @@ ghost use Prim.Native.Nat.{_+_, _*_, _≤_, _<_};
 ghost use lib.ListN.{length};
 ghost use Rattle.format.specs.Fields.{u32s, i32s, signed};
 ghost use Rattle.format.specs.Records.{records};
-ghost use Rattle.lines.specs.Lines.{digits, decimal, integer, spaced, refusedLine, stringLine, integerLine, integerLines, endLine, recordLines};
-ghost use Rattle.lines.specs.Reports.{linesBy, Reports};
+ghost use Rattle.lines.specs.Lines.{digits, decimal, integer, spaced, refusedLine, stringLine, integerLine, integerLines, endLine};
+ghost use Rattle.lines.specs.Buffers.{recordLines, linesBy};
+ghost use Rattle.lines.specs.Reports.{Reports};
 ghost use Rattle.lines.specs.Put.{Put};
 use checking::check_ticket;
 use deciding::Outcome;
@@ -227,9 +228,9 @@ fn put_lines(out: &mut [u8], outcome: Outcome, answer: &[u8]) -> usize
     }
 }
 
-// What the program prints for a ticket, and how many bytes of it.
+// What the program prints for a ticket, and how many bytes of it. The rest of the buffer is left as it was.
 pub fn report(ticket: &[u8], out: &mut [u8; REPORT_BYTES]) -> usize
-    ensures { λ r. ⌜ Reports (now (ticket .entry)) (now (out .exit)) r ⌝ }
+    ensures { λ r. ⌜ Reports (now (ticket .entry)) (now (out .entry)) (now (out .exit)) r ⌝ }
 {
     let mut work = [0i64; WORK_NUMBERS];
     let mut answer = [0u8; ANSWER_BYTES];

@@ -21,9 +21,10 @@ use Rattle.rows.proofs.Values.{within-filled}
 use Rattle.question.specs.declared.Progress.{Progress}
 use Rattle.question.specs.Posed.{asked, numbered, Posed}
 use Rattle.leaf.specs.Leaf.{LiteralsAt, LeafReady}
+use Rattle.leaf.proofs.Settling.{settled-short}
 use Rattle.model.specs.Settled.{values, Filled, Answers}
 use Rattle.delimiters.proofs.Models.{model-tests}
-use Rattle.model.proofs.Tested.{lengths-pass}
+use Rattle.model.proofs.Tested.{leaf-passes}
 
 -- ---- the model m, as 48 numbers
 
@@ -90,6 +91,6 @@ module _ (b places : List ℕ) (s : Progress) (h : Posed b s) (p : LiteralsAt b 
         writable = record {
           ready = columns-ready held (held-filled .all);
           small = columns-small s m held (few-columns b s h) long e small;
-          short-lengths = lengths-pass (asked b s) br (values s held) (sym tested ∙ z);
+          short-sizes = let (is-settled, short) = leaf-passes (asked b s) br (values s held) (sym tested ∙ z) in settled-short (asked b s) br (values s held) is-settled short;
         };
       }

@@ -1,7 +1,6 @@
 -- The model as the code holds it, and what the answer needs of it and of the leaf.
 use Prim.Native.Nat.{_-_, ℕ}
 use mathlib.Core.Path.{_≡_}
-use mathlib.Core.Bool.{true}
 use mathlib.Core.List.{List, _++_}
 use lib.ListN.{length, take}
 use lib.IntN.{ℤ}
@@ -10,11 +9,11 @@ use Rattle.calculus.specs.LinearForms.{zeros}
 use Rattle.calculus.specs.Facts.{Branch, columnCount}
 use Rattle.calculus.specs.Classes.{labels}
 use Rattle.format.specs.Reading.{modelAt, modelFault}
-use Rattle.format.specs.Checking.{leafFault, shortLengths}
+use Rattle.format.specs.Checking.{leafFault}
 use Rattle.rows.specs.Work.{Within}
 use Rattle.question.specs.declared.Progress.{Progress}
 use Rattle.question.specs.Posed.{asked, numbered}
-use Rattle.leaf.specs.Leaf.{LeafReady}
+use Rattle.leaf.specs.Leaf.{LeafReady, ShortSizes}
 
 -- the numbers of the question's columns
 abbrev pub values : Progress → List ℤ → List ℤ
@@ -37,7 +36,7 @@ pub record Filled (m : List ℤ) (s : Progress) : Type 0 where
 pub record Writable (b places : List ℕ) (s : Progress) (held : List ℤ) : Type 0 where
   pub ready : LeafReady b places (values s held) s
   pub small : Within valueLimit (values s held)
-  pub short-lengths : shortLengths (asked b s) (values s held) ≡ true
+  pub short-sizes : ShortSizes (asked b s) (values s held)
 
 -- the numbers held are the model m, and ls the labels of the leaf br
 pub record Answers (b places : List ℕ) (s : Progress) (br : Branch) (m : List ℤ) (ls : List ℕ) (held : List ℤ) : Type 0 where

@@ -9,7 +9,6 @@ ghost use Rattle.calculus.specs.LinearForms.{zeros};
 ghost use Rattle.calculus.specs.Facts.{Branch};
 ghost use Rattle.calculus.specs.Classes as calculus;
 ghost use Rattle.format.specs.Fields.{i32s};
-ghost use Rattle.format.specs.Answer.{encode};
 ghost use Rattle.format.specs.Checking.{Strings, leafFault, answerOf};
 ghost use Rattle.format.specs.Demands.{answerAfter};
 ghost use Rattle.rows.specs.Rows.{branchOf};
@@ -61,7 +60,7 @@ fn leaf_fault(
     }
     let columns = s.q + (s.p + s.p);
     let values = &model[..columns];
-    if !leaf::saturated(ticket, places, work, count, values, s, &labels) {
+    if !leaf::settled(ticket, places, work, count, values, s, &labels) {
         return 13;
     }
     if !leaf::short_lengths(values, s) {
@@ -117,7 +116,7 @@ pub fn write(
 )
     requires { ⌜ Writable (now ticket) (now places) s (now model) × (length (now labels) ≡ calculus.nodeCount) × (answerBytes ≤ length (now answer)) ⌝ }
     ensures { λ _. ⌜ ((br : Branch) (m : List ℤ) → Answers (now (ticket .entry)) (now (places .entry)) s br m (now (labels .entry)) (now (model .entry))
-        → now (answer .exit) ≡ answerAfter (Strings (encode (answerOf (asked (now (ticket .entry)) s) br m))) (now (answer .entry))) ⌝ }
+        → now (answer .exit) ≡ answerAfter (Strings (answerOf (asked (now (ticket .entry)) s) br m)) (now (answer .entry))) ⌝ }
 {
     let columns = s.q + (s.p + s.p);
     let values = &model[..columns];

@@ -10,8 +10,9 @@ use Rattle.calculus.specs.Steps.{Step, shape}
 use Rattle.calculus.specs.Walk.{Walk, working, closed, enter}
 use Rattle.calculus.proofs.Shapes.{shape-small}
 use Rattle.calculus.proofs.Everywhere.{Everywhere, enter-everywhere, ahead-map, splitsOf, enter-few}
+use Rattle.format.specs.ProperForm.{byShape}
 use Rattle.format.specs.Reading.{State, proving, taking, modelled, stepped}
-use Rattle.format.specs.Needs.{pendingIn, needing}
+use Rattle.format.specs.Needs.{pendingIn}
 use Rattle.needs.proofs.Stacks.{taken-small}
 
 abbrev pub Low : ℕ → State ℕ ℕ → Type 0
@@ -19,7 +20,7 @@ Low i (proving k) = Everywhere _+_ (λ b. b ≤ i) k
 Low i (taking br) = br ≤ i
 Low i (modelled br m) = Unit {0}
 
-pub low-stepped : (u : Question) (i j : ℕ) (s : State ℕ ℕ) (t : Step × ℕ) → i + 3 ≤ j → Low i s → Low j (stepped (needing u) s t)
+pub low-stepped : (u : Question) (i j : ℕ) (s : State ℕ ℕ) (t : Step × ℕ) → i + 3 ≤ j → Low i s → Low j (stepped (byShape u) s t)
 low-stepped u i j (proving (working br ss)) t h (l, hs) =
     enter-everywhere _+_ (λ b. b ≤ j) br (shape (u .n) (t .0)) ss (all-map (shape (u .n) (t .0)) (λ c k. omega arith) (shape-small (u .n) (t .0)))
     (ahead-map _+_ (λ b. b ≤ i) (λ b. b ≤ j) (λ b k. omega arith) ss hs)
@@ -33,7 +34,7 @@ pending-is : (k : Walk ℕ ℕ) → pendingIn (proving k) ≡ length (splitsOf _
 pending-is (working b ss) = refl
 pending-is closed = refl
 
-pub one-pends : (u : Question) (s : State ℕ ℕ) (t : Step × ℕ) → pendingIn (stepped (needing u) s t) ≤ suc (pendingIn s)
+pub one-pends : (u : Question) (s : State ℕ ℕ) (t : Step × ℕ) → pendingIn (stepped (byShape u) s t) ≤ suc (pendingIn s)
 one-pends u (proving (working br ss)) t =
     let cs : List ℕ = shape (u .n) (t .0) in
     omega (arith, pending-is (enter _+_ br cs ss), enter-few _+_ (suc (length ss)) br cs ss (omega arith) (λ k. omega arith))

@@ -12,9 +12,10 @@ use Rattle.calculus.specs.Limits.{ticketBytes}
 use Rattle.calculus.specs.Walk.{Waiting}
 use Rattle.format.specs.Records.{kind, next}
 use Rattle.format.specs.StepForms.{formFor, rule}
+use Rattle.format.specs.ProperForm.{byShape}
 use Rattle.format.specs.Reading.{State, taking, stepped, stepWithChild, fault}
 use Rattle.format.specs.Needs as format
-use Rattle.format.specs.Needs.{factsIn, pendingIn, needing, Refused}
+use Rattle.format.specs.Needs.{complete, factsIn, pendingIn}
 use Rattle.format.specs.Places.{constraintsFrom}
 use Rattle.format.proofs.Decoded.{at-least}
 use Rattle.format.proofs.Faults.{not-both}
@@ -24,6 +25,7 @@ use Rattle.question.specs.Posed.{asked}
 use Rattle.delimiters.specs.declared.Claim.{Claim}
 use Rattle.delimiters.specs.declared.Claim.the-variants.{NoSolution, Strings}
 use Rattle.delimiters.specs.Claims.{openUnder, endsAt}
+use Rattle.delimiters.proofs.Open.{openNumber}
 use Rattle.steps.proofs.Table.{least-four}
 use Rattle.steps.proofs.Numbers.{triedBy}
 use Rattle.needs.specs.declared.Entered.{Entered}
@@ -34,13 +36,17 @@ use Rattle.needs.specs.Pending.{pendingOf, deepest, Lent}
 use Rattle.needs.specs.Steps.{Fit, stateOf, Enters}
 use Rattle.needs.specs.Outcomes.{reportIs, withState, withStep, nothingMet, needFrom, needStarted, Within, WalksTo}
 use Rattle.needs.proofs.Low.{Low, low-stepped, one-pends}
-use Rattle.needs.proofs.Reports.{from-none, from-faulty, from-met, from-stepped}
+use Rattle.needs.proofs.Reports.{from-none, from-open, from-met, from-stepped}
 
 -- ---- where a branch is open
 
 open-facts : (claim : Claim) (f : ℕ) (ss : List (Waiting ℕ ℕ)) → factsIn (λ k. k) (openUnder claim f ss) ≡ f
 open-facts NoSolution f ss = refl
 open-facts Strings f ss = refl
+
+still-open : (claim : Claim) (f : ℕ) (ss : List (Waiting ℕ ℕ)) → complete (openUnder claim f ss) ≡ false
+still-open NoSolution f ss = refl
+still-open Strings f ss = refl
 
 open-low : (claim : Claim) (i f : ℕ) (ss : List (Waiting ℕ ℕ)) → Low i (openUnder claim f ss) → f ≤ i
 open-low NoSolution i f ss h = h .0
@@ -55,7 +61,7 @@ first-depth NoSolution f = refl
 first-depth Strings f = refl
 
 -- a step is taken as if it fitted: none of 8 to 10
-pub none-tried : (claim : Claim) (b : List ℕ) (s : Progress) (f : ℕ) (ss : List (Waiting ℕ ℕ)) (body m : ℕ) → triedBy (needing (asked b s)) claim b f ss body m ≡ 0
+pub none-tried : (claim : Claim) (b : List ℕ) (s : Progress) (f : ℕ) (ss : List (Waiting ℕ ℕ)) (body m : ℕ) → triedBy (byShape (asked b s)) claim b f ss body m ≡ 0
 none-tried NoSolution b s f ss body m = refl
 none-tried Strings b s f ss body m = refl
 
@@ -120,11 +126,12 @@ module _ (b : List ℕ) (s : Progress) where
 
     pub going-refused : next b i ≤ length b
         → (c : ℕ)
-        → c ≡ fault (needing (asked b s)) b (asked b s) (standsAt claim ms es ls f d) i
+        → c ≡ openNumber (byShape (asked b s)) b (asked b s) (standsAt claim ms es ls f d) i
         → (c ≡ 0 → ⊥)
         → WalksTo b s n (walked.the-variants.Refused c k)
     unfolding WalksTo
-    going-refused h c q z = sym (from-faulty b (asked b s) (standsAt claim ms es ls f d) (reportIs r) k i h c q z) ∙ g .rest
+    going-refused h c q z =
+        sym (from-open b (asked b s) (standsAt claim ms es ls f d) (reportIs r) k i (still-open claim f (pendingOf ms es ls d)) h c q z) ∙ g .rest
 
     pub going-model : (at₀ r₀ j : ℕ) → Within b s at₀ r₀ → at₀ ≤ i → endsAt claim j ≡ true → j ≡ kind b i → next b i ≤ length b
         → WalksTo b s n (walked.the-variants.Model i k m)
@@ -151,12 +158,12 @@ module _ (b : List ℕ) (s : Progress) where
     -- ---- a step
 
     module _ (z : ℕ) (fit : Fit claim b s i z) (w : next b i ≤ length b) (k6 : kind b i ≡ 6)
-        (clean : fault (needing (asked b s)) b (asked b s) (standsAt claim ms es ls f d) i ≡ 0) (m' : code.Report) (e' : reportIs m' ≡ withStep (reportIs m)) where
+        (clean : fault (byShape (asked b s)) b (asked b s) (standsAt claim ms es ls f d) i ≡ 0) (m' : code.Report) (e' : reportIs m' ≡ withStep (reportIs m)) where
       -- a step takes ten bytes at least
       ten : i + 10 ≤ i + 6 + z
       ten = let r = rule b (i + 6) in omega (arith, at-least (formFor r) z (fit .formed .fits), least-four r)
 
-      onward : needFrom b (asked b s) (stepped (needing (asked b s)) (standsAt claim ms es ls f d) (stepWithChild b i)) (reportIs m') (k + 1) (i + 6 + z) ≡ n
+      onward : needFrom b (asked b s) (stepped (byShape (asked b s)) (standsAt claim ms es ls f d) (stepWithChild b i)) (reportIs m') (k + 1) (i + 6 + z) ≡ n
       onward =
           ap (λ (x : format.Report). needFrom b (asked b s) next-state x (k + 1) (i + 6 + z)) e'
           ∙ ap₂ (λ l q. needFrom b (asked b s) next-state (withStep (reportIs m)) q (i + 6 + l)) (fit .sized) (add-one k)
@@ -165,7 +172,7 @@ module _ (b : List ℕ) (s : Progress) where
           ∙ met-rest
         where
           next-state : State ℕ ℕ
-          next-state = stepped (needing (asked b s)) (standsAt claim ms es ls f d) (stepWithChild b i)
+          next-state = stepped (byShape (asked b s)) (standsAt claim ms es ls f d) (stepWithChild b i)
 
       pub going-closed : (ms' es' ls' : List ℕ) (x : Entered) → Enters claim b s i f (pendingOf ms es ls d) ms' es' ls' x → x ≡ Closed
           → WalksTo b s n (walked.the-variants.Closed (i + 6 + z) (k + 1) m')
@@ -191,7 +198,7 @@ module _ (b : List ℕ) (s : Progress) where
             rest = ap (λ (st : State ℕ ℕ). needFrom b (asked b s) st (reportIs m') (k + 1) (i + 6 + z)) state ∙ onward;
           }
         where
-          opened : (standsAt claim ms' es' ls' f' d' ≡ stepped (needing (asked b s)) (standsAt claim ms es ls f d) (stepWithChild b i))
+          opened : (standsAt claim ms' es' ls' f' d' ≡ stepped (byShape (asked b s)) (standsAt claim ms es ls f d) (stepWithChild b i))
               × (pendingIn (standsAt claim ms' es' ls' f' d') ≡ d')
           opened = let y = subst (Enters claim b s i f (pendingOf ms es ls d) ms' es' ls') q h in (y .state, y .depth)
 

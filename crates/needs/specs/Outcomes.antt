@@ -8,9 +8,9 @@ use Rattle.calculus.specs.Facts.{Question}
 use Rattle.calculus.specs.Walk.{closed}
 use Rattle.format.specs.Records.{kind, next, records}
 use Rattle.format.specs.Reading.{State, proving, taking, stepsOn, claimAt, begin, readClaim}
-use Rattle.format.specs.ProperForm.{stepsAt}
+use Rattle.format.specs.ProperForm.{byShape, stepsAt}
 use Rattle.format.specs.Needs as format
-use Rattle.format.specs.Needs.{report, needing, needBy}
+use Rattle.format.specs.Needs.{report, needBy}
 use Rattle.question.specs.declared.Progress.{Progress}
 use Rattle.question.specs.Progress.{progressOf}
 use Rattle.question.specs.Posed.{asked}
@@ -26,7 +26,7 @@ abbrev pub reportIs : Report → format.Report
 reportIs r = record { steps = r .steps; facts = r .facts; pending = r .pending }
 
 abbrev pub needOf : Need → format.Need
-needOf (Refused c r) = format.Refused c r
+needOf (Refused c r) = format.NeedRefused c r
 needOf (Needs r) = format.Needs (reportIs r)
 
 -- ---- a walk on its way
@@ -48,7 +48,7 @@ nothingMet = record { steps = 0; facts = 0; pending = 0 }
 
 -- what a ticket with the question u needs, where the walk stands in a state before record r at a position, with the report m of its way there
 unfoldable pub needFrom : List ℕ → Question → State ℕ ℕ → format.Report → ℕ → ℕ → format.Need
-needFrom b u st m r at = needBy (λ _. joined m (report (λ k. k) (needing u) st (stepsAt b (records b at)))) (stepsOn (needing u) b u st r at)
+needFrom b u st m r at = needBy (λ _. joined m (report (λ k. k) (byShape u) st (stepsAt b (records b at)))) (stepsOn (byShape u) b u st r at)
 
 -- where it begins under a claim
 abbrev pub needStarted : Claim → List ℕ → Progress → ℕ → ℕ → format.Need
@@ -77,7 +77,7 @@ pub record AtModel (b : List ℕ) (s : Progress) (n : format.Need) (at r : ℕ) 
 
 -- n is what the ticket needs, by where the walk came to
 unfoldable pub WalksTo : List ℕ → Progress → format.Need → Walked → Type 0
-WalksTo b s n (walked.the-variants.Refused c r) = format.Refused c r ≡ n
+WalksTo b s n (walked.the-variants.Refused c r) = format.NeedRefused c r ≡ n
 WalksTo b s n (walked.the-variants.Closed at r m) = needFrom b (asked b s) (proving closed) (reportIs m) r at ≡ n
 WalksTo b s n (walked.the-variants.Model at r m) = AtModel b s n at r (reportIs m)
 
@@ -86,4 +86,4 @@ WalksTo b s n (walked.the-variants.Model at r m) = AtModel b s n at r (reportIs 
 -- at the claim
 abbrev pub needClaimed : List ℕ → Progress → ℕ → ℕ → format.Need
 needClaimed b s at r =
-    needBy (λ v. report (λ k. k) (needing v) (begin (needing v) (claimAt b at)) (stepsAt b (records b (next b at)))) (readClaim needing b (progressOf b s) at r)
+    needBy (λ v. report (λ k. k) (byShape v) (begin (byShape v) (claimAt b at)) (stepsAt b (records b (next b at)))) (readClaim byShape b (progressOf b s) at r)

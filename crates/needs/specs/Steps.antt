@@ -5,8 +5,9 @@ use mathlib.Core.Bool.{true}
 use mathlib.Core.List.{List}
 use Rattle.calculus.specs.Walk.{Waiting, closed}
 use Rattle.format.specs.Records.{size}
+use Rattle.format.specs.ProperForm.{byShape}
 use Rattle.format.specs.Reading.{State, proving, stepped, stepWithChild}
-use Rattle.format.specs.Needs.{pendingIn, needing}
+use Rattle.format.specs.Needs.{pendingIn}
 use Rattle.question.specs.declared.Progress.{Progress}
 use Rattle.question.specs.Posed.{asked}
 use Rattle.delimiters.specs.declared.Claim.{Claim}
@@ -34,5 +35,5 @@ depthOf (Open facts depth) = depth
 
 -- the step at a position is taken on a branch of so many facts, where the splits ss are pending under claim 1
 pub record Enters (claim : Claim) (b : List ℕ) (s : Progress) (at facts : ℕ) (ss : List (Waiting ℕ ℕ)) (marks each left : List ℕ) (r : Entered) : Type 0 where
-  pub state : stateOf claim marks each left r ≡ stepped (needing (asked b s)) (openUnder claim facts ss) (stepWithChild b at)
+  pub state : stateOf claim marks each left r ≡ stepped (byShape (asked b s)) (openUnder claim facts ss) (stepWithChild b at)
   pub depth : pendingIn (stateOf claim marks each left r) ≡ depthOf r

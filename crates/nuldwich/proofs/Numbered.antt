@@ -8,12 +8,12 @@ use Rattle.calculus.specs.Limits.{workNumbers}
 use Rattle.format.specs.Checking as format
 use Rattle.format.specs.Checking.{verdict}
 use Rattle.format.specs.Cores.{word, coreOf}
-use Rattle.format.specs.Demands.{written}
+use Rattle.format.specs.Demands.{answerWritten}
 use Rattle.deciding.specs.declared.Outcome.{Outcome}
 use Rattle.deciding.specs.declared.Outcome.the-variants.{Refused, NoSolution, Strings}
 use Rattle.deciding.specs.Outcomes.{told}
 use Rattle.checking.specs.Outcomes.{Promised}
-use Rattle.format.specs.Judging.{Judging, said, shownBy, bySide}
+use Rattle.format.specs.Judging.{Submission, said, shownBy, bySide}
 use Rattle.judging.specs.declared.Finding.{Finding}
 use Rattle.judging.specs.Judgements.{judgementOf, sideOf, Finds}
 use Rattle.nuldwich.specs.declared.JudgementNumbers.{JudgementNumbers}
@@ -22,7 +22,7 @@ use Rattle.nuldwich.specs.Replies.{numbered, judgeReply, checkReply, Che
 
 -- ---- judging
 
-pub judge-reply : {b v : List ℕ} {g : Judging} {f : Finding} {n : JudgementNumbers} {side size : ℕ}
+pub judge-reply : {b v : List ℕ} {g : Submission} {f : Finding} {n : JudgementNumbers} {side size : ℕ}
     → Finds b v g f
     → n ≡ numbered (judgementOf (f .said))
     → side ≡ bySide (sideOf (f .shown .side)) 0 1
@@ -66,5 +66,5 @@ module _ {ticket : List ℕ} {work work' : List ℤ} {answer answer' : List ℕ}
       let outcome : k .outcome ≡ verdict workNumbers (length answer) ticket = k .checked .outcome ∙ ap (λ n. verdict n (length answer) ticket) e in
       record {
         numbered = with-set ∙ ap (λ o. checkReply o (coreOf o ticket)) outcome;
-        answer-after = subst (λ x. answer' ≡ written x ++ drop (length (written x)) answer) outcome (k .checked .answer-after);
+        answer-after = subst (λ x. answer' ≡ answerWritten x ++ drop (length (answerWritten x)) answer) outcome (k .checked .answer-after);
       }

@@ -19,7 +19,7 @@ whichOf First = format.first
 whichOf Second = format.second
 
 abbrev pub samenessOf : Sameness → format.Sameness
-samenessOf (Refused w c r) = format.Refused (whichOf w) c r
+samenessOf (Refused w c r) = format.SameRefused (whichOf w) c r
 samenessOf Same = format.Same
 samenessOf Different = format.Different
 

@@ -275,7 +275,7 @@ fn read_asked(b: &[u8]) -> Asked
 // The second question, compared with the first, which was read.
 fn same_as(b: &[u8], s: Progress, c: &[u8]) -> Sameness
     requires { ⌜ Posed (now b) s ⌝ }
-    ensures { λ r. ⌜ Said (now (c .entry)) (format.Refused format.second)
+    ensures { λ r. ⌜ Said (now (c .entry)) (format.SameRefused format.second)
         (λ v ds. format.foundBy (sameBy agreement (asked (now (b .entry)) s) (extendedAsked (now (b .entry)) s) v ds)) (samenessOf r) ⌝ }
 {
     match read_asked(c) {

@@ -9,7 +9,7 @@ use borrow.Author.Tests.{le-leb}
 use Rattle.calculus.specs.Walk.{Waiting}
 use Rattle.format.specs.Records.{size, kind, next, need}
 use Rattle.format.specs.StepForms.{childField, stepAt}
-use Rattle.format.specs.Reading.{Method, stepFault, fault, endForm}
+use Rattle.format.specs.Reading.{Method, stepFault, fault}
 use Rattle.records.specs.Found.{WholeRecord}
 use Rattle.records.proofs.Finding.{all-there}
 use Rattle.question.specs.declared.Progress.{Progress}
@@ -17,8 +17,8 @@ use Rattle.question.specs.Posed.{asked}
 use Rattle.delimiters.specs.declared.Claim.{Claim}
 use Rattle.delimiters.specs.declared.Claim.the-variants.{NoSolution, Strings}
 use Rattle.delimiters.specs.Claims.{openUnder, endsAt}
-use Rattle.delimiters.specs.Numbers.{openFault}
-use Rattle.delimiters.proofs.Open.{open-form, open-step, at-step}
+use Rattle.delimiters.specs.Numbers.{endForm, openFault}
+use Rattle.delimiters.proofs.Open.{open-form, open-step, at-step, openNumber, no-end}
 use Rattle.steps.specs.Forms.{Formed}
 use Rattle.steps.specs.Faults.{fieldFits}
 use Rattle.steps.proofs.Faults.{applies, neither-applies, formed, child-passed}
@@ -28,11 +28,10 @@ abbrev pub triedBy : {B C : Type 0} → Method B C → Claim → List ℕ → B 
 triedBy w NoSolution b br ss body m = w .splitFault br ss (stepAt b body m)
 triedBy w Strings b br ss body m = w .takenFault br (stepAt b body m) (childField b body)
 
--- on the branch br, where the splits ss are pending under claim 1; the method has 11 for an end there
-module _ {B C : Type 0} (w : Method B C) (b : List ℕ) (s : Progress) (br : B) (ss : List (Waiting B C)) (at : ℕ) (claim : Claim)
-    (unended : w .endFault (openUnder claim br ss) ≡ 11) where
+-- on the branch br, where the splits ss are pending under claim 1
+module _ {B C : Type 0} (w : Method B C) (b : List ℕ) (s : Progress) (br : B) (ss : List (Waiting B C)) (at : ℕ) (claim : Claim) where
   abbrev itsFault : ℕ
-  itsFault = fault w b (asked b s) (openUnder claim br ss) at
+  itsFault = openNumber w b (asked b s) (openUnder claim br ss) at
 
   -- the number of its form, then what is asked next
   abbrev form : ℕ → ℕ → ℕ
@@ -46,16 +45,16 @@ module _ {B C : Type 0} (w : Method B C) (b : List ℕ) (s : Progress) (br : B) 
   no-model false step later = refl
 
   by-claim : endsAt claim (kind b at) ≡ false → next b at ≤ length b → itsFault ≡ openFault (length b) (next b at) (kind b at) (size b at) (form (size b at) tried)
-  unfolding fault asked
-  by-claim e h = go claim unended e
+  unfolding asked
+  by-claim e h = go claim e
     where
-      go : (c : Claim) → w .endFault (openUnder c br ss) ≡ 11 → endsAt c (kind b at) ≡ false
-          → fault w b (asked b s) (openUnder c br ss) at
+      go : (c : Claim) → endsAt c (kind b at) ≡ false
+          → openNumber w b (asked b s) (openUnder c br ss) at
           ≡ openFault (length b) (next b at) (kind b at) (size b at)
           (stepFault b (asked b s) (fieldFits c b (s .n) (at + 6) (size b at)) (triedBy w c b br ss (at + 6) (size b at)) (at + 6) (size b at))
-      go NoSolution x e = rw (le-leb (next b at) (length b) h, x)
-      go Strings x e =
-          rw (le-leb (next b at) (length b) h, x, e)
+      go NoSolution e = rw (le-leb (next b at) (length b) h)
+      go Strings e =
+          rw (le-leb (next b at) (length b) h, e)
           (ap (λ f. cond (eqb (kind b at) 8) (endForm (length b) (next b at) (size b at) 11) f) (no-model (eqb (kind b at) 6) _ 0))
 
   -- a record of kind k with a body of m bytes
@@ -91,8 +90,10 @@ module _ {B C : Type 0} (w : Method B C) (b : List ℕ) (s : Progress) (br : B) 
       pub its-field : fieldFits claim b (s .n) (at + 6) m ≡ true
       its-field = child-passed b (asked b s) (fieldFits claim b (s .n) (at + 6) m) (at + 6) m at-form
 
-      pub its-trial : tried ≡ itsFault
+      -- its number is then that of reading
+      pub its-trial : tried ≡ fault w b (asked b s) (openUnder claim br ss) at
       its-trial =
           neither-applies b (asked b s) (fieldFits claim b (s .n) (at + 6) m) (at + 6) m tried at-form
           ∙ sym (at-step (length b) (at + 6 + m) k m _ step)
           ∙ its-number
+          ∙ no-end w b (asked b s) (openUnder claim br ss) at (ap (λ (j : ℕ). eqb j 8) its-kind)

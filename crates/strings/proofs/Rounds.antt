@@ -4,28 +4,24 @@ use native.Mathlib.Omega.{arith}
 use native.Mathlib.Decide.{ℕ-discrete, decLt}
 use mathlib.Core.Path.{_≡_, refl, sym, _∙_, ap, subst}
 use mathlib.Core.Logic.{_⊎_, inl, inr}
-use mathlib.Core.Bool.{true}
 use mathlib.Core.Option.{Option, none, some}
 use mathlib.Core.List.{List, [], _++_}
 use lib.ListN.{length, getD, set, drop}
 use lib.Seq.{sets, ext-getD, getD-set-same, getD-set-other, take-all}
-use lib.Dec.{leb, leb→le}
 use lib.IntN.{ℤ, natAbs}
 use Rattle.answer.proofs.Written.{length-tables}
 use Rattle.lists.proofs.Options.{some-injective, none-some}
-use Rattle.lists.proofs.Tests.{true→, equal-tests}
+use Rattle.lists.proofs.Tests.{equal-tests}
 use Rattle.lists.proofs.Lists.{In, in-append, in-left, in-right, getD-upTo}
-use Rattle.lists.proofs.Below.{all-below→}
 use Rattle.calculus.specs.Limits.{lengthLimit}
 use Rattle.calculus.specs.Facts.{Question, Branch, len}
 use Rattle.calculus.specs.Classes.{labels}
 use Rattle.calculus.specs.Model.{modelValue}
-use Rattle.calculus.specs.SaturationTest.{lowestVariable}
+use Rattle.calculus.specs.SettledTest.{lowestVariable}
 use Rattle.calculus.specs.Strings.{given, fixedString, fixedStrings, stringsTo, strings}
 use Rattle.calculus.proofs.Lowest.{lowest-le}
 use Rattle.calculus.proofs.Strings.{S, length-strings, strings-at, in-strings→, →in-strings, in-fixed→, →in-fixed, S-fixed, S-copied, S-new}
 use Rattle.calculus.proofs.Words.{given→, →given}
-use Rattle.format.specs.Checking.{shortLengths}
 use Rattle.answer.specs.Table.{row, tableStrings}
 use Rattle.strings.specs.Filling.{stringIn, before, givenStrings, fixedAt, completed}
 use Rattle.strings.proofs.Table.{sized-some, some-sized, stored-there, stored-passed, completed-own, completed-copied, completed-fresh}
@@ -178,7 +174,3 @@ sizes-more sizes x size inside h l y k = go (ℕ-discrete y x)
     go : Dec (y ≡ x) → getD (set sizes x size) y 0 ≤ lengthLimit
     go (yes e) = omega (arith, ap (λ (i : ℕ). getD (set sizes x size) i 0) e, getD-set-same sizes x size 0 inside)
     go (no n) = omega (arith, getD-set-other sizes x y size 0 n, h y (omega arith))
-
-pub short-length : (u : Question) (m : List ℤ) (x : ℕ) → shortLengths u m ≡ true → x < u .p → natAbs (modelValue u m len x) ≤ lengthLimit
-short-length u m x e h =
-    leb→le (natAbs (modelValue u m len x)) lengthLimit (all-below→ (u .p) (λ y. leb (natAbs (modelValue u m len y)) lengthLimit) (true→ e) x h)

@@ -22,7 +22,7 @@ use Rattle.calculus.specs.LinearForms.{eqℤ}
 use Rattle.calculus.specs.Facts.{Question, literal, len, code}
 use Rattle.calculus.specs.Classes.{literalIn}
 use Rattle.calculus.specs.Model.{modelValue}
-use Rattle.calculus.specs.SaturationTest.{lowestVariable}
+use Rattle.calculus.specs.SettledTest.{lowestVariable}
 use Rattle.calculus.specs.Strings.{given, freshFrom, oneChar, fixedBy}
 use Rattle.format.specs.Records.{size}
 use Rattle.answer.specs.Table.{row}

@@ -10,7 +10,7 @@ use Rattle.calculus.specs.Limits.{lengthLimit}
 use Rattle.calculus.specs.Facts.{Question, len, code}
 use Rattle.calculus.specs.Classes.{literalIn}
 use Rattle.calculus.specs.Model.{modelValue}
-use Rattle.calculus.specs.SaturationTest.{lowestVariable}
+use Rattle.calculus.specs.SettledTest.{lowestVariable}
 use Rattle.calculus.specs.Strings.{eqString, freshFrom, fixedBy}
 use Rattle.question.specs.declared.Progress.{Progress}
 use Rattle.question.specs.Posed.{numbered}

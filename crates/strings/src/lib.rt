@@ -1,4 +1,4 @@
-// The strings of a saturated leaf: words in the order of code points, the first that is not given, and the rounds that give each variable its string.
+// The strings of a settled leaf: words in the order of code points, the first that is not given, and the rounds that give each variable its string.
 ghost use mathlib.Core.Path.{_≡_};
 ghost use mathlib.Core.Bool.{true};
 ghost use Prim.Native.Nat.{ℕ, _+_, _*_, _≤_, _<_};
@@ -13,11 +13,10 @@ ghost use Rattle.calculus.specs.Classes.{nodeCount};
 ghost use Rattle.calculus.specs.Model.{modelValue};
 ghost use Rattle.calculus.specs.Strings.{word, eqString, given, freshFrom, oneChar, strings};
 ghost use Rattle.format.specs.Fields.{u32s};
-ghost use Rattle.format.specs.Checking.{shortLengths};
 ghost use Rattle.rows.specs.Work.{Within};
 ghost use Rattle.answer.specs.Table.{row, tableStrings, Table};
 ghost use Rattle.question.specs.Posed.{asked, numbered};
-ghost use Rattle.leaf.specs.Leaf.{Modelled, LeafReady};
+ghost use Rattle.leaf.specs.Leaf.{Modelled, LeafReady, ShortSizes};
 ghost use Rattle.strings.specs.Filling.{sized, stringIn, givenStrings, isIt, fixedAt, completedBy};
 use classes::Lowest;
 use encoding::CODE;
@@ -297,7 +296,7 @@ pub fn give_strings(
 ) -> [usize; VARIABLE_LIMIT]
     requires { ⌜ LeafReady (now ticket) (now places) (now model) s × (length (now labels) ≡ nodeCount) × (lengthLimit * s .p ≤ length (now characters)) ⌝ }
     requires { ⌜ Within valueLimit (now model) ⌝ }
-    requires { ⌜ shortLengths (asked (now ticket) s) (now model) ≡ true ⌝ }
+    requires { ⌜ ShortSizes (asked (now ticket) s) (now model) ⌝ }
     ensures { λ r. ⌜ ((b : Branch) → now (labels .entry) ≡ calculus.labels b
         → tableStrings (now (characters .exit)) r (s .p) ≡ strings (asked (now (ticket .entry)) s) b (now (model .entry))) ⌝ }
     ensures { λ r. ⌜ Table (now (characters .exit)) r (s .p) ⌝ }

@@ -8,7 +8,7 @@ use lib.IntN.{ℤ}
 use lib.ListN.{length}
 use mathlib.Core.Path.{_≡_, refl, sym, _∙_, ap, subst}
 use mathlib.Core.Logic.{⊎-elim}
-use mathlib.Core.List.{List, []}
+use mathlib.Core.List.{List}
 use native.Mathlib.Omega.{arith}
 use Rattle.calculus.specs.Cores.{coreIn}
 use Rattle.calculus.specs.Limits.{ticketBytes, factLimit}
@@ -30,12 +30,9 @@ use Rattle.derivation.proofs.Holding.{few-facts, few-splits}
 use Rattle.derivation.proofs.Closing.{open-depth}
 use Rattle.cores.specs.declared.Words.{Words}
 use Rattle.cores.specs.Sets.{Roomy}
-use Rattle.format.specs.Reading.{stepsOn}
-use Rattle.format.specs.Checking.{checker}
 use Rattle.question.specs.Posed.{asked}
 use Rattle.delimiters.specs.declared.Claim.the-variants.{NoSolution}
-use Rattle.delimiters.specs.Claims.{openUnder}
-use Rattle.claims.specs.Outcomes.{firstUpto, walkedOf, LeafAt, stepsFrom, CoreAt}
+use Rattle.claims.specs.Outcomes.{firstUpto, walkFrom, walkedOf, LeafAt, stepsFrom, CoreAt}
 use Rattle.claims.specs.declared.Grounds.{Grounds}
 use Rattle.claims.specs.Steps.{StepAt, NextAt, groundsBack, Added}
 use Rattle.claims.proofs.Walking.{first-few, fine-rows, pendingOn, Going, starts, going-same, going-ended, going-refused}
@@ -51,7 +48,7 @@ use Rattle.claims.proofs.walk.Tie as tie
 
 abbrev Inv-loop : tie.InvT-loop
 Inv-loop ticket s claim at r work₀ sets₀ first known₀ grounds₀ b₀ i₀ k₀ work sets known grounds b i k =
-    Going ticket s claim (length work₀) (stepsOn (checker (asked ticket s)) ticket (asked ticket s) (openUnder claim (asked ticket s .constraints) []) r at)
+    Going ticket s claim (length work₀) (walkFrom claim ticket s r at)
     work b known i k
     × Gathering ticket s claim (coreIn (asked ticket s) (stepsFrom ticket at)) work sets b known grounds i
     × (length sets ≡ length sets₀)
@@ -280,9 +277,7 @@ going : (t : Taken) →
     let a = startOf (stoodAt t) .args in
     let o = stoodAt t .loop in
     Going (now (a .ticket)) (a .s) (a .claim) (length (now (a .work)))
-    (stepsOn (checker (asked (now (a .ticket)) (a .s))) (now (a .ticket)) (asked (now (a .ticket)) (a .s))
-    (openUnder (a .claim) (asked (now (a .ticket)) (a .s) .constraints) []) (a .r) (a .«record»))
-    (o .work) (o .b) (labelsOf t) (o .i) (o .k)
+    (walkFrom (a .claim) (now (a .ticket)) (a .s) (a .r) (a .«record»)) (o .work) (o .b) (labelsOf t) (o .i) (o .k)
 going t =
     let g = stoodAt t .loop .inv .0 in
     record {

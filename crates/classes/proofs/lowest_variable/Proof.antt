@@ -4,7 +4,7 @@ use borrow.Author.Needs.{needs}
 use denote.Ref.{now}
 use mathlib.Core.Path.{_∙_, _≡_, refl, sym}
 use native.Mathlib.Omega.{arith}
-use Rattle.calculus.specs.SaturationTest.{lowestFrom, lowestVariable}
+use Rattle.calculus.specs.SettledTest.{lowestFrom, lowestVariable}
 use Rattle.classes.proofs.Laws.{first-done, first-no, first-yes}
 use Rattle.classes.proofs.lowest_variable.Statement.{statement}
 use Rattle.classes.proofs.lowest_variable.Tie as tie

@@ -2,11 +2,11 @@
 use Prim.Native.Nat.{_+_}
 use borrow.Author.Needs.{needs}
 use denote.Ref.{now}
-use mathlib.Core.Path.{_∙_, refl, sym}
+use mathlib.Core.Path.{_∙_, ap, refl, sym}
 use native.Mathlib.Omega.{arith}
 use Rattle.deciding.proofs.Outcomes.{refused, strings}
 use Rattle.delimiters.proofs.AtModel.{ended, unended, unsettled}
-use Rattle.format.specs.Checking.{checker}
+use Rattle.format.specs.Checking.{checker, outcomeOf}
 use Rattle.format.specs.Reading.{modelAt}
 use Rattle.question.proofs.Posed.{literals-whole}
 use Rattle.question.specs.Posed.{asked}
@@ -47,8 +47,8 @@ returns c =
     let s = c .before .before .before .before .before .before .before .before .before in
     let b = now (s .args .ticket) in
     λ set. refused (now (s .args .answer))
-    (unsettled (checker (asked b (s .args .s))) (λ br v. refl) b (asked b (s .args .s)) (branchOf (now (s .args .work)) (s .args .count)) (s .args .r) (s .args .at) (u32-at .result)
-    (u32-at .ensures .0) (s .pre .1) (s .pre .2) _ (c .before .before .settle .ensures .0) (c .if1 .taken))
+    (ap outcomeOf (unsettled (checker (asked b (s .args .s))) b (asked b (s .args .s)) (branchOf (now (s .args .work)) (s .args .count)) (s .args .r) (s .args .at) (u32-at .result)
+    (u32-at .ensures .0) (s .pre .1) (s .pre .2) _ (c .before .before .settle .ensures .0) (c .if1 .taken)))
 
 add-end-fault : tie.Need-add-end-fault
 add-end-fault c = search needs
@@ -69,9 +69,9 @@ returns-2 c =
     let s = c .before .before .before .before .before .before .before .before .before .before .before in
     let b = now (s .args .ticket) in
     λ set. refused (now (s .args .answer))
-    (unended (checker (asked b (s .args .s))) (λ br v. refl) b (asked b (s .args .s)) (branchOf (now (s .args .work)) (s .args .count)) (s .args .r) (s .args .at) (u32-at .result)
+    (ap outcomeOf (unended (checker (asked b (s .args .s))) b (asked b (s .args .s)) (branchOf (now (s .args .work)) (s .args .count)) (s .args .r) (s .args .at) (u32-at .result)
     (u32-at .ensures .0) (s .pre .1) (s .pre .2)
-    (sym (settle .ensures .0) ∙ c .before .before .if1 .left) _ (c .before .end-fault .ensures) (c .if2 .taken))
+    (sym (settle .ensures .0) ∙ c .before .before .if1 .left) _ (c .before .end-fault .ensures) (c .if2 .taken)))
 
 slice-aggregate-write : tie.Need-slice-aggregate-write
 slice-aggregate-write c = search needs
@@ -106,8 +106,8 @@ returns-3 c =
     let u = asked b (s .args .s) in
     let br = branchOf (now (s .args .work)) (s .args .count) in
     λ set. strings (now (s .args .answer)) _
-    (ended (checker u) (λ br v. refl) b u br (s .args .r) (s .args .at) (u32-at .result) (u32-at .ensures .0) (s .pre .1) (s .pre .2)
-    (sym (settle .ensures .0) ∙ if1 .left) (sym (end-fault .ensures) ∙ if2 .left))
+    (ap outcomeOf (ended (checker u) b u br (s .args .r) (s .args .at) (u32-at .result) (u32-at .ensures .0) (s .pre .1) (s .pre .2)
+    (sym (settle .ensures .0) ∙ if1 .left) (sym (end-fault .ensures) ∙ if2 .left)))
     (c .before .before .write .ensures br (modelAt b u (s .args .at + 6)) (settle .ensures .1 (if1 .left)))
 
 pub at-model-spec : {M : Type 1} → statement M

@@ -7,7 +7,7 @@ use Rattle.deciding.proofs.Outcomes.{decided-by, with-set, refused}
 use Rattle.deciding.proofs.Posing.{posed, core-behind}
 use Rattle.delimiters.proofs.Claiming.{claim-good, claims-so}
 use Rattle.format.proofs.StepTurns.{nonzero, claim-faulty}
-use Rattle.format.specs.Checking.{checker}
+use Rattle.format.specs.Checking.{checker, outcomeOf}
 use Rattle.delimiters.specs.Claims.{claimOf}
 use Rattle.question.specs.Progress.{progressOf}
 use Rattle.deciding.proofs.behind_question.Statement.{statement}
@@ -20,7 +20,7 @@ returns : tie.Need-returns
 returns c =
     let s = c .before .before .before .before .args in
     let b = now (s .ticket) in
-    refused (now (s .answer)) (nonzero (claim-faulty checker b (progressOf b (s .s)) (s .at) (s .r)) _ (c .before .claim-fault .ensures) (c .if1 .taken))
+    refused (now (s .answer)) (ap outcomeOf (nonzero (claim-faulty checker b (progressOf b (s .s)) (s .at) (s .r)) _ (c .before .claim-fault .ensures) (c .if1 .taken)))
 
 load-requires : tie.Need-load-requires
 load-requires c κs =
@@ -79,8 +79,8 @@ returns-2 c =
     let s = tested .before .before .before .before in
     let b = now (s .args .ticket) in
     let good = sym (tested .before .claim-fault .ensures) ∙ tested .if1 .left in
-    decided-by (claims-so checker b (s .args .s) (s .args .at) (s .args .r) good (claim-of .claim-of .result)
-    (claim-of .claim-of .ensures ∙ ap claimOf (claim-of .before .u16-at .ensures .0)))
+    decided-by (ap outcomeOf (claims-so checker b (s .args .s) (s .args .at) (s .args .r) good (claim-of .claim-of .result)
+    (claim-of .claim-of .ensures ∙ ap claimOf (claim-of .before .u16-at .ensures .0))))
     (with-set (core-behind b (s .args .s) (s .args .at) (s .args .r) (s .pre .0) good) (c .before .before .before .behind-claim .ensures))
 
 pub behind-question-spec : {M : Type 1} → statement M

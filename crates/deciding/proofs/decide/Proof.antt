@@ -4,7 +4,7 @@ use denote.Ref.{now}
 use mathlib.Core.Path.{_∙_, ap, sym}
 use Rattle.deciding.proofs.Outcomes.{decided-by, refused}
 use Rattle.deciding.proofs.Posing.{read-to}
-use Rattle.format.specs.Checking.{checker}
+use Rattle.format.specs.Checking.{checker, outcomeOf}
 use Rattle.format.specs.Reading.{readBehind}
 use Rattle.question.specs.Progress.{readingOf}
 use Rattle.deciding.proofs.decide.Statement.{statement}
@@ -36,7 +36,8 @@ unfolding readingOf
 returns c =
     let s = c .before .before .before .before .before .before .args in
     let b = now (s .ticket) in
-    refused (now (s .answer)) (ap (readBehind checker b) (sym (c .before .before .before .read-question .ensures) ∙ ap (readingOf b) (c .before .c .given .1)))
+    refused (now (s .answer))
+    (ap (λ g. outcomeOf (readBehind checker b g)) (sym (c .before .before .before .read-question .ensures) ∙ ap (readingOf b) (c .before .c .given .1)))
 
 same-length : tie.Need-same-length
 same-length c = search needs
@@ -51,7 +52,7 @@ returns-2 c =
     let read-question-call = c .before .before .before .before .before .before .before .before .before .read-question in
     let s = c .before .before .before .before .before .before .before .before .before .before .before .before .args in
     let b = now (s .ticket) in
-    decided-by (ap (readBehind checker b) (sym (read-question-call .ensures) ∙ ap (readingOf b) (s-read .given .1)))
+    decided-by (ap (λ g. outcomeOf (readBehind checker b g)) (sym (read-question-call .ensures) ∙ ap (readingOf b) (s-read .given .1)))
     (c .before .before .before .behind-question .ensures)
 
 pub decide-spec : {M : Type 1} → statement M

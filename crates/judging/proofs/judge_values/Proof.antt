@@ -11,7 +11,7 @@ use native.Mathlib.Omega.{arith}
 use Rattle.assignment.proofs.Bounds.{small-columns}
 use Rattle.assignment.proofs.Columns.{length-columns}
 use Rattle.format.proofs.Answers.{integers-there}
-use Rattle.calculus.proofs.Saturation.{enough}
+use Rattle.calculus.proofs.Settled.{enough}
 use Rattle.calculus.specs.Meaning.{columns}
 use Rattle.format.specs.Places.{texts}
 use Rattle.question.specs.Posed.{asked}

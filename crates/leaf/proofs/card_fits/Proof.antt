@@ -8,7 +8,7 @@ use mathlib.Core.Path.{_∙_, _≡_, ap, sym}
 use mir.Facts.{toZ-ofZ}
 use Rattle.calculus.specs.Facts.{len}
 use Rattle.calculus.specs.Model.{modelValue}
-use Rattle.calculus.specs.SaturationTest.{lowestOfLength}
+use Rattle.calculus.specs.SettledTest.{lowestOfLength}
 use Rattle.leaf.proofs.Laws.{card-few, card-many, card-roomy}
 use Rattle.question.specs.Posed.{numbered}
 use Rattle.leaf.specs.Values.{roomy}

@@ -14,7 +14,7 @@ use native.Mathlib.Omega.{arith}
 use Rattle.calculus.specs.Facts.{len}
 use Rattle.calculus.specs.Model.{modelValue}
 use Rattle.calculus.specs.LinearForms.{eqℤ}
-use Rattle.calculus.specs.SaturationTest.{lowestOfLength, lowestVariable}
+use Rattle.calculus.specs.SettledTest.{lowestOfLength, lowestVariable}
 use Rattle.leaf.proofs.Laws.{count-more}
 use Rattle.question.specs.Posed.{numbered}
 use Rattle.leaf.proofs.classes_of.Statement.{statement}

@@ -5,7 +5,7 @@ use borrow.Author.Tests.{not-false, not-true}
 use mathlib.Core.Path.{_∙_, _≡_, sym}
 use native.Mathlib.Omega.{arith}
 use Rattle.calculus.specs.LinearForms.{eqℤ}
-use Rattle.calculus.specs.SaturationTest.{lowestVariable}
+use Rattle.calculus.specs.SettledTest.{lowestVariable}
 use Rattle.leaf.proofs.Laws.{tally-higher, tally-one, tally-other}
 use Rattle.leaf.proofs.Signed.{equal-read}
 use Rattle.leaf.proofs.tally.Statement.{statement}

@@ -4,7 +4,7 @@ use mathlib.Core.Path.{ap, sym}
 use native.Mathlib.Omega.{arith}
 use Rattle.deciding.specs.declared.Outcome.{Outcome}
 use Rattle.lines.proofs.Puts.{put-same, then}
-use Rattle.lines.specs.Reports.{linesBy}
+use Rattle.lines.specs.Buffers.{linesBy}
 use Rattle.lines.proofs.put_lines.Statement.{statement}
 use Rattle.lines.proofs.put_lines.Tie as tie
 

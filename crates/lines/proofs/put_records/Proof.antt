@@ -8,7 +8,7 @@ use native.Mathlib.Omega.{arith}
 use Rattle.format.specs.Records.{records}
 use Rattle.lines.proofs.Lines.{lines-end, lines-integers, lines-string}
 use Rattle.lines.proofs.Puts.{put-same, then}
-use Rattle.lines.specs.Lines.{recordLines}
+use Rattle.lines.specs.Buffers.{recordLines}
 use Rattle.lines.specs.Put.{Put}
 use Rattle.records.proofs.Finding.{found-whole, not-whole}
 use Rattle.lines.proofs.put_records.Statement.{statement}

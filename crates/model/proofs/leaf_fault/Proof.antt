@@ -7,7 +7,7 @@ use mathlib.Core.Bool.{true, false}
 use mathlib.Core.Path.{_∙_, _≡_, refl, sym}
 use native.Mathlib.Omega.{arith}
 use Rattle.calculus.specs.Facts.{columnCount}
-use Rattle.calculus.specs.SaturationTest.{saturated}
+use Rattle.calculus.specs.SettledTest.{settled}
 use Rattle.format.specs.Checking.{keeps, shortLengths}
 use Rattle.question.specs.Posed.{asked, numbered}
 use Rattle.rows.specs.Rows.{branchOf}
@@ -27,10 +27,10 @@ keeps-test c =
     c .keeps-facts .ensures ∙ keeps-columns (now (s .args .model)) (s .args .s) (branchOf (now (s .args .work)) (s .args .count)) (s .pre .0 .1)
 
 -- 13's and 14's
-saturated-test : (c : tie.After-saturated) →
+settled-test : (c : tie.After-settled) →
     let args = c .before .before .before .before .before .before .before .before .before .args in
-    c .saturated .result ≡ saturated (asked (now (args .ticket)) (args .s)) (branchOf (now (args .work)) (args .count)) (values (args .s) (now (args .model)))
-saturated-test c = c .saturated .ensures
+    c .settled .result ≡ settled (asked (now (args .ticket)) (args .s)) (branchOf (now (args .work)) (args .count)) (values (args .s) (now (args .model)))
+settled-test c = c .settled .ensures
 
 lengths-test : (c : tie.After-short-lengths) →
     let args = c .before .before .before .before .before .before .before .before .before .before .before .args in
@@ -59,11 +59,11 @@ slice-aggregate-values c =
     sym (length-take-le (columnCount (numbered (s .args .s))) (now (s .args .model))
     (omega (arith, few-columns (now (s .args .ticket)) (s .args .s) (s .pre .0 .0), s .pre .0 .1 .all)))
 
-slice-aggregate-saturated : tie.Need-slice-aggregate-saturated
-slice-aggregate-saturated c = search needs
+slice-aggregate-settled : tie.Need-slice-aggregate-settled
+slice-aggregate-settled c = search needs
 
-saturated-requires : tie.Need-saturated-requires
-saturated-requires c κs =
+settled-requires : tie.Need-settled-requires
+settled-requires c κs =
     let s = c .before .before .before .before .before .before .before .before in (
       (
         columns-ready (now (s .args .ticket)) (now (s .args .places)) (s .args .s) (s .pre .0 .0) (s .pre .0 .2) (now (s .args .model)) (s .pre .0 .1 .all),
@@ -80,7 +80,7 @@ returns-2 c =
     let after-keeps-facts = c .before .before .before .before .before .before .before in
     let s = c .before .before .before .before .before .before .before .before .before .before .args in
     leaf-tests (asked (now (s .ticket)) (s .s)) (branchOf (now (s .work)) (s .count)) (values (s .s) (now (s .model))) true false _
-    (sym (keeps-test after-keeps-facts) ∙ not-false _ (if1 .left)) (sym (saturated-test (c .before)) ∙ not-true _ (c .if2 .taken)) refl
+    (sym (keeps-test after-keeps-facts) ∙ not-false _ (if1 .left)) (sym (settled-test (c .before)) ∙ not-true _ (c .if2 .taken)) refl
 
 short-lengths-requires : tie.Need-short-lengths-requires
 short-lengths-requires c κs =
@@ -97,7 +97,7 @@ returns-3 c =
     let s = c .before .before .before .before .before .before .before .before .before .before .before .before .args in
     leaf-tests (asked (now (s .ticket)) (s .s)) (branchOf (now (s .work)) (s .count)) (values (s .s) (now (s .model))) true true false
     (sym (keeps-test after-keeps-facts) ∙ not-false _ (if1 .left))
-    (sym (saturated-test (c .before .before .before)) ∙ not-false _ (c .before .before .if2 .left))
+    (sym (settled-test (c .before .before .before)) ∙ not-false _ (c .before .before .if2 .left))
     (sym (lengths-test (c .before)) ∙ not-true _ (c .if3 .taken))
 
 returns-4 : tie.Need-returns-4
@@ -107,7 +107,7 @@ returns-4 c =
     let s = c .before .before .before .before .before .before .before .before .before .before .before .before .args in
     leaf-tests (asked (now (s .ticket)) (s .s)) (branchOf (now (s .work)) (s .count)) (values (s .s) (now (s .model))) true true true
     (sym (keeps-test after-keeps-facts) ∙ not-false _ (if1 .left))
-    (sym (saturated-test (c .before .before .before)) ∙ not-false _ (c .before .before .if2 .left))
+    (sym (settled-test (c .before .before .before)) ∙ not-false _ (c .before .before .if2 .left))
     (sym (lengths-test (c .before)) ∙ not-false _ (c .if3 .left))
 
 pub leaf-fault-spec : {M : Type 1} → statement M
@@ -119,8 +119,8 @@ leaf-fault-spec =
     add-columns
     add-columns-2
     slice-aggregate-values
-    slice-aggregate-saturated
-    saturated-requires
+    slice-aggregate-settled
+    settled-requires
     returns-2
     short-lengths-requires
     returns-3

@@ -27,7 +27,7 @@ slice-aggregate-give-strings c = search needs
 give-strings-requires : tie.Need-give-strings-requires
 give-strings-requires c κs =
     let pre = c .before .before .before .before .before .before .before .before .pre in
-    ((pre .0 .ready, pre .1, search needs), (pre .0 .small, pre .0 .short-lengths))
+    ((pre .0 .ready, pre .1, search needs), (pre .0 .small, pre .0 .short-sizes))
 
 slice-aggregate-write-answer : tie.Need-slice-aggregate-write-answer
 slice-aggregate-write-answer c = search needs

@@ -11,14 +11,13 @@ use mathlib.Core.List.{List}
 use native.Mathlib.Omega.{arith}
 use Rattle.calculus.specs.Limits.{ticketBytes}
 use Rattle.format.specs.Records.{kind, size}
+use Rattle.format.specs.ProperForm.{byShape}
 use Rattle.format.specs.Reading.{fault}
-use Rattle.format.specs.Needs.{needing}
 use Rattle.records.specs.Found.{WholeRecord}
 use Rattle.records.proofs.Finding.{found-whole, not-whole, all-there}
 use Rattle.question.specs.Posed.{asked}
 use Rattle.delimiters.specs.Claims.{openUnder, endsAt}
 use Rattle.delimiters.specs.Numbers.{openFault}
-use Rattle.delimiters.proofs.Open.{open-end}
 use Rattle.steps.specs.Faults.{faultUnder}
 use Rattle.steps.proofs.Numbers.{form-refused, its-kind, its-form, its-field, its-trial}
 use Rattle.needs.specs.Pending.{pendingOf}
@@ -154,8 +153,8 @@ returns-3 c =
     let r = whole found in
     let f = c .before .record-fault in
     going-refused b (a .s) (o .inv .0) (met .result) (met .ensures) (all-there b (o .i) _ _ r) (f .result)
-    (form-refused (needing (asked b (a .s))) b (a .s) (o .facts) (pendingOf (o .marks) (o .each) (o .left) (o .depth)) (o .i) (a .claim)
-    (open-end (a .claim) _ _) _ _ r (going-on else1) (f .result) (f .ensures) (c .if2 .taken))
+    (form-refused (byShape (asked b (a .s))) b (a .s) (o .facts) (pendingOf (o .marks) (o .each) (o .left) (o .depth)) (o .i) (a .claim)
+    _ _ r (going-on else1) (f .result) (f .ensures) (c .if2 .taken))
     (c .if2 .taken)
 
 -- ---- a step of proper form
@@ -183,9 +182,9 @@ fit c =
     let ss = pendingOf (o .marks) (o .each) (o .left) (o .depth) in
     let on = going-on (c .before .before) in
     record {
-      formed = its-form (needing (asked b (a .s))) b (a .s) (o .facts) ss (o .i) (a .claim) (open-end (a .claim) _ _) _ _ (whole found) on (passed c);
+      formed = its-form (byShape (asked b (a .s))) b (a .s) (o .facts) ss (o .i) (a .claim) _ _ (whole found) on (passed c);
       sized = whole found .1;
-      field = its-field (needing (asked b (a .s))) b (a .s) (o .facts) ss (o .i) (a .claim) (open-end (a .claim) _ _) _ _ (whole found) on (passed c);
+      field = its-field (byShape (asked b (a .s))) b (a .s) (o .facts) ss (o .i) (a .claim) _ _ (whole found) on (passed c);
     }
 
 -- the record ends within the longest ticket
@@ -238,7 +237,7 @@ clean : (c : tie.Else2 Inv-loop μ-loop) →
     let b = bytes l in
     let a = startOf l .args in
     let o = l .loop in
-    fault (needing (asked b (a .s))) b (asked b (a .s)) (openUnder (a .claim) (o .facts) (pendingOf (o .marks) (o .each) (o .left) (o .depth))) (o .i) ≡ 0
+    fault (byShape (asked b (a .s))) b (asked b (a .s)) (openUnder (a .claim) (o .facts) (pendingOf (o .marks) (o .each) (o .left) (o .depth))) (o .i) ≡ 0
 clean c =
     let found = foundAt c in
     let l = atLoop found in
@@ -246,7 +245,7 @@ clean c =
     let a = startOf l .args in
     let o = l .loop in
     let ss = pendingOf (o .marks) (o .each) (o .left) (o .depth) in
-    sym (its-trial (needing (asked b (a .s))) b (a .s) (o .facts) ss (o .i) (a .claim) (open-end (a .claim) _ _) _ _ (whole found)
+    sym (its-trial (byShape (asked b (a .s))) b (a .s) (o .facts) ss (o .i) (a .claim) _ _ (whole found)
     (going-on (c .before .before)) (passed c))
     ∙ none-tried (a .claim) b (a .s) (o .facts) ss (o .i + 6) (size b (o .i))
 
@@ -257,8 +256,8 @@ step c =
     let b = bytes l in
     let a = startOf l .args in
     let o = l .loop in
-    its-kind (needing (asked b (a .s))) b (a .s) (o .facts) (pendingOf (o .marks) (o .each) (o .left) (o .depth)) (o .i) (a .claim)
-    (open-end (a .claim) _ _) _ _
+    its-kind (byShape (asked b (a .s))) b (a .s) (o .facts) (pendingOf (o .marks) (o .each) (o .left) (o .depth)) (o .i) (a .claim)
+    _ _
     (whole found) (going-on (c .before .before)) (passed c)
 
 enum-told : tie.Need-enum-told Inv-loop μ-loop

@@ -2,7 +2,7 @@
 use borrow.Author.Needs.{needs}
 use denote.Ref.{now}
 use mathlib.Core.Path.{_∙_, ap, subst, sym}
-use Rattle.format.specs.Sameness.{Refused, foundBy, second}
+use Rattle.format.specs.Sameness.{SameRefused, foundBy, second}
 use Rattle.sameness.specs.Asked.{AskedAs}
 use Rattle.sameness.proofs.same_as.Statement.{statement}
 use Rattle.sameness.proofs.same_as.Tie as tie
@@ -24,20 +24,20 @@ same-asked-requires c κs =
 returns : tie.Need-returns
 returns c =
     let args = c .before .before .before .before .before .before .args in
-    subst (AskedAs (now (args .c))) (c .before .n .given .1) (c .before .before .before .read-asked .ensures) (Refused second) _
+    subst (AskedAs (now (args .c))) (c .before .n .given .1) (c .before .before .before .read-asked .ensures) (SameRefused second) _
 
 returns-2 : tie.Need-returns-2
 returns-2 c =
     let read-asked = c .before .before .before .before .before .read-asked in
     let args = c .before .before .before .before .before .before .before .before .args in
-    subst (AskedAs (now (args .c))) (c .before .before .before .t .given .1) (read-asked .ensures) .1 (Refused second) _
+    subst (AskedAs (now (args .c))) (c .before .before .before .t .given .1) (read-asked .ensures) .1 (SameRefused second) _
     ∙ ap foundBy (sym (c .before .same-asked .ensures) ∙ c .if1 .taken)
 
 returns-3 : tie.Need-returns-3
 returns-3 c =
     let read-asked = c .before .before .before .before .before .read-asked in
     let args = c .before .before .before .before .before .before .before .before .args in
-    subst (AskedAs (now (args .c))) (c .before .before .before .t .given .1) (read-asked .ensures) .1 (Refused second) _
+    subst (AskedAs (now (args .c))) (c .before .before .before .t .given .1) (read-asked .ensures) .1 (SameRefused second) _
     ∙ ap foundBy (sym (c .before .same-asked .ensures) ∙ c .if1 .left)
 
 pub same-as-spec : {M : Type 1} → statement M

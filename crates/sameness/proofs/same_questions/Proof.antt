@@ -2,7 +2,7 @@
 use borrow.Author.Needs.{needs}
 use denote.Ref.{now}
 use mathlib.Core.Path.{_∙_, subst, sym}
-use Rattle.format.specs.Sameness.{Refused, first, sameness}
+use Rattle.format.specs.Sameness.{SameRefused, first, sameness}
 use Rattle.sameness.specs.Asked.{AskedAs}
 use Rattle.sameness.proofs.same_questions.Statement.{statement}
 use Rattle.sameness.proofs.same_questions.Tie as tie
@@ -25,13 +25,13 @@ returns : tie.Need-returns
 unfolding sameness
 returns c =
     let args = c .before .before .before .before .before .before .args in
-    sym (subst (AskedAs (now (args .first))) (c .before .n .given .1) (c .before .before .before .read-asked .ensures) (Refused first) _)
+    sym (subst (AskedAs (now (args .first))) (c .before .n .given .1) (c .before .before .before .read-asked .ensures) (SameRefused first) _)
 
 returns-2 : tie.Need-returns-2
 unfolding sameness
 returns-2 c =
     let args = c .before .before .before .before .before .before .before .args in
-    sym (subst (AskedAs (now (args .first))) (c .before .before .s .given .1) (c .before .before .before .before .read-asked .ensures) .1 (Refused first) _
+    sym (subst (AskedAs (now (args .first))) (c .before .before .s .given .1) (c .before .before .before .before .read-asked .ensures) .1 (SameRefused first) _
     ∙ c .same-as .ensures)
 
 pub same-questions-spec : {M : Type 1} → statement M

@@ -14,7 +14,7 @@ use Rattle.answer.specs.Table.{row}
 use Rattle.calculus.specs.Facts.{len}
 use Rattle.calculus.specs.Limits.{lengthLimit}
 use Rattle.calculus.specs.Model.{modelValue}
-use Rattle.calculus.specs.SaturationTest.{lowestVariable}
+use Rattle.calculus.specs.SettledTest.{lowestVariable}
 use Rattle.calculus.specs.Strings.{freshFrom}
 use Rattle.question.specs.Posed.{numbered}
 use Rattle.strings.proofs.Table.{completed-copied, completed-fresh, completed-own, row-again, sized-none, sized-some}

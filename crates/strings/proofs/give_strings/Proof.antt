@@ -13,7 +13,7 @@ use Rattle.calculus.specs.Limits.{lengthLimit, variableLimit}
 use Rattle.calculus.specs.Model.{modelValue}
 use Rattle.question.proofs.Posed.{some-character}
 use Rattle.question.specs.Posed.{asked}
-use Rattle.strings.proofs.Rounds.{Filled, completed-is, round-done, round-more, round-start, short-length, sizes-more}
+use Rattle.strings.proofs.Rounds.{Filled, completed-is, round-done, round-more, round-start, sizes-more}
 use Rattle.strings.specs.Filling.{completed}
 use Rattle.strings.proofs.give_strings.Statement.{statement}
 use Rattle.strings.proofs.give_strings.Tie as tie
@@ -64,7 +64,7 @@ complete-requires c κs =
         l .inv .2,
         l .inv .4,
       ),
-      (short-length (asked (now (s .args .ticket)) (s .args .s)) (now (s .args .model)) (l .x) (s .pre .1 .1) (c .before .before .if1 .taken), l .inv .5),
+      (s .pre .1 .1 (l .x) (c .before .before .if1 .taken), l .inv .5),
     )
 
 mul-sizes : tie.Need-mul-sizes Inv-loop μ-loop

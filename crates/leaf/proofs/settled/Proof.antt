@@ -1,4 +1,4 @@
--- `leaf::saturated` meets its contract.
+-- `leaf::settled` meets its contract.
 use Prim.Native.Nat.{ℕ}
 use borrow.Author.Needs.{needs}
 use denote.Ref.{now}
@@ -9,11 +9,11 @@ use Rattle.lists.specs.Lists.{allBelow}
 use Rattle.calculus.specs.Classes.{conflict, labels}
 use Rattle.leaf.proofs.Pairs.{earlier-all}
 use Rattle.leaf.proofs.Laws.{conflict-is}
-use Rattle.leaf.proofs.Saturation.{byValues, saturated-is}
+use Rattle.leaf.proofs.Settling.{byValues, settled-is}
 use Rattle.question.specs.Posed.{asked}
 use Rattle.rows.specs.Rows.{branchOf}
-use Rattle.leaf.proofs.saturated.Statement.{statement}
-use Rattle.leaf.proofs.saturated.Tie as tie
+use Rattle.leaf.proofs.settled.Statement.{statement}
+use Rattle.leaf.proofs.settled.Tie as tie
 
 -- S-Conf's test
 conflict-test : (c : tie.After-conflict)
@@ -38,7 +38,7 @@ returns c =
     let s = c .before .before .before .before .before .before .args in
     let u = asked (now (s .ticket)) (s .s) in
     let b = branchOf (now (s .work)) (s .count) in
-    sym (saturated-is u b (now (s .model))
+    sym (settled-is u b (now (s .model))
     ∙ ap (λ (t : Bool). not t && allBelow (u .p) (byValues u (labels b) (now (s .model)))) (sym (conflict-test (c .before)) ∙ c .if1 .taken))
 
 every-fits-requires : tie.Need-every-fits-requires
@@ -54,9 +54,9 @@ returns-2 c =
     c .every-fits .ensures
     ∙ earlier-all u (now (s .args .labels)) m
     ∙ ap (λ (ls : List ℕ). allBelow (u .p) (byValues u ls m)) (s .pre .1)
-    ∙ sym (saturated-is u b m
+    ∙ sym (settled-is u b m
     ∙ ap (λ (t : Bool). not t && allBelow (u .p) (byValues u (labels b) m)) (sym (conflict-test (c .before .before)) ∙ c .before .if1 .left))
 
-pub saturated-spec : {M : Type 1} → statement M
-saturated-spec =
+pub settled-spec : {M : Type 1} → statement M
+settled-spec =
     tie.close (tie.spec add-conflict conflict-requires returns every-fits-requires returns-2)

@@ -1,4 +1,4 @@
--- What the reader guarantees of a question (refusals 4 to 6): its numbers, variables and literals are in range, its forms whole.
+-- What the rules rest on of a question and of a branch: numbers, variables and literals in range, forms whole. It is part of what document 01 allows (4 to 6).
 use Prim.Native.Nat.{suc, _<_, _≤_}
 use mathlib.Core.Path.{_≡_}
 use mathlib.Core.List.{List}

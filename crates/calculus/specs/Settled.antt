@@ -1,4 +1,4 @@
--- Saturation (document 01: "settled") in words: by chains, by the model's values, over every choice of operands.
+-- Settled leaves in words: by chains, by the model's values, over every choice of operands.
 use Prim.Native.Nat.{ℕ, _<_}
 use mathlib.Core.Path.{_≡_}
 use mathlib.Core.Option.{some}
@@ -12,7 +12,7 @@ use Rattle.calculus.specs.LinearForms.{valueIn}
 use Rattle.calculus.specs.Facts.{Question, Fact, same, notSame, isLiteral, arithmetic, Branch, Holds, OnArithmetic, len}
 use Rattle.calculus.specs.Chains.{OneClass, ClassHolds}
 use Rattle.calculus.specs.Steps.{Step, Sum, BranchOn, Apart, AConf, SConf, SProp, LIntro, LValid, CCollapse, CValid, CInj, Card, Join}
-use Rattle.calculus.specs.Instances.{IsCard, Instance, StepInRange}
+use Rattle.calculus.specs.Instances.{IsCard, Instance, IsStep}
 use Rattle.calculus.specs.Model.{modelValue}
 
 -- "holds already: an arithmetic fact by the model's values, an ≈ by classes"; no child has a ≉ fact
@@ -52,9 +52,9 @@ LeafInstance u b m (Card (x ∷ y ∷ xs)) cs = IsCard u (LengthsEqual u m x (y 
 LeafInstance u b m (Join j k) cs = ⊥
 
 -- "A leaf is settled by its model if S-Conf does not fit and, for every choice of operands whose premise holds in rules 6 to 12, some child holds already"
-pub record Saturated (u : Question) (b : Branch) (m : List ℤ) : Type 0 where
+pub record Settled (u : Question) (b : Branch) (m : List ℤ) : Type 0 where
   pub no-conflict : (cs : List (List Fact)) → Instance u b SConf cs → ⊥
-  pub some-child : (st : Step) → StepInRange u st → (cs : List (List Fact)) → LeafInstance u b m st cs → SomeChild b m cs
+  pub some-child : (st : Step) → IsStep u st → (cs : List (List Fact)) → LeafInstance u b m st cs → SomeChild b m cs
 
 -- "The model meets its facts when each arithmetic one holds with the model's value in every column"
 abbrev pub MeetsArithmetic : List ℤ → Fact → Type 0
@@ -63,9 +63,3 @@ MeetsArithmetic m f = OnArithmetic (λ r e. Holds r (valueIn m e)) f
 -- no "length passes 64"
 abbrev pub ShortLengths : Question → List ℤ → Type 0
 ShortLengths u m = (x : ℕ) → x < u .p → modelValue u m len x ≤ℤ pos lengthLimit
-
--- what demand 3 asks of a leaf and its model
-pub record AcceptedLeaf (u : Question) (b : Branch) (m : List ℤ) : Type 0 where
-  pub met : All (MeetsArithmetic m) b
-  pub saturated : Saturated u b m
-  pub short : ShortLengths u m

@@ -1,29 +1,34 @@
 -- The test of a leaf is the test by values: a child's facts hold just if lengths and codes fit.
-use Prim.Native.Nat.{ℕ, zero, suc}
+use Prim.Native.Nat.{ℕ, zero, suc, _<_, _≤_}
 use mathlib.Core.Path.{_≡_, refl, sym, _∙_, ap, ap₂, subst}
 use mathlib.Core.Bool.{Bool, true, false, not, _&&_, _||_, and-true, and-false, and-assoc, or-false}
 use mathlib.Core.Option.{Option, none, some}
 use mathlib.Core.List.{List, [], _∷_, map}
 use lib.Dec.{T, eqb→eq, eqb-refl, leb, ltb, eqb, le→leb, leb→le, ltb→lt}
-use lib.IntN.{ℤ, pos, negsuc, _-ℤ_}
-use lib.Signed.{ltZ, nonNeg, _≤ℤ_}
+use lib.ListN.{length}
+use lib.IntN.{ℤ, pos, negsuc, natAbs, _-ℤ_}
+use lib.Signed.{ltZ, leZ, nonNeg, _≤ℤ_}
 use borrow.Author.Tests.{lt-ltb}
 use Rattle.integers.proofs.Laws.{≤ℤ-pos, pos-≤ℤ, →-ℤ-zero, →-ℤ-nonneg, -ℤ-zero→, -ℤ-nonneg→}
 use Rattle.lists.specs.Lists.{any, allBelow}
-use Rattle.lists.proofs.Tests.{→true, true→, equal-tests}
+use Rattle.lists.proofs.Tests.{→true, true→, and-both, equal-tests}
+use Rattle.lists.proofs.Below.{all-below→}
+use Rattle.calculus.specs.Limits.{lengthLimit}
 use Rattle.calculus.specs.Alphabet.{codeRanges}
 use Rattle.calculus.specs.LinearForms.{eqℤ, isZero, number, minus, above, valueIn}
 use Rattle.calculus.specs.Facts.{Question, Branch, Fact, arithmetic, ge, eq, Function, len, code, literal, valueOf, apply}
 use Rattle.calculus.specs.Chains.{varNode, litNode}
-use Rattle.calculus.specs.Classes.{label, labels, sameClass, classLiteral, conflict}
+use Rattle.calculus.specs.Classes.{label, labels, sameClass, lowestLiteral, literalIn, classLiteral, conflict}
 use Rattle.calculus.specs.Children.{one, sPropChild, literalChild, lValidChildren, codeChild, cValidChildren, cInjChildren}
 use Rattle.calculus.specs.Rules.{guard, then}
 use Rattle.calculus.specs.Steps.{LIntro, LValid, CCollapse, CValid}
 use Rattle.calculus.specs.Model.{modelValue}
-use Rattle.calculus.specs.SaturationTest.{held, heldSome, byChildren, saturatedStep, saturatedCard, saturated}
+use Rattle.calculus.specs.SettledTest.{held, heldSome, byChildren, settledStep, settledCard, settled}
 use Rattle.calculus.proofs.LinearForms.{eqℤ→, →eqℤ, isZero→, →isZero}
 use Rattle.calculus.proofs.Relations.{nonneg→, →nonneg}
 use Rattle.calculus.proofs.Leaf.{above-in, number-in, difference-in, low-in, high-in}
+use Rattle.format.specs.Checking.{shortLengths}
+use Rattle.leaf.specs.Leaf.{ShortSizes}
 use Rattle.leaf.specs.Values.{textFits, literalFits, lValidFits, codeIn, codeBy, codeFits, varFits, pairBy, pairFits}
 
 -- ---- tests of equal meaning
@@ -185,27 +190,66 @@ every-ap (suc k) s t h = ap₂ _&&_ (h k) (every-ap k s t h)
 
 module _ (u : Question) (b : Branch) (m : List ℤ) where
   var-step : (x : ℕ)
-      → (saturatedStep u b m (LIntro x)
-      && saturatedStep u b m (LValid x)
-      && saturatedStep u b m (CCollapse x)
-      && saturatedStep u b m (CValid x)
-      && saturatedCard u (labels b) m x)
+      → (settledStep u b m (LIntro x)
+      && settledStep u b m (LValid x)
+      && settledStep u b m (CCollapse x)
+      && settledStep u b m (CValid x)
+      && settledCard u (labels b) m x)
       ≡ varFits u (labels b) m x
   unfolding varFits
   var-step x =
-      let a = saturatedStep u b m (LIntro x) in
-      let c = saturatedStep u b m (CCollapse x) in
+      let a = settledStep u b m (LIntro x) in
+      let c = settledStep u b m (CCollapse x) in
       let l = lValidFits (labels b) x (modelValue u m len x) in
       let k = codeFits (u .n) (modelValue u m len x) (modelValue u m code x) in
       let f = literalFits u (classLiteral u b x) (modelValue u m len x) (modelValue u m code x) in
       let literal : (a && c) ≡ f =
       ap₂ _&&_ (literal-step u (labels b) m len x (classLiteral u b x)) (literal-step u (labels b) m code x (classLiteral u b x))
       ∙ both-values u (labels b) m (classLiteral u b x) (modelValue u m len x) (modelValue u m code x) in
-      ap (λ (t : Bool). t && saturatedCard u (labels b) m x)
+      ap (λ (t : Bool). t && settledCard u (labels b) m x)
       (ap₂ _&&_ (ap (λ (t : Bool). a && t && c) (length-step u (labels b) m x) ∙ swap a l c ∙ ap (λ (t : Bool). t && l) literal) (code-step u (labels b) m x))
-      ∙ and-assoc (f && l) k (saturatedCard u (labels b) m x)
-      ∙ and-assoc f l (k && saturatedCard u (labels b) m x)
+      ∙ and-assoc (f && l) k (settledCard u (labels b) m x)
+      ∙ and-assoc f l (k && settledCard u (labels b) m x)
 
-  pub saturated-is : saturated u b m ≡ (not (conflict u b) && allBelow (u .p) (byValues u (labels b) m))
-  saturated-is = ap (λ (t : Bool). not (conflict u b) && t) (every-ap (u .p) _ (byValues u (labels b) m) (λ x.
+  pub settled-is : settled u b m ≡ (not (conflict u b) && allBelow (u .p) (byValues u (labels b) m))
+  settled-is = ap (λ (t : Bool). not (conflict u b) && t) (every-ap (u .p) _ (byValues u (labels b) m) (λ x.
       ap₂ _&&_ (var-step x) (every-ap (u .p) _ (pairFits u (labels b) m x) (λ y. pair-step u (labels b) m x y))))
+
+  -- a settled leaf has no negative length: L-Valid, and L-Intro where the class holds the empty string
+  pub settled-positive : settled u b m ≡ true → (x : ℕ) → x < u .p → nonNeg (modelValue u m len x) ≡ true
+  unfolding varFits lValidFits literalFits textFits
+  settled-positive e x h =
+      let fits : T (byValues u (labels b) m x) = all-below→ (u .p) (byValues u (labels b) m) (true→ (and-both (not (conflict u b)) _ (sym settled-is ∙ e) .1)) x h in
+      let (literal, rest) = and-both (literalFits u (literalIn u (labels b) x) z c) _ (and-both (varFits u (labels b) m x) _ (→true _ fits) .0) in
+      by-class (sameClass (labels b) (varNode x) (litNode 0)) refl literal (and-both (lValidFits (labels b) x z) _ rest .0)
+    where
+      z : ℤ
+      z = modelValue u m len x
+
+      c : ℤ
+      c = modelValue u m code x
+
+      above-zero : (z : ℤ) → ltZ (pos 0) z ≡ true → nonNeg z ≡ true
+      above-zero (pos k) e = refl
+      above-zero (negsuc k) e = e
+
+      a-length : (k : ℕ) (z : ℤ) → T (eqℤ z (pos k)) → nonNeg z ≡ true
+      a-length k z t = ap nonNeg (eqℤ→ z (pos k) t)
+
+      by-class : (t : Bool) → sameClass (labels b) (varNode x) (litNode 0) ≡ t → literalFits u (literalIn u (labels b) x) z c ≡ true
+          → lValidFits (labels b) x z ≡ true → nonNeg z ≡ true
+      by-class true s f g =
+          let empty : literalFits u (some 0) z c ≡ true = sym (ap (λ (t : Bool). literalFits u (elim t [ true ↦ some 0 | false ↦ lowestLiteral (labels b) x 1 (length (u .literals)) ]) z c) s) ∙ f in
+          a-length (length (literal u 0)) z (true→ (and-both (eqℤ z (pos (length (literal u 0)))) _ empty .0))
+      by-class false s f g = above-zero z (sym (ap (λ (t : Bool). t || ltZ (pos 0) z) s) ∙ g)
+
+-- ---- lengths
+
+-- 14 does not apply to a settled leaf: every length is one, and at most 64
+pub settled-short : (u : Question) (b : Branch) (m : List ℤ) → settled u b m ≡ true → shortLengths u m ≡ true → ShortSizes u m
+settled-short u b m e short x h =
+    signed-size (modelValue u m len x) (settled-positive u b m e x h) (all-below→ (u .p) (λ y. leZ (modelValue u m len y) (pos lengthLimit)) (true→ short) x h)
+  where
+    signed-size : (z : ℤ) → nonNeg z ≡ true → T (leZ z (pos lengthLimit)) → natAbs z ≤ lengthLimit
+    signed-size (pos k) p t = leb→le k lengthLimit t
+    signed-size (negsuc k) p t = absurd (true→ p)

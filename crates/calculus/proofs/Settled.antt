@@ -1,4 +1,4 @@
--- Saturation: the test that checking computes says what the words say.
+-- Settled leaves: the test that checking computes says what the words say.
 use Prim.Native.Nat.{ℕ, _^_, _<_, _≤_}
 use native.Mathlib.Omega.{arith}
 use native.Mathlib.Decide.{ℕ-discrete}
@@ -25,12 +25,12 @@ use Rattle.calculus.specs.Classes.{labels, sameClass, conflict}
 use Rattle.calculus.specs.Steps.{Step, Sum, BranchOn, Apart, AConf, SConf, SProp, LIntro, LValid, CCollapse, CValid, CInj, Card, Join}
 use Rattle.calculus.specs.Children.{pairChildren, boundChild}
 use Rattle.calculus.specs.Rules.{children, leastPower, lastChild}
-use Rattle.calculus.specs.Instances.{LastChild, Instance, StepInRange, IsCard}
+use Rattle.calculus.specs.Instances.{LastChild, Instance, IsStep, IsCard}
 use Rattle.calculus.specs.Model.{modelValue}
-use Rattle.calculus.specs.Saturation.{HoldsAlready, SomeChild, LengthsEqual, LeafInstance, Saturated}
-use Rattle.calculus.specs.SaturationTest.{held, heldSome, byChildren, saturatedStep, lowestVariable, lowestOfLength, saturatedCard, saturated}
+use Rattle.calculus.specs.Settled.{HoldsAlready, SomeChild, LengthsEqual, LeafInstance, Settled}
+use Rattle.calculus.specs.SettledTest.{held, heldSome, byChildren, settledStep, lowestVariable, lowestOfLength, settledCard, settled}
+use Rattle.calculus.specs.InRange.{HeadInRange, FactsInRange}
 use Rattle.calculus.proofs.Alphabet.{some-character}
-use Rattle.calculus.proofs.InRange.{HeadInRange, FactsInRange}
 use Rattle.calculus.proofs.LinearForms.{dot-minus, dot-number}
 use Rattle.calculus.proofs.Relations.{holds→, →holds}
 use Rattle.calculus.proofs.Classes.{class→chain, chain→class, conflict→, →conflict}
@@ -63,10 +63,10 @@ module _ (u : Question) (w : HeadInRange u) (b : Branch) (r : FactsInRange u b) 
 
   -- ---- a step of rules 6 to 11
 
-  step→ : (st : Step) → StepInRange u st → T (saturatedStep u b m st) → Chosen u b m st
+  step→ : (st : Step) → IsStep u st → T (settledStep u b m st) → Chosen u b m st
   step→ st g t = λ cs i. any→some b m cs (held-some→ cs (subst (λ o. T (byChildren (labels b) m o)) (instance→fits u w b r st g i) t))
 
-  →step : (st : Step) → StepInRange u st → Chosen u b m st → T (saturatedStep u b m st)
+  →step : (st : Step) → IsStep u st → Chosen u b m st → T (settledStep u b m st)
   →step st g h = go (children u b st) refl
     where
       go : (o : Option (List (List Fact))) → children u b st ≡ o → T (byChildren (labels b) m o)
@@ -95,7 +95,7 @@ module _ (u : Question) (w : HeadInRange u) (b : Branch) (r : FactsInRange u b) 
   abbrev Few : ℕ → Type 0
   Few x = (length (ofLength x) ≤ 1) ⊎ ((1 < characters) × (least (length (ofLength x)) ≤ natAbs (M x)))
 
-  card→ : (x : ℕ) → T (saturatedCard u (labels b) m x) → Few x
+  card→ : (x : ℕ) → T (settledCard u (labels b) m x) → Few x
   card→ x t = go (or→ (leb (length (ofLength x)) 1) (not (leb characters 1) && leb (least (length (ofLength x))) (natAbs (M x))) t)
     where
       go : T (leb (length (ofLength x)) 1) ⊎ T (not (leb characters 1) && leb (least (length (ofLength x))) (natAbs (M x))) → Few x
@@ -105,7 +105,7 @@ module _ (u : Question) (w : HeadInRange u) (b : Branch) (r : FactsInRange u b) 
           inr (nleb→lt characters 1 p, leb→le (least (length (ofLength x))) (natAbs (M x)) q)
 
   -- the classes of one length are no more than the strings of that length
-  card-enough : (x : ℕ) → T (saturatedCard u (labels b) m x) → length (ofLength x) ≤ characters ^ natAbs (M x)
+  card-enough : (x : ℕ) → T (settledCard u (labels b) m x) → length (ofLength x) ≤ characters ^ natAbs (M x)
   card-enough x t = go (card→ x t)
     where
       go : Few x → length (ofLength x) ≤ characters ^ natAbs (M x)
@@ -125,7 +125,7 @@ module _ (u : Question) (w : HeadInRange u) (b : Branch) (r : FactsInRange u b) 
         → x < u .p
         → 2 ≤ k
         → k ≤ length (ofLength x)
-        → T (saturatedCard u (labels b) m x)
+        → T (settledCard u (labels b) m x)
         → LastChild u x k cs
         → AnyHeld b m cs
     last-held x k cs hx l g t (inl (e, p)) = absurd (go (card→ x t))
@@ -145,7 +145,7 @@ module _ (u : Question) (w : HeadInRange u) (b : Branch) (r : FactsInRange u b) 
     card-chosen : (x : ℕ) (xs : List ℕ) (cs : List (List Fact))
         → All (λ y. y < u .p) (x ∷ xs)
         → 2 ≤ length (x ∷ xs)
-        → T (saturatedCard u (labels b) m x)
+        → T (settledCard u (labels b) m x)
         → IsCard u (LengthsEqual u m x xs) x xs cs
         → SomeChild b m cs
     card-chosen x xs cs g l t i = any→some b m cs (subst (AnyHeld b m) (sym (i .adds))
@@ -160,7 +160,7 @@ module _ (u : Question) (w : HeadInRange u) (b : Branch) (r : FactsInRange u b) 
 
   -- ---- the words give the test
 
-  module _ (s : Saturated u b m) where
+  module _ (s : Settled u b m) where
     last-test : (x y k : ℕ) → M y ≡ M x → (t : Bool) → AnyHeld b m (elim t as (λ _. List (List Fact)) [ true ↦ [] | false ↦ boundChild u y (least k) ])
         → T (not t && leb (least k) (natAbs (M x)))
     last-test x y k e true h = absurd h
@@ -169,8 +169,8 @@ module _ (u : Question) (w : HeadInRange u) (b : Branch) (r : FactsInRange u b) 
         (-ℤ-nonneg→
         (subst (λ z. pos 0 ≤ℤ z) (dot-minus (apply u len y) (number (pos (least k))) (pos 1 ∷ m) (apply-in u m len y) (dot-number m (pos (least k)))) h))))
 
-    card-test : (x : ℕ) → T (saturatedCard u (labels b) m x)
-    unfolding LeafInstance StepInRange
+    card-test : (x : ℕ) → T (settledCard u (labels b) m x)
+    unfolding LeafInstance IsStep
     card-test x = by (ofLength x) (lowests u (labels b) m (M x) (u .p)) (lowests-distinct u (labels b) m (M x) (u .p))
       where
         by : (rs : List ℕ)
@@ -198,7 +198,7 @@ module _ (u : Question) (w : HeadInRange u) (b : Branch) (r : FactsInRange u b) 
     enough x = card-enough x (card-test x)
 
     pub by-classes : ByClasses u b m
-    unfolding LeafInstance StepInRange
+    unfolding LeafInstance IsStep
     by-classes = record {
       s-prop = λ f x y hx hy. s .some-child (SProp f x y) (hx, hy);
       l-intro = λ x hx. s .some-child (LIntro x) hx;
@@ -208,39 +208,39 @@ module _ (u : Question) (w : HeadInRange u) (b : Branch) (r : FactsInRange u b) 
       c-inj = λ x y hx hy. s .some-child (CInj x y) (hx, hy);
     }
 
-    step≡ : (st : Step) → StepInRange u st → Chosen u b m st → saturatedStep u b m st ≡ true
-    step≡ st g h = →true (saturatedStep u b m st) (→step st g h)
+    step≡ : (st : Step) → IsStep u st → Chosen u b m st → settledStep u b m st ≡ true
+    step≡ st g h = →true (settledStep u b m st) (→step st g h)
 
     allBelow≡ : (k : ℕ) (t : ℕ → Bool) → ((x : ℕ) → x < k → t x ≡ true) → allBelow k t ≡ true
     allBelow≡ k t h = →true (allBelow k t) (→all-below k t (λ x g. true→ (h x g)))
 
-    pub words→saturated : saturated u b m ≡ true
-    unfolding Instance StepInRange
-    words→saturated =
+    pub words→settled : settled u b m ≡ true
+    unfolding Instance IsStep
+    words→settled =
         let c = by-classes in
         ap₂ _&&_ (→true (not (conflict u b)) (not-T (conflict u b) (λ t. s .no-conflict [] (record { clash = conflict→ u w b r t; closes = refl }))))
         (allBelow≡ (u .p) _ (λ x hx.
         ap₂ _&&_ (ap₂ _&&_ (ap₂ _&&_
         (ap₂ _&&_ (ap₂ _&&_ (step≡ (LIntro x) hx (c .l-intro x hx)) (step≡ (LValid x) hx (c .l-valid x hx))) (step≡ (CCollapse x) hx (c .c-collapse x hx)))
         (step≡ (CValid x) hx (c .c-valid x hx)))
-        (→true (saturatedCard u (labels b) m x) (card-test x)))
+        (→true (settledCard u (labels b) m x) (card-test x)))
         (allBelow≡ (u .p) _ (λ y hy.
         ap₂ _&&_ (ap₂ _&&_ (step≡ (SProp len x y) (hx, hy) (c .s-prop len x y hx hy)) (step≡ (SProp code x y) (hx, hy) (c .s-prop code x y hx hy)))
         (step≡ (CInj x y) (hx, hy) (c .c-inj x y hx hy))))))
 
   -- ---- the test gives the words
 
-  module _ (ok : saturated u b m ≡ true) where
+  module _ (ok : settled u b m ≡ true) where
     abbrev ofOne : ℕ → Bool
     ofOne x =
-        saturatedStep u b m (LIntro x)
-        && saturatedStep u b m (LValid x)
-        && saturatedStep u b m (CCollapse x)
-        && saturatedStep u b m (CValid x)
-        && saturatedCard u (labels b) m x
+        settledStep u b m (LIntro x)
+        && settledStep u b m (LValid x)
+        && settledStep u b m (CCollapse x)
+        && settledStep u b m (CValid x)
+        && settledCard u (labels b) m x
 
     abbrev ofTwo : ℕ → ℕ → Bool
-    ofTwo x y = saturatedStep u b m (SProp len x y) && saturatedStep u b m (SProp code x y) && saturatedStep u b m (CInj x y)
+    ofTwo x y = settledStep u b m (SProp len x y) && settledStep u b m (SProp code x y) && settledStep u b m (CInj x y)
 
     parts : T (not (conflict u b)) × T (allBelow (u .p) (λ x. ofOne x && allBelow (u .p) (ofTwo x)))
     parts = and→ (not (conflict u b)) (allBelow (u .p) (λ x. ofOne x && allBelow (u .p) (ofTwo x))) (true→ ok)
@@ -250,17 +250,17 @@ module _ (u : Question) (w : HeadInRange u) (b : Branch) (r : FactsInRange u b) 
 
     of-one : (x : ℕ)
         → x < u .p
-        → T (saturatedStep u b m (LIntro x))
-        × T (saturatedStep u b m (LValid x))
-        × T (saturatedStep u b m (CCollapse x))
-        × T (saturatedStep u b m (CValid x))
-        × T (saturatedCard u (labels b) m x)
+        → T (settledStep u b m (LIntro x))
+        × T (settledStep u b m (LValid x))
+        × T (settledStep u b m (CCollapse x))
+        × T (settledStep u b m (CValid x))
+        × T (settledCard u (labels b) m x)
     of-one x hx =
-        let s0 = saturatedStep u b m (LIntro x) in
-        let s1 = saturatedStep u b m (LValid x) in
-        let s2 = saturatedStep u b m (CCollapse x) in
-        let s3 = saturatedStep u b m (CValid x) in
-        let (t3, t4) = and→ (s0 && s1 && s2 && s3) (saturatedCard u (labels b) m x) (of-variable x hx .0) in
+        let s0 = settledStep u b m (LIntro x) in
+        let s1 = settledStep u b m (LValid x) in
+        let s2 = settledStep u b m (CCollapse x) in
+        let s3 = settledStep u b m (CValid x) in
+        let (t3, t4) = and→ (s0 && s1 && s2 && s3) (settledCard u (labels b) m x) (of-variable x hx .0) in
         let (t2, p3) = and→ (s0 && s1 && s2) s3 t3 in
         let (t1, p2) = and→ (s0 && s1) s2 t2 in
         let (p0, p1) = and→ s0 s1 t1 in
@@ -269,15 +269,15 @@ module _ (u : Question) (w : HeadInRange u) (b : Branch) (r : FactsInRange u b) 
     of-two : (x y : ℕ)
         → x < u .p
         → y < u .p
-        → T (saturatedStep u b m (SProp len x y)) × T (saturatedStep u b m (SProp code x y)) × T (saturatedStep u b m (CInj x y))
+        → T (settledStep u b m (SProp len x y)) × T (settledStep u b m (SProp code x y)) × T (settledStep u b m (CInj x y))
     of-two x y hx hy =
-        let s0 = saturatedStep u b m (SProp len x y) in let s1 = saturatedStep u b m (SProp code x y) in
-        let (t1, p2) = and→ (s0 && s1) (saturatedStep u b m (CInj x y)) (all-below→ (u .p) (ofTwo x) (of-variable x hx .1) y hy) in
+        let s0 = settledStep u b m (SProp len x y) in let s1 = settledStep u b m (SProp code x y) in
+        let (t1, p2) = and→ (s0 && s1) (settledStep u b m (CInj x y)) (all-below→ (u .p) (ofTwo x) (of-variable x hx .1) y hy) in
         let (p0, p1) = and→ s0 s1 t1 in
         (p0, p1, p2)
 
     tested : ByClasses u b m
-    unfolding StepInRange
+    unfolding IsStep
     tested = record {
       s-prop = s-prop;
       l-intro = λ x hx. step→ (LIntro x) hx (of-one x hx .0);
@@ -291,8 +291,8 @@ module _ (u : Question) (w : HeadInRange u) (b : Branch) (r : FactsInRange u b) 
         s-prop len x y hx hy = step→ (SProp len x y) (hx, hy) (of-two x y hx hy .0)
         s-prop code x y hx hy = step→ (SProp code x y) (hx, hy) (of-two x y hx hy .1)
 
-    some-child : (st : Step) → StepInRange u st → (cs : List (List Fact)) → LeafInstance u b m st cs → SomeChild b m cs
-    unfolding LeafInstance StepInRange
+    some-child : (st : Step) → IsStep u st → (cs : List (List Fact)) → LeafInstance u b m st cs → SomeChild b m cs
+    unfolding LeafInstance IsStep
     some-child (Sum d ts) g cs i = absurd i
     some-child (BranchOn e) g cs i = absurd i
     some-child (Apart k) g cs i = absurd i
@@ -309,6 +309,6 @@ module _ (u : Question) (w : HeadInRange u) (b : Branch) (r : FactsInRange u b) 
     some-child (Card (x ∷ y ∷ xs)) (g, l) cs i = card-chosen tested x (y ∷ xs) cs g l (of-one x (g .0) .4) i
     some-child (Join j k) g cs i = absurd i
 
-    pub saturated→words : Saturated u b m
+    pub settled→words : Settled u b m
     unfolding Instance
-    saturated→words = record { no-conflict = λ cs i. T-not (conflict u b) (parts .0) (→conflict u w b r (i .clash)); some-child = some-child }
+    settled→words = record { no-conflict = λ cs i. T-not (conflict u b) (parts .0) (→conflict u w b r (i .clash)); some-child = some-child }

@@ -1,4 +1,4 @@
--- Saturation (document 01: "settled") as a test, which checking computes.
+-- Settled leaves as a test, which checking computes.
 use Prim.Native.Nat.{ℕ, zero, suc}
 use mathlib.Core.Bool.{Bool, true, false, not, _&&_, _||_}
 use mathlib.Core.Option.{Option, none, some}
@@ -31,8 +31,8 @@ abbrev pub byChildren : List ℕ → List ℤ → Option (List (List Fact)) → 
 byChildren ls m none = true
 byChildren ls m (some cs) = heldSome ls m cs
 
-abbrev pub saturatedStep : Question → Branch → List ℤ → Step → Bool
-saturatedStep u b m st = byChildren (labels b) m (children u b st)
+abbrev pub settledStep : Question → Branch → List ℤ → Step → Bool
+settledStep u b m st = byChildren (labels b) m (children u b st)
 
 -- the lowest variable from y on that is in one class with x, within fuel
 abbrev pub lowestFrom : ℕ → List ℕ → ℕ → ℕ → ℕ
@@ -49,14 +49,14 @@ lowestOfLength u ls m z (suc k) =
     elim (eqℤ (modelValue u m len k) z && eqb (lowestVariable ls k) k) [ true ↦ k ∷ lowestOfLength u ls m z k | false ↦ lowestOfLength u ls m z k ]
 
 -- Card, by counting: the classes whose length is that of x are no more than the strings of that length
-abbrev pub saturatedCard : Question → List ℕ → List ℤ → ℕ → Bool
-saturatedCard u ls m x =
+abbrev pub settledCard : Question → List ℕ → List ℤ → ℕ → Bool
+settledCard u ls m x =
     let k = length (lowestOfLength u ls m (modelValue u m len x) (u .p)) in
     leb k 1 || (not (leb (characterCount (u .n)) 1) && leb (leastPower k (characterCount (u .n)) k 0) (natAbs (modelValue u m len x)))
 
 -- S-Conf does not fit, and a child of each step of rules 6 to 12 holds
-abbrev pub saturated : Question → Branch → List ℤ → Bool
-saturated u b m = not (conflict u b) && allBelow (u .p) (λ x.
-    saturatedStep u b m (LIntro x) && saturatedStep u b m (LValid x) && saturatedStep u b m (CCollapse x) && saturatedStep u b m (CValid x)
-    && saturatedCard u (labels b) m x
-    && allBelow (u .p) (λ y. saturatedStep u b m (SProp len x y) && saturatedStep u b m (SProp code x y) && saturatedStep u b m (CInj x y)))
+abbrev pub settled : Question → Branch → List ℤ → Bool
+settled u b m = not (conflict u b) && allBelow (u .p) (λ x.
+    settledStep u b m (LIntro x) && settledStep u b m (LValid x) && settledStep u b m (CCollapse x) && settledStep u b m (CValid x)
+    && settledCard u (labels b) m x
+    && allBelow (u .p) (λ y. settledStep u b m (SProp len x y) && settledStep u b m (SProp code x y) && settledStep u b m (CInj x y)))

@@ -1,0 +1,1 @@
+// The cases are definitions and computations only: see specs/ and proofs/.
