@@ -1,5 +1,5 @@
 # The commands of README.md.
-.PHONY: test run show program library host install uninstall bench
+.PHONY: test run show desk program library host install uninstall bench cross
 
 # The prover's runs share target/.
 .NOTPARALLEL:
@@ -30,10 +30,15 @@ run: program
 	@target/bin/verdict < '$(TICKET)'
 
 # Explains a ticket record by record, and what is wrong at a record refused: make show TICKET=examples/example1.ticket
-# With JSON=1 for programs. Standard output has the account alone.
-show: library
-	@cargo build --quiet --release --offline --locked --manifest-path tests/Cargo.toml -p show --features library
-	@target/tests/release/show $(if $(JSON),--json) '$(TICKET)'
+# With JSON=1 for programs. Standard output has the account alone. A refusal, status 1, is no failure of this command.
+show: desk
+	@$(DESK) show $(if $(JSON),--json) '$(TICKET)' || [ $$? -eq 1 ]
+
+# The desk, the program that people use: target/desk/nuldwich
+DESK := target/desk/nuldwich
+desk: library
+	@CARGO_TARGET_DIR=$(CURDIR)/target/desk-build cargo build --quiet --release --offline --locked --manifest-path desk/Cargo.toml -p nuldwich
+	@install -D target/desk-build/release/nuldwich $(DESK)
 
 # The program: target/bin/verdict
 program:
@@ -49,18 +54,19 @@ $(LIBRARY): $(SOURCES)
 host: library
 	@gcc -std=c11 -Wall -Wextra -Werror -O2 -Iinclude examples/host.c $(LIBRARY) -o target/host
 
-# Library, header, program and a file for pkg-config, below PREFIX: make install PREFIX=/usr/local. DESTDIR stands before every path, for packagers.
+# Library, header, program, desk and a file for pkg-config, below PREFIX: make install PREFIX=/usr/local. DESTDIR stands before every path, for packagers.
 PREFIX ?= /usr/local
 override PREFIX := $(abspath $(PREFIX))
-INSTALLED := lib/libnuldwich.a include/nuldwich.h bin/nuldwich-verdict lib/pkgconfig/nuldwich.pc
+INSTALLED := lib/libnuldwich.a include/nuldwich.h bin/nuldwich-verdict bin/nuldwich lib/pkgconfig/nuldwich.pc
 INSTALL_TO = $(DESTDIR)$(PREFIX)
 VERSION = $(shell sed -n 's/^\#define NULDWICH_VERSION_STRING "\(.*\)"/\1/p' include/nuldwich.h)
 
-install: library program
+install: library program desk
 	@install -d $(addprefix $(INSTALL_TO)/,$(dir $(INSTALLED)))
 	@install -m 644 $(LIBRARY) $(INSTALL_TO)/lib/libnuldwich.a
 	@install -m 644 include/nuldwich.h $(INSTALL_TO)/include/nuldwich.h
 	@install -m 755 target/bin/verdict $(INSTALL_TO)/bin/nuldwich-verdict
+	@install -m 755 $(DESK) $(INSTALL_TO)/bin/nuldwich
 	@sed 's|@PREFIX@|$(PREFIX)|; s|@VERSION@|$(VERSION)|' include/nuldwich.pc.in > $(INSTALL_TO)/lib/pkgconfig/nuldwich.pc
 	@printf '%s\n' $(addprefix $(INSTALL_TO)/,$(INSTALLED))
 
@@ -71,3 +77,8 @@ uninstall:
 bench: library
 	@cargo build --quiet --release --offline --locked --manifest-path tests/Cargo.toml -p bench --features library
 	@target/tests/release/bench
+
+# Verdicts beside those of cvc5 and Z3, where one of them is installed, on a thousand questions.
+cross: library
+	@CARGO_TARGET_DIR=$(CURDIR)/target/desk-build cargo build --quiet --release --offline --locked --manifest-path desk/Cargo.toml -p desk_tests
+	@target/desk-build/release/cross

@@ -32,6 +32,16 @@ build() {
     cargo build --quiet --release --offline --locked --manifest-path tests/Cargo.toml "$@"
 }
 
+# The desk's test programs.
+build_desk() {
+    CARGO_TARGET_DIR=$PWD/target/desk-build cargo build --quiet --release --offline --locked --manifest-path desk/Cargo.toml -p desk_tests -p grown
+}
+
+# The solver's numbers, sums and lattices.
+test_solver() {
+    CARGO_TARGET_DIR=$PWD/target/desk-build cargo test --quiet --release --offline --locked --manifest-path desk/Cargo.toml -p solver
+}
+
 # Every crate was proved, and by the logic that the prover was built for: it says pinned=no where that is another one.
 own_logic() {
     grep -q '^logic=proved ' "$log" && ! grep -q 'pinned=no' "$log"
@@ -53,8 +63,14 @@ if [ "$failed" -eq 0 ]; then
     counted "$CARGO_TARGET_DIR/release/compare" need
     counted "$CARGO_TARGET_DIR/release/compare" same
     counted "$CARGO_TARGET_DIR/release/compare" program target/bin/verdict
-    single build -p show --features library
-    counted "$CARGO_TARGET_DIR/release/show_test"
+    single make --no-print-directory desk
+    single build_desk
+    single test_solver
+    counted target/desk-build/release/show_test
+    counted target/desk-build/release/desk_test target/desk/nuldwich
+    counted target/desk-build/release/grown
+    counted target/desk-build/release/smt_test target/desk/nuldwich
+    counted target/desk-build/release/draw_test target/desk/nuldwich
     counted tests/host.sh target/host
     counted tests/install.sh
     counted tests/evidence.sh

@@ -1,6 +1,7 @@
 #!/usr/bin/env bash
 # Installs into an empty folder outside the repository, builds hosts in C and C++ there with the flags that the installed file for pkg-config gives, runs them on
-# the examples, on answers, on tickets and on pairs of questions against the words on file, holds the header and the program against the library, and uninstalls. The last line is 'N passed, M failed'.
+# the examples, on answers, on tickets and on pairs of questions against the words on file, holds the header, the program and the desk against the library, and
+# uninstalls. The last line is 'N passed, M failed'.
 set -u
 cd "$(dirname "$0")/.."
 repository=$PWD
@@ -42,7 +43,8 @@ flags() {
 files() (cd "$1" && find . ! -type d -printf '%P\n' | LC_ALL=C sort)
 
 installed() {
-    [ "$(files "$1")" = "bin/nuldwich-verdict
+    [ "$(files "$1")" = "bin/nuldwich
+bin/nuldwich-verdict
 include/nuldwich.h
 lib/libnuldwich.a
 lib/pkgconfig/nuldwich.pc" ]
@@ -70,12 +72,14 @@ header_holds() {
     built header tests/host/header.c gcc -std=c11 && find examples tests/vectors -name '*.ticket' -print0 | xargs -0 "$folder/header"
 }
 
-program_says() { [ "$("$prefix/bin/nuldwich-verdict" <examples/office/four-wards.ticket)" = "verdict none" ]; }
+desk_says() { [ "$("$prefix/bin/nuldwich" same examples/office/01-numbers-too-long.txt examples/office/01-numbers-too-long.ticket)" = "the proved library says: the same" ]; }
+
+program_says() { [ "$("$prefix/bin/nuldwich-verdict" <examples/office/09-four-wards.ticket)" = "verdict none" ]; }
 
 uninstalled() { make --no-print-directory uninstall DESTDIR= PREFIX="$prefix" && [ -z "$(files "$prefix")" ]; }
 
 try "make install fails" make --no-print-directory install DESTDIR= PREFIX="$prefix"
-try "other files than four are there" installed "$prefix"
+try "other files than five are there" installed "$prefix"
 has_pkg_config && try "pkg-config reads other flags than are on file" test "$(flags)" = "$(flags_on_file)"
 try "the version on file is not the header's" grep -qxF "Version: $(sed -n 's/^#define NULDWICH_VERSION_STRING "\(.*\)"$/\1/p' include/nuldwich.h)" "$pc"
 for standard in c99 c11; do
@@ -86,6 +90,7 @@ for standard in c++11 c++17; do
 done
 try "the header does not hold" header_holds
 try "the program" program_says
+try "the desk" desk_says
 try "an installation with DESTDIR" staged
 try "the file for pkg-config names DESTDIR" grep -qx 'prefix=/usr/local' "$folder/stage/usr/local/lib/pkgconfig/nuldwich.pc"
 try "something is proved again" test -z "$(grep -E 'logic=proved|proved \([0-9]' "$folder/log")"

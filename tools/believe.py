@@ -20,21 +20,24 @@ LAMBDA = re.compile(r"λ ([^.]*?)\. ")
 LET = re.compile(r"\blet ([^=]*?) = ")
 ARM = re.compile(r"[|\[] ([^|\[]*?) ↦")
 FIELD = re.compile(r"\s+pub (\S+) :")
-# Computed notions, and the theorems that say them in words.
+# Computed notions, and the theorems of the page that say in words what they give.
 WORDED = {
-    ("format", "Checking", "verdict"): "TH-form, TH-2, TH-6, TH-refusals",
-    ("format", "Cores", "coreOf"): "TH-L5, TH-L5-empty",
-    ("format", "Judging", "submission"): "TH-3-answers, TH-3-unformed, TH-3-outside",
-    ("format", "Needs", "needed"): "TH-L2, TH-L2-met, TH-L2-reported, TH-L2-unclosed",
-    ("format", "Sameness", "sameness"): "TH-L6-sets, TH-L6-refused",
+    ("format", "Checking", "verdict"): "TH-1-small, TH-1-long, TH-form, TH-2, TH-2-covers, TH-4, TH-5, TH-6, TH-6-covers, TH-refusals; not which of 3 to 7, and at which record",
+    ("format", "Judging", "submission"): "TH-asked, TH-3, TH-3-answers, TH-3-unformed, TH-3-outside; not which of 2 to 7 and 10 a question gets, and at which record",
+    ("format", "Needs", "needed"): "TH-L2-reported, TH-L2-met, TH-L2-unclosed, TH-L2-numbers; not which of 2 to 7, and at which record",
+    ("format", "Sameness", "sameness"): "TH-L6-sets, TH-L6-different, TH-L6-refused",
     ("format", "ProperForm", "ProperNoSolution"): "TH-form",
     ("format", "ProperForm", "ProperStrings"): "TH-form",
     ("format", "ProperForm", "stepsWithChild"): "TH-form",
     ("format", "ProperForm", "steps"): "TH-form",
-    ("calculus", "Rules", "children"): "calculus/specs/Agreements `instances`",
     ("format", "Question", "questionOf"): "TH-put",
-    ("format", "Question", "judgedQuestion"): "TH-asked",
+    ("format", "Demands", "Asks"): "TH-asked",
 }
+# What the contracts of the public operations and the agreements of words and tests begin from, besides the page.
+PROMISED = [
+    ("checking", "Outcomes", "Promised"), ("checking", "Theory", "Theory"), ("judging", "Judgements", "Finds"), ("needs", "Outcomes", "needOf"),
+    ("sameness", "Asked", "samenessOf"), ("lines", "Reports", "Reports"), ("calculus", "Agreements", "Agreements"), ("format", "Agreements", "Agreements"),
+]
 
 
 class Definition:
@@ -50,7 +53,7 @@ class Definition:
         return self.crate, self.module, self.name
 
     def words(self):
-        """The document's words, as the comment above quotes them; else its first sentence."""
+        """The document's words, as the comment above quotes them; else the comment."""
         text = " ".join(line.lstrip("- ").rstrip() for line in self.comment)
         quoted = re.findall(r'"[^"]+"', text)
         return "; ".join(quoted) if quoted else text or "″"
@@ -77,7 +80,7 @@ class File:
                     comment.append(text)
             elif text.startswith("use "):
                 self.bring_in(text)
-            elif text.startswith("}") and current is not None:
+            elif text[0] in "}])" and current is not None:
                 current.lines.append(line)
             elif text != "mutual":
                 current = self.add(line, comment, current)
@@ -86,6 +89,8 @@ class File:
     def bring_in(self, text):
         found = USE.match(text)
         if not found:
+            if text.startswith("use Rattle") and ".declared." not in text and " as " not in text:
+                sys.exit(f"{self.crate}/specs/{self.module}: not understood: {text}")
             return
         crate, module, names, alias = found.groups()
         if alias:
@@ -204,14 +209,13 @@ def groups(specs):
     statements = [page.names[name] for name in fields]
     base = [d for d in statements if not d.name.startswith("TH-L")]
     no = [page.names["PutsQuestion"], page.names["NoAssignment"]]
-    replies = specs.files[("nuldwich", "Replies")].definitions
-    report = [specs.find("lines", "Reports", "Reports")]
+    promised = [specs.find(*key) for key in PROMISED] + specs.files[("nuldwich", "Replies")].definitions
     return fields, [
         ("an accepted no is true: the question that the bytes begin with, and that no assignment meets it", no, False),
-        ("demands 1 to 3 of document 01 in words: every statement but TH-1 and those of 02", base, False),
+        ("demands 1 to 3 of document 01: every statement but TH-1 and those of 02", base, False),
         ("every statement of the page but TH-1", statements, False),
         ("TH-1, with all that is computed", [page.names["TH-1"]], True),
-        ("all of it, the replies of the C entries and the program's report included", statements + [page.names["TH-1"]] + replies + report, True),
+        ("all of it, with what is computed, the promises of all public operations and the agreements", statements + [page.names["TH-1"]] + promised, True),
     ]
 
 
@@ -237,7 +241,7 @@ def page_text(specs):
     out += [f"| {c}/specs/{m} `{n}` | {theorem} |" for (c, m, n), theorem in WORDED.items()]
     words = {d.key for d in specs.reached(counted[1][1], closed)}
     everything = specs.reached(counted[-1][1], set())
-    out += ["", "## The definitions", "", "*w* marks those in the words of demands 1 to 3. Where nothing is said above a definition, the comment before it speaks of it too (″).", ""]
+    out += ["", "## The definitions", "", "*w* marks those that demands 1 to 3 reach without looking into what is computed. Where nothing is said above a definition, the comment before it speaks of it too (″).", ""]
     for (crate, module), f in specs.files.items():
         rows = [d for d in f.definitions if d in everything]
         if rows:
@@ -249,10 +253,15 @@ def page_text(specs):
 
 HEAD = """# What is to be believed
 
-A reader believes the definitions that the demands' statements name (format/specs/Demands), and nothing else: that the theorems hold of these definitions, and
-the code of its contracts, is proved. This page counts them; `python3 tools/believe.py` writes it, and the gate fails where it is not current. A line is one of a
-definition, without comments and blank lines. A notion that a theorem of the page puts into words is not looked into, except for TH-1, which is an equation with
-what is computed.
+A reader believes definitions and statements; that the theorems hold of these definitions, and the code of its contracts, is proved. This page counts the definitions
+that the demands' statements (format/specs/Demands) reach; `python3 tools/believe.py` writes it, and the gate fails where it is not current. A line is one of a
+definition, without comments and blank lines.
+
+A computed notion of which theorems of the page say in words what it gives is not looked into, except for TH-1, which is an equation with what is computed: so
+which of the refusals 3 to 7 is given, and at which record, rests on reading the definitions of the format ([DECISIONS.md](DECISIONS.md), 168).
+
+Not counted, and believed besides: the library's numbers, lists and integers; the types that the code declares, which contracts name; the prover and the compiler
+(.ci/kit); the border to C, and the program's `main` with what it calls of the C library.
 """
 
 

@@ -5,21 +5,22 @@ use native.Mathlib.Omega.{arith}
 use mathlib.Core.Path.{_≡_, refl, sym, _∙_, ap, ap₂, subst}
 use mathlib.Core.Logic.{_≢_, _⊎_, inl, inr}
 use mathlib.Core.Bool.{Bool, true, false, not, cond, _&&_, _||_, or-true, and-false, false≢true}
-use mathlib.Core.List.{List, [], _∷_, _++_, append-nil, append-assoc, map-append}
-use lib.ListN.{length}
+use mathlib.Core.List.{List, [], _∷_, _++_, append-nil, append-assoc, map-append, map}
+use lib.ListN.{length, length-append, length-map}
 use lib.IntN.{ℤ, pos, negsuc, natAbs, pos-ne-negsuc}
 use lib.Dec.{T, ltb, leb, eqb, eqb→eq}
 use borrow.Author.Tests.{ltb-true, ltb-false, leb-true, eqb-true, eqb-false, lt-ltb, le-ltb, le-leb, lt-leb, eq-eqb, ne-eqb}
 use Rattle.lists.specs.Lists.{All, all}
 use Rattle.lists.proofs.Lists.{all-append, all-true→, →all-true}
 use Rattle.lists.proofs.Tests.{→true, true→, and→, →and, and-both, equal-tests}
+use Rattle.calculus.specs.Facts.{Question}
 use Rattle.calculus.specs.LinearForms.{eqℤ}
 use Rattle.calculus.specs.Strings.{eqString}
 use Rattle.calculus.specs.Meaning.{Assignment, str}
 use Rattle.calculus.specs.Extended.{upperCharacter, lowerCharacter, upper, lower}
 use Rattle.calculus.specs.Extended.{zeroDigit, isDigit, numeric, numeralFrom, numeral, toInt, decimalWithin, decimal, fromInt}
 use Rattle.calculus.specs.Extended.{Precedes, equal, prefix, smaller, precedes, Extended, isUpper, isLower, isValue, isDecimal, inOrder}
-use Rattle.calculus.specs.Extended.{int, MeetsExtended, meetsExtended}
+use Rattle.calculus.specs.Extended.{int, MeetsExtended, meetsExtended, basic, extended, constraintsOf}
 use Rattle.calculus.proofs.LinearForms.{eqℤ→, →eqℤ}
 use Rattle.calculus.proofs.Words.{eqString→, →eqString}
 
@@ -329,3 +330,8 @@ decimal-is s k =
     is e =
         →and (numeric s) (eqb (numeral s) k) (true→ (ap numeric e ∙ decimal-numeric k))
         (true→ (eq-eqb (numeral s) k (ap numeral e ∙ decimal-value k)))
+
+-- the constraints of the question and the extended ones
+pub length-constraintsOf : (u : Question) (es : List Extended) → length (constraintsOf u es) ≡ length (u .constraints) + length es
+length-constraintsOf u es =
+    length-append (map basic (u .constraints)) (map extended es) ∙ ap₂ _+_ (length-map (u .constraints) basic) (length-map es extended)

@@ -61,7 +61,7 @@ in-order-by k i j positive h = go (ℕ-discrete (i / k) (j / k))
         rests e (omega arith)
     go (no f) = quotients (omega (arith, quotients-rise i j k positive h))
 
-pub words-in-order : (n l i j : ℕ) → 0 < n → i ≤ j → Precedes (word n l i) (word n l j)
+words-in-order : (n l i j : ℕ) → 0 < n → i ≤ j → Precedes (word n l i) (word n l j)
 words-in-order n zero i j z h = equal refl
 words-in-order n (suc l) i j z h =
     let k : ℕ = characterCount n ^ l in
@@ -75,7 +75,7 @@ words-in-order n (suc l) i j z h =
 
 -- ---- what is given before a class
 
-module _ (u : Question) (w : HeadInRange u) (b : Branch) (r : FactsInRange u b) (m : List ℤ) (sat : Settled u b m) where
+module _ (u : Question) (w : HeadInRange u) (b : Branch) (r : FactsInRange u b) (m : List ℤ) (settled : Settled u b m) where
   abbrev Before : ℕ → List ℕ → Type 0
   Before = GivenBefore u b m (answer u b m)
 
@@ -96,7 +96,7 @@ module _ (u : Question) (w : HeadInRange u) (b : Branch) (r : FactsInRange u b) 
   before→ x s h (to-literal y l g c e) =
       in-left s (fixedStrings u b m (u .p)) (stringsTo u b m x) (fixed-there y s g (λ z. some-none (sym (fixed-literal y l c) ∙ z)) e)
   before→ x s h (to-one y g p e) =
-      in-left s (fixedStrings u b m (u .p)) (stringsTo u b m x) (fixed-there y s g (λ z. not-fixed→ u w b r m sat y z p) e)
+      in-left s (fixedStrings u b m (u .p)) (stringsTo u b m x) (fixed-there y s g (λ z. not-fixed→ u w b r m settled y z p) e)
   before→ x s h (to-lower y g e) =
       in-right s (fixedStrings u b m (u .p)) (stringsTo u b m x)
       (subst (λ t. In t (stringsTo u b m x)) (sym (e ∙ given-is y (omega arith))) (→in-strings u b m x y g))
@@ -104,12 +104,12 @@ module _ (u : Question) (w : HeadInRange u) (b : Branch) (r : FactsInRange u b) 
   →before : (x : ℕ) (s : List ℕ) → x < u .p → In s (before u b m x) → Before x s
   →before x s h i = go (in-append s (fixedStrings u b m (u .p)) (stringsTo u b m x) i)
     where
-      kind : (y : ℕ) → y < u .p → s ≡ str (answer u b m) y → Fixed u w b r m sat y s → Before x s
+      kind : (y : ℕ) → y < u .p → s ≡ str (answer u b m) y → Fixed u w b r m settled y s → Before x s
       kind y g e (inl (l, c, _)) = to-literal y l g c e
       kind y g e (inr (c, _, p, _, _)) = to-one y g p e
 
       go : In s (fixedStrings u b m (u .p)) ⊎ In s (stringsTo u b m x) → Before x s
-      go (inl j) = let (y, g, q) = in-fixed→ u b m (u .p) s j in kind y g (sym (given-is y g ∙ S-fixed u b m y s q)) (fixed→ u w b r m sat y s g q)
+      go (inl j) = let (y, g, q) = in-fixed→ u b m (u .p) s j in kind y g (sym (given-is y g ∙ S-fixed u b m y s q)) (fixed→ u w b r m settled y s g q)
       go (inr j) = let (y, g, q) = in-strings→ u b m x s j in to-lower y g (q ∙ sym (given-is y (omega arith)))
 
   -- ---- each other class
@@ -149,11 +149,11 @@ module _ (u : Question) (w : HeadInRange u) (b : Branch) (r : FactsInRange u b) 
 
     in-order : Smallest Candidate (str (answer u b m) x)
     in-order =
-        let (over, free, (j, q, k)) = new-string u w b r m sat x h (not-fixed x o) (is-lowest x (o .lowest)) in
+        let (over, free, (j, q, k)) = new-string u w b r m settled x h (not-fixed x o) (is-lowest x (o .lowest)) in
         record {
           one-of-them = record {
             over = subst (Over (u .n)) (sym (given-is x h)) over;
-            of-length = ap (λ s. pos (length s)) (given-is x h ∙ q) ∙ ap pos (length-word (u .n) (L u b m x) j) ∙ sym (length-is u w b r m sat x h);
+            of-length = ap (λ s. pos (length s)) (given-is x h ∙ q) ∙ ap pos (length-word (u .n) (L u b m x) j) ∙ sym (length-is u w b r m settled x h);
             not-given = λ g. free (subst (λ s. In s (before u b m x)) (given-is x h) (before→ x (str (answer u b m) x) h g));
           };
           least = λ t f. subst (λ s. Precedes s t) (sym (given-is x h ∙ q)) (behind j k t f);
@@ -171,14 +171,14 @@ one-character n s z c over size codes e = go (one-or-no-code s)
 
 pub strings-given : (u : Question) → HeadInRange u → Distinct ([] ∷ u .literals) → All (Over (u .n)) (u .literals) → (b : Branch) → FactsInRange u b
     → (m : List ℤ) → length m ≡ u .q + (u .p + u .p) → All (MeetsArithmetic m) b → Settled u b m → GivenStrings u b m (answer u b m)
-strings-given u w d over b r m size kept sat =
-    let a = strings-answer u w d over b r m size kept sat in
+strings-given u w d over b r m size kept settled =
+    let a = strings-answer u w d over b r m size kept settled in
     record {
       one-string = a .equal;
-      by-literal = λ x l h c. given-is u w b r m sat x h ∙ S-fixed u b m x (literal u l) (fixed-literal u w b r m sat x l c);
+      by-literal = λ x l h c. given-is u w b r m settled x h ∙ S-fixed u b m x (literal u l) (fixed-literal u w b r m settled x l c);
       by-code = λ x h e. one-character (u .n) (str (answer u b m) x) (modelValue u m len x) (modelValue u m code x) (a .for-question .over x) (a .values len x h)
           (a .values code x h) e;
-      by-order = in-order u w b r m sat;
+      by-order = in-order u w b r m settled;
       values = a .values;
     }
 

@@ -200,26 +200,6 @@ module _ {B C : Type 0} (Fits : B → Step → List C → Type 0) (add : B → C
     arrives-everywhere (working b ss) to (st ∷ sts) (r, rs) (q, qs) (cs, i, h) =
         arrives-everywhere (enter add b cs ss) to sts (enter-everywhere add P b cs ss (kept b st cs r q i) rs) qs h
 
-    -- where steps fit in one way, they lead to one place
-    module _ (one-way : (b : B) (st : Step) (cs ds : List C) → P b → Q st → Fits b st cs → Fits b st ds → cs ≡ ds) where
-      pub one-arrival : (k to at : Walk B C) (sts : List Step) → Everywhere add P k → All Q sts → Arrives k sts to → Arrives k sts at → to ≡ at
-      unfolding Arrives
-      one-arrival k to at [] r q h g = sym h ∙ g
-      one-arrival closed to at (st ∷ sts) r q h g = absurd h
-      one-arrival (working b ss) to at (st ∷ sts) (r, rs) (q, qs) (cs, i, h) (ds, j, g) =
-          one-arrival (enter add b cs ss) to at sts (enter-everywhere add P b cs ss (kept b st cs r q i) rs) qs h
-          (subst (λ ds. Arrives (enter add b ds ss) sts at) (sym (one-way b st cs ds r q i j)) g)
-
-      pub one-lead : (b leaf leaf' : B) (sts : List Step) (pending pending' : ℕ) → P b → All Q sts
-          → LeadsBy Fits add b sts leaf pending
-          → LeadsBy Fits add b sts leaf' pending'
-          → (leaf ≡ leaf') × (pending ≡ pending')
-      one-lead b leaf leaf' sts pending pending' r q l l' =
-          let (ss, n, h) = leads→walk b leaf sts pending l in
-          let (ss', n', h') = leads→walk b leaf' sts pending' l' in
-          let same : working leaf ss ≡ working leaf' ss' = one-arrival (working b []) (working leaf ss) (working leaf' ss') sts (r, tt) q h h' in
-          (cc, sym n ∙ ap length (let e : ss ≡ ss' = cc in e) ∙ n')
-
 -- a walk by one way of fitting is one by another, where the one gives the other
 pub arrives-as : {B C : Type 0} (Fits Others : B → Step → List C → Type 0) (add : B → C → B) (P : B → Type 0) (Q : Step → Type 0)
     → ((b : B) (st : Step) (cs : List C) → P b → Q st → Fits b st cs → All (λ c. P (add b c)) cs)

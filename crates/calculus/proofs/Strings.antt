@@ -133,7 +133,7 @@ module _ (u : Question) (b : Branch) (m : List ℤ) where
 
 -- ---- a settled leaf
 
-module _ (u : Question) (w : HeadInRange u) (b : Branch) (r : FactsInRange u b) (m : List ℤ) (sat : Settled u b m) where
+module _ (u : Question) (w : HeadInRange u) (b : Branch) (r : FactsInRange u b) (m : List ℤ) (settled : Settled u b m) where
   abbrev pub M : Function → ℕ → ℤ
   M f x = modelValue u m f x
 
@@ -147,7 +147,7 @@ module _ (u : Question) (w : HeadInRange u) (b : Branch) (r : FactsInRange u b) 
   fixed x = fixedString u b m x
 
   held : ByClasses u b m
-  held = by-classes u w b r m sat
+  held = by-classes u w b r m settled
 
   low-below : (x : ℕ) → x < u .p → low x < u .p
   low-below x h = omega (arith, lowest-le b x)
@@ -287,7 +287,7 @@ module _ (u : Question) (w : HeadInRange u) (b : Branch) (r : FactsInRange u b) 
     some-left f =
         let k = length (ofLength x) in
         let a : length (words (u .n) (L u b m x) k) ≤ length (map string (without x (ofLength x) itself)) =
-        at-most (words (u .n) (L u b m x) k) others (words-distinct (u .n) (L u b m x) k (w .alphabet) (enough u w b r m sat x)) given in
+        at-most (words (u .n) (L u b m x) k) others (words-distinct (u .n) (L u b m x) k (w .alphabet) (enough u w b r m settled x)) given in
         let c : length (map string (without x (ofLength x) itself)) ≡ length (without x (ofLength x) itself) =
         length-map (without x (ofLength x) itself) string in
         let d : length (words (u .n) (L u b m x) k) ≡ k = length-words (u .n) (L u b m x) k in
@@ -312,7 +312,7 @@ module _ (u : Question) (w : HeadInRange u) (b : Branch) (r : FactsInRange u b) 
             (subst (Over (u .n)) (sym q) (word-over (u .n) (L u b m x) j (w .alphabet) (below (decLt j (length (ofLength x))))), f, (j, q, k))
           where
             below : Dec (j < length (ofLength x)) → j < characterCount (u .n) ^ L u b m x
-            below (yes g) = omega (arith, enough u w b r m sat x)
+            below (yes g) = omega (arith, enough u w b r m settled x)
             below (no g) = absurd (some-left (λ i a. k i (omega arith)))
 
   -- ---- different classes, different strings
@@ -447,7 +447,7 @@ module _ (u : Question) (w : HeadInRange u) (b : Branch) (r : FactsInRange u b) 
         where
           one-literal : (k : ℕ) → Counts u b x k → Dec (k ≡ l) → k ≡ l
           one-literal k d (yes p) = p
-          one-literal k d (no f) = absurd (sat .no-conflict [] (record {
+          one-literal k d (no f) = absurd (settled .no-conflict [] (record {
             clash =
                 inl
                 (record { first = k; second = l; first-defined = d .defined; second-defined = h; different = f; joined = chain-trans (chain-sym (d .held)) c });
@@ -466,7 +466,7 @@ module _ (u : Question) (w : HeadInRange u) (b : Branch) (r : FactsInRange u b) 
           str-is x hx ∙ string-class x y hx hy (along (joined b k (same x y) (varNode x) (varNode y) h (refl, refl)) here) ∙ sym (str-is y hy)
       meets k (notSame x y) h (hx, hy) a =
           λ e. classes-differ x y hx hy
-          (λ c. sat .no-conflict [] (record { clash = inr (record { left = x; right = y; stands = (k, h); joined = c }); closes = refl }))
+          (λ c. settled .no-conflict [] (record { clash = inr (record { left = x; right = y; stands = (k, h); joined = c }); closes = refl }))
           (sym (str-is x hx) ∙ e ∙ str-is y hy)
       meets k (isLiteral x l) h (hx, hl) a =
           str-is x hx ∙ string-literal x l hl (along (joined b k (isLiteral x l) (varNode x) (litNode l) h (refl, refl)) here)
@@ -488,10 +488,10 @@ pub record Answers (u : Question) (b : Branch) (m : List ℤ) (a : Assignment) :
 
 pub strings-answer : (u : Question) → HeadInRange u → Distinct ([] ∷ u .literals) → All (Over (u .n)) (u .literals) → (b : Branch) → FactsInRange u b
     → (m : List ℤ) → length m ≡ u .q + (u .p + u .p) → All (MeetsArithmetic m) b → Settled u b m → Answers u b m (answer u b m)
-strings-answer u w d over b r m size kept sat = record {
-  for-question = answer-for u w b r m sat d over size;
-  values = λ f x h. ap (valueOf f) (str-is u w b r m sat d over size x h) ∙ sym (values u w b r m sat x h f);
-  equal = λ x y h g c. str-is u w b r m sat d over size x h ∙ string-class u w b r m sat x y h g c ∙ sym (str-is u w b r m sat d over size y g);
-  differ = λ x y h g f e. classes-differ u w b r m sat d x y h g f (sym (str-is u w b r m sat d over size x h) ∙ e ∙ str-is u w b r m sat d over size y g);
-  met = all-met u w b r m sat d over size b (λ f i. i) r kept;
+strings-answer u w d over b r m size kept settled = record {
+  for-question = answer-for u w b r m settled d over size;
+  values = λ f x h. ap (valueOf f) (str-is u w b r m settled d over size x h) ∙ sym (values u w b r m settled x h f);
+  equal = λ x y h g c. str-is u w b r m settled d over size x h ∙ string-class u w b r m settled x y h g c ∙ sym (str-is u w b r m settled d over size y g);
+  differ = λ x y h g f e. classes-differ u w b r m settled d x y h g f (sym (str-is u w b r m settled d over size x h) ∙ e ∙ str-is u w b r m settled d over size y g);
+  met = all-met u w b r m settled d over size b (λ f i. i) r kept;
 }

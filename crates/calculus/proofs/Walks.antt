@@ -21,7 +21,7 @@ use Rattle.calculus.proofs.Tests.{then→, →then}
 use Rattle.calculus.proofs.Fits.{fits→instance, instance→fits}
 use Rattle.calculus.proofs.Ranges.{children-in-range}
 use Rattle.calculus.proofs.Everywhere.{Everywhere, enter-everywhere}
-use Rattle.calculus.proofs.Leads.{Arrives, closed→walk, walk→closed, leads→walk, arrives-everywhere, one-lead, arrives-as}
+use Rattle.calculus.proofs.Leads.{Arrives, closed→walk, walk→closed, leads→walk, arrives-everywhere, arrives-as}
 
 -- ---- claim 1
 
@@ -82,13 +82,7 @@ module _ (u : Question) (w : HeadInRange u) where
   pub closes→walked : (b : Branch) (sts : List Step) → FactsInRange u b → All (IsStep u) sts → Closes u b sts → Walked u (working b []) sts
   closes→walked b sts r g k = proper→fitting (working b []) closed sts (r, tt) g (closed→walk (Instance u) _++_ b sts k)
 
-  -- they lead to one open branch, in range, with one number of splits pending
-  pub leads-to-one : (b leaf leaf' : Branch) (sts : List Step) (pending pending' : ℕ) → FactsInRange u b → All (IsStep u) sts
-      → Leads u b sts leaf pending
-      → Leads u b sts leaf' pending'
-      → (leaf ≡ leaf') × (pending ≡ pending')
-  leads-to-one = one-lead (Instance u) _++_ (FactsInRange u) (IsStep u) children-kept one-instance
-
+  -- the branch that they lead to is in range
   pub led-in-range : (b leaf : Branch) (sts : List Step) (pending : ℕ) → FactsInRange u b → All (IsStep u) sts → Leads u b sts leaf pending → FactsInRange u leaf
   led-in-range b leaf sts pending r g l =
       let (ss, n, h) = leads→walk (Instance u) _++_ b leaf sts pending l in

@@ -7,7 +7,7 @@ use Rattle.lists.specs.Lists.{All}
 use Rattle.calculus.specs.Limits.{variableLimit, literalLimit, columnLimit}
 use Rattle.calculus.specs.Facts.{Question, Fact, same, notSame, isLiteral, arithmetic}
 
--- "u32 n (1 to 196,608), u16 p string variables, u16 q integer variables (each 0 to 16)", "literal, 0 to 15 of them"
+-- there is a character, "u16 p string variables, u16 q integer variables (each 0 to 16)", "literal, 0 to 15 of them"; no rule rests on the greatest n
 pub record HeadInRange (u : Question) : Type 0 where
   pub alphabet : 1 ≤ u .n
   pub strings : u .p ≤ variableLimit

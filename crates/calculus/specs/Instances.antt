@@ -211,8 +211,8 @@ Instance u b (Join j k) cs = IsJoin b j k cs
 
 -- ---- the part of a step's form (refusals 5 and 6) that the rules rest on
 
--- a step of the question: its variables are the question's, a form is whole, and pairs and variables are enough. Multipliers' ranges and greatest counts are
--- not in it; Card's 16 holds since its variables differ and p is at most 16.
+-- a step of the question: its variables are the question's, a form is whole, a Sum has a divisor of at least 1 and a pair, and Card two variables. Multipliers' ranges
+-- and greatest counts are not in it; Card's 16 holds since its variables differ and p is at most 16.
 unfoldable pub IsStep : Question → Step → Type 0
 IsStep u (Sum d ts) = (1 ≤ d) × (1 ≤ length ts)
 IsStep u (BranchOn e) = length e ≡ suc columnLimit

@@ -98,6 +98,7 @@ normals u es = map normalConstraint (constraintsOf u es)
 
 -- ---- when two constraints are alike: of one tag, with the same operands and the same form. Sameness asks it of normal forms.
 
+-- the "u16 function" of kind 11: 0 to 4, in their order in 02, L3
 abbrev pub functionNumber : Extended → ℕ
 functionNumber (isUpper x y) = 0
 functionNumber (isLower x y) = 1
@@ -117,7 +118,7 @@ operandsOf u (notSame x y) = x ∷ y ∷ []
 operandsOf u (isLiteral x l) = x ∷ literal u l
 operandsOf u (arithmetic r e) = []
 
--- "Kind 11 compares field by field"
+-- "Kind 11 compares field by field": "u16 a, u16 b"
 abbrev pub fieldsOf : Extended → List ℕ
 fieldsOf (isUpper x y) = x ∷ y ∷ []
 fieldsOf (isLower x y) = x ∷ y ∷ []

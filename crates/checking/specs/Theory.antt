@@ -1,4 +1,5 @@
--- Demand 3 of the code: what `check_ticket` returns and the bytes that it leaves in the answer buffer are true of the ticket.
+-- Demand 3 of the code, as far as it speaks of what is handed out: what `check_ticket` returns and the bytes that it leaves in the answer buffer are true of the
+-- ticket. That it accepts the leaves that it should is TH-6, by the equation of its contract (TH-1).
 use Prim.Native.Nat.{ℕ, _-_}
 use mathlib.Core.Path.{_≡_}
 use mathlib.Core.Bool.{cond}
@@ -28,7 +29,7 @@ NoneMeetsThose u low high = (a : Assignment) → IsAssignment u a
 pub record NoSolutionIsTrue (ticket answer answer' : List ℕ) (low high : ℕ) : Type 0 where
   pub question : Question
   pub asked : questionOf ticket ≡ some question
-  -- in words, of bytes: the ticket begins with it
+  -- in words, of bytes, as every slice that is lent has them: the ticket begins with it
   pub begins : Bytes ticket → PutsQuestion ticket question []
   pub none-meets : NoAssignment question
   pub none-meets-those : NoneMeetsThose question low high

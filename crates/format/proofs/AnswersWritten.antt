@@ -16,12 +16,13 @@ use Rattle.lists.proofs.Tests.{and-both}
 use Rattle.calculus.specs.Limits.{Small, variableLimit, lengthLimit, valueLimit}
 use Rattle.calculus.specs.Facts.{Question}
 use Rattle.calculus.specs.Meaning.{Assignment}
+use Rattle.format.specs.Fields.{IsU32}
 use Rattle.format.specs.Records.{size, kind, next, whole}
 use Rattle.format.specs.Places.{skip, textAt, texts}
 use Rattle.format.specs.Answer.{recordBytes, characterBytes, integerBytes, stringRecords, encode, recordIs, stringForm, answerForm, integersAt, assignmentOf}
 use Rattle.format.specs.Answer.{outside}
 use Rattle.format.specs.Judging.{Submission, Rejected, Submitted, byForm, submission}
-use Rattle.format.specs.Demands.{Bytes, AnswerInRange, TH-3-answers, TH-3-unformed, IsU32, AnswerHeld, OutsideAt, character, integer, TH-3-outside}
+use Rattle.format.specs.Demands.{Bytes, AnswerInRange, TH-3-answers, TH-3-unformed, AnswerHeld, OutsideAt, character, integer, TH-3-outside}
 use Rattle.format.proofs.Faults.{clash}
 use Rattle.format.proofs.Encoded.{length-characters, length-integers}
 use Rattle.format.proofs.Fields.{length-u32s, length-i32s}

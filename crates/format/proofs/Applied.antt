@@ -33,7 +33,7 @@ use Rattle.format.specs.Reading.{State, proving, taking, modelled, Done,
 use Rattle.format.specs.Reading.{readSteps, stepsOn, claimAt, claimFault, begin, readBehind}
 use Rattle.format.specs.Checking.{orNone, checker, Refused, outcomeOf}
 use Rattle.format.proofs.Sizes.{sized}
-use Rattle.format.specs.Written.{questionBytes, claimRecord, stepRecords, stepRecord, modelRecord, endRecord, withChildZero, QuestionInRange, OperandsInRange, ChildInRange}
+use Rattle.format.specs.Written.{questionBytes, claimRecord, stepRecords, stepRecord, modelRecord, endRecord, withChildZero, QuestionInRange, OperandsInRange, TakenInRange}
 use Rattle.format.specs.Refusals.{Begins, OnTree, OnPath, StepOnTree, StepOnPath, AtModel, SplitRefused, TakenRefused, LeafRefused, FirstRefusal}
 use Rattle.format.specs.Refusals as refusals
 use Rattle.format.specs.Demands.{Bytes, TH-refusals}
@@ -47,7 +47,7 @@ use Rattle.format.proofs.Refusals.{InQuestion, question-number}
 use Rattle.format.proofs.Ranges.{operands→step, question→head, question→facts}
 use Rattle.format.proofs.Agreements.{agreements}
 use Rattle.format.proofs.Beginnings.{end-done, split-fault, taken-fault}
-use Rattle.format.proofs.Begun.{begins-more, without-more, split-read, taken-read, ReadsTo, proving-reads, taking-range, taking-reads}
+use Rattle.format.proofs.Begun.{begins-more, zero-more, split-read, taken-read, ReadsTo, proving-reads, taking-range, taking-reads}
 use Rattle.format.proofs.ChildFields.{child→}
 use Rattle.format.proofs.StepsWritten.{step-written}
 use Rattle.format.proofs.RecordsBehind.{claim-written, end-written, model-read, model-written}
@@ -142,7 +142,7 @@ module _ (t : List ℕ) (bytes : Bytes t) (u : Question) where
       record {
         steps = p .steps ++ (st ∷ []);
         begins =
-            subst (λ ts. Begins t u 1 ts (drop (next t at) t) (suc r)) (sym (without-more (p .steps) st))
+            subst (λ ts. Begins t u 1 ts (drop (next t at) t) (suc r)) (sym (zero-more (p .steps) st))
             (begins-more t u 1 (withChildZero (p .steps)) (st, 0) (drop (next t at) t) r
             (subst (λ l. Begins t u 1 (withChildZero (p .steps)) l r) e (p .begins)));
         in-range = all-append (OperandsInRange u) (p .steps) (st ∷ []) (p .in-range) (g, tt);
@@ -155,13 +155,12 @@ module _ (t : List ℕ) (bytes : Bytes t) (u : Question) where
       }
 
   taking-on : (b : Branch) (at r : ℕ) (p : OnPath t u b (drop at t) r) (s : Step × ℕ) (c : List Fact)
-      → OperandsInRange u (s .0)
-      → ChildInRange u s
+      → TakenInRange u s
       → drop at t ≡ stepRecord s ++ drop (next t at) t
       → Takes u b s c
       → ChildLimits b c
       → OnPath t u (b ++ c) (drop (next t at) t) (suc r)
-  taking-on b at r p s c g h e k l =
+  taking-on b at r p s c g e k l =
       let q = p .begins .question in
       let w = question→head u q in
       let ts : List (Step × ℕ) = p .steps in
@@ -169,12 +168,12 @@ module _ (t : List ℕ) (bytes : Bytes t) (u : Question) where
       record {
         steps = ts ++ (s ∷ []);
         begins = begins-more t u 2 ts s (drop (next t at) t) r (subst (λ l. Begins t u 2 ts l r) e (p .begins));
-        in-range = all-append (λ s. OperandsInRange u (s .0) × ChildInRange u s) ts (s ∷ []) (p .in-range) ((g, h), tt);
+        in-range = all-append (TakenInRange u) ts (s ∷ []) (p .in-range) (g, tt);
         within = record {
           question = p .within .question;
           steps = path→limits u (ts ++ (s ∷ []))
               (path-limits-more u w b s
-              (λ d j. subst (ChildLimits b) (one-child u w b s c d (taking-range t u p .facts) (operands→step u (s .0) g) k j) l)
+              (λ d j. subst (ChildLimits b) (one-child u w b s c d (taking-range t u p .facts) (operands→step u (s .0) (g .0)) k j) l)
               ts (u .constraints) (question→facts u q) all (limits→path u ts (p .within)) (p .path));
         };
         path = path-on u (u .constraints) b ts s c (p .path) k;
@@ -199,8 +198,7 @@ module _ (t : List ℕ) (bytes : Bytes t) (u : Question) where
         refusals.taken (record {
           more = drop (next t at) t;
           stands = subst (λ l. OnPath t u b l r) d p;
-          operands = g;
-          child = child→ u (stepWithChild t at) (s .child-ok);
+          in-range = (g, child→ u (stepWithChild t at) (s .child-ok));
         }) (agreements .taken u b (stepWithChild t at) (taking-range t u p) (operands→step u (stepWithChild t at .0) g) .refused c positive .0 e)
     taking-refused b p false y h f =
         let m : List ℤ = modelAt t u (at + 6) in
@@ -264,7 +262,7 @@ module _ (t : List ℕ) (bytes : Bytes t) (u : Question) where
           let is-step = operands→step u (s .0) g in
           let (f, k, limits) = agreements .taken u b s range is-step .none .0 none in
           later (taking (b ++ f)) (next t at) (suc r) e
-          (taking-on b at r p s f g (child→ u s (here .child-ok)) d k limits)
+          (taking-on b at r p s f (g, child→ u s (here .child-ok)) d k limits)
           (subst (λ x. Gives (taking (b ++ orNone x)) (suc r) ats) (takes→taken u (range .head) b s f (range .facts) is-step k) o)
       taking-turn b p false y h f o = later (modelled b (modelAt t u (at + 6))) (next t at) (suc r) e tt o
 
@@ -413,10 +411,10 @@ module _ (t : List ℕ) (c r : ℕ) (l : 8 ≤ c) where
   taken-refuses u b s p w =
       let q = p .stands .begins .question in
       let h = taking-reads t u b (stepRecord s ++ p .more) r (p .stands) in
-      let (here, _) = taken-read t u q (h .position) s (p .more) (p .operands) (p .child) (h .stands) in
+      let (here, _) = taken-read t u q (h .position) s (p .more) (p .in-range) (h .stands) in
       refuses-at u (taking b) (stepRecord s ++ p .more) h (here .is-whole)
       (taken-fault (checker u) t u b (h .position) s here
-      ∙ agreements .taken u b s (taking-range t u (p .stands)) (operands→step u (s .0) (p .operands)) .refused c (omega arith) .1 w)
+      ∙ agreements .taken u b s (taking-range t u (p .stands)) (operands→step u (s .0) (p .in-range .0)) .refused c (omega arith) .1 w)
 
   model-refuses : (u : Question) (leaf : Branch) (m : List ℤ) → AtModel t u leaf m r → LeafRefused u leaf m c → RefusesThere
   model-refuses u leaf m p w =

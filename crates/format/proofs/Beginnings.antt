@@ -18,7 +18,7 @@ use Rattle.format.specs.Records.{next}
 use Rattle.format.specs.Question.{Manner, Progress, headRank, readIn}
 use Rattle.format.specs.StepForms.{childInRange}
 use Rattle.format.specs.Reading.{State, proving, taking, modelled, Method, stepped, stepWithChild, fault, Done, stepsOn, begin, readBehind}
-use Rattle.format.specs.Written.{questionBytes, claimRecord, stepRecord, stepRecords, endRecord, beginning, QuestionInRange}
+use Rattle.format.specs.Written.{questionBytes, claimRecord, stepRecord, stepRecords, endRecord, beginning, QuestionInRange, recordBehind}
 use Rattle.format.proofs.OnItsWay.{stepsTaken}
 use Rattle.format.proofs.QuestionRecords.{reached}
 use Rattle.format.proofs.QuestionsRead.{ReadIn, behindQuestion, question-read}
@@ -108,7 +108,7 @@ module _ {B C : Type 0} (method : Question → Method B C) (m : Manner) (t : Lis
     pub position : ℕ
     pub stands : drop position t ≡ rest
     pub reads : readBehind method t (readIn m t)
-        ≡ stepsOn (method u) t u (stepsTaken (method u) begun ts) (2 + length (u .literals) + length (u .constraints) + length ts) position
+        ≡ stepsOn (method u) t u (stepsTaken (method u) begun ts) (recordBehind u ts) position
 
   pub beginning-read : QuestionInRange u → ReadIn m u [] → 1 ≤ claim → claim ≤ 2 → length t ≤ ticketBytes → All (Fine u (childOk u begun)) ts
       → Faultless (method u) begun ts

@@ -24,8 +24,9 @@ use Rattle.format.specs.Question.{question, checkingManner}
 use Rattle.format.specs.StepForms.{childInRange}
 use Rattle.format.specs.Reading.{State, proving, taking, stepped, stepsOn, begin, readBehind}
 use Rattle.format.specs.Checking.{orNone, checker}
-use Rattle.format.specs.Written.{questionBytes, claimRecord, stepRecord, stepRecords, withChildZero, QuestionInRange, OperandsInRange, ChildInRange}
+use Rattle.format.specs.Written.{questionBytes, claimRecord, stepRecord, stepRecords, withChildZero, QuestionInRange, OperandsInRange, TakenInRange}
 use Rattle.format.specs.Refusals.{Begins, OnTree, OnPath}
+use Rattle.format.proofs.QuestionsRead.{plain-in}
 use Rattle.format.proofs.OnItsWay.{stepsTaken}
 use Rattle.format.proofs.Behind.{StepAt, childOk}
 use Rattle.format.proofs.Ranges.{operands→step, question→head, question→facts}
@@ -54,8 +55,8 @@ begins-more t u claim ts s more r h = record {
   number = omega (arith, h .number, length-append ts (s ∷ []));
 }
 
-pub without-more : (sts : List Step) (st : Step) → withChildZero (sts ++ (st ∷ [])) ≡ withChildZero sts ++ ((st, 0) ∷ [])
-without-more sts st = map-append (λ st. (st, 0)) sts (st ∷ [])
+pub zero-more : (sts : List Step) (st : Step) → withChildZero (sts ++ (st ∷ [])) ≡ withChildZero sts ++ ((st, 0) ∷ [])
+zero-more sts st = map-append (λ st. (st, 0)) sts (st ∷ [])
 
 -- ---- a step that stands at a position
 
@@ -65,9 +66,9 @@ module _ (t : List ℕ) (u : Question) (q : QuestionInRange u) where
       → StepAt t u (λ st c. eqb c 0) at (st, 0) × (drop (next t at) t ≡ more)
   split-read at st more g e = fine-read t u (columns-few u q) (λ st c. eqb c 0) at (st, 0) more (fine-split u st g) e
 
-  pub taken-read : (at : ℕ) (s : Step × ℕ) (more : List ℕ) → OperandsInRange u (s .0) → ChildInRange u s → drop at t ≡ stepRecord s ++ more
+  pub taken-read : (at : ℕ) (s : Step × ℕ) (more : List ℕ) → TakenInRange u s → drop at t ≡ stepRecord s ++ more
       → StepAt t u (childInRange (u .n)) at s × (drop (next t at) t ≡ more)
-  taken-read at s more g c e = fine-read t u (columns-few u q) (childInRange (u .n)) at s more (fine-taken u s (g, c)) e
+  taken-read at s more g e = fine-read t u (columns-few u q) (childInRange (u .n)) at s more (fine-taken u s g) e
 
 -- ---- steps that fit within the limits have no fault, and checking takes them to where they lead
 
@@ -102,7 +103,7 @@ module _ (u : Question) (q : QuestionInRange u) where
 
   taking-goes : (b : Branch) (ts : List (Step × ℕ)) (d : Branch)
       → FactsInRange u d
-      → All (λ s. OperandsInRange u (s .0) × ChildInRange u s) ts
+      → All (TakenInRange u) ts
       → PathLimitsFrom u d ts
       → Path u d ts b
       → Goes (taking d) ts (taking b)
@@ -136,7 +137,7 @@ module _ (t : List ℕ) (u : Question) where
   begins-reads claim ts rest r s least most room h fine (none, to) =
       let on =
       beginning-read checker checkingManner t u claim ts rest (h .question)
-      (record { arithmetic-taken = omega arith; extended-taken = λ z. absurd (omega arith); room = λ _. omega arith }) least most (h .few-bytes) fine none (h .bytes) in
+      (plain-in checkingManner u (omega arith) (λ _. room)) least most (h .few-bytes) fine none (h .bytes) in
       record {
         position = on .position;
         stands = on .stands;

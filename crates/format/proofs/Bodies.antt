@@ -16,11 +16,11 @@ use Rattle.calculus.proofs.Alphabet.{character-below}
 use Rattle.calculus.specs.Facts.{Question, columnCount}
 use Rattle.calculus.specs.Strings.{given}
 use Rattle.calculus.proofs.Words.{over→, →over, given→, →given}
-use Rattle.format.specs.Fields.{bytesOf, u16, u32, u32s, u16s}
+use Rattle.format.specs.Fields.{bytesOf, u16, u32, u32s, u16s, IsU16}
 use Rattle.format.specs.Records.{need}
 use Rattle.format.specs.Answer.{characterBytes}
 use Rattle.format.specs.Question.{headRange, headFault, textOf, literalLength, literalFault, threeFault}
-use Rattle.format.specs.Written.{u16Bytes, IsU16, LiteralInRange}
+use Rattle.format.specs.Written.{u16Bytes, LiteralInRange}
 use Rattle.format.specs.Demands.{Bytes}
 use Rattle.format.proofs.Faults.{none-applies, passed}
 use Rattle.format.proofs.Encoded.{length-bytes, length-shorts, length-characters}

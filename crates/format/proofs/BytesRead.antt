@@ -12,11 +12,10 @@ use borrow.Author.Tests.{le-leb}
 use Rattle.lists.specs.Lists.{All}
 use Rattle.lists.proofs.Lists.{all-map}
 use Rattle.calculus.specs.Limits.{Small}
-use Rattle.format.specs.Fields.{bytesOf, unsigned, signed, u16, u32, i32, pairAt, fields, u16s, u32s, i32s, pairsAt}
+use Rattle.format.specs.Fields.{bytesOf, unsigned, signed, u16, u32, i32, pairAt, fields, u16s, u32s, i32s, pairsAt, IsU16, IsU32, IsI32}
 use Rattle.format.specs.Records.{size, kind, next, whole}
 use Rattle.format.specs.Answer.{recordBytes, characterBytes, integerBytes}
-use Rattle.format.specs.Written.{u16Bytes, pairBytes, IsU16}
-use Rattle.format.specs.Demands.{IsU32, IsI32}
+use Rattle.format.specs.Written.{u16Bytes, pairBytes}
 use Rattle.format.proofs.Encoded.{length-bytes, length-pair, length-record}
 use Rattle.format.proofs.Fields.{signed-low, signed-high}
 
@@ -43,13 +42,13 @@ u32-back b at v rest h e =
     let l : List ℕ = bytesOf 4 v ++ rest in
     omega (arith, rw add-zero at (byte b at 0 l e), byte b at 1 l e, byte b at 2 l e, byte b at 3 l e)
 
-pub signed-back : (z : ℤ) → IsI32 z → signed (unsigned z) ≡ z
+signed-back : (z : ℤ) → IsI32 z → signed (unsigned z) ≡ z
 signed-back (pos v) h = signed-low v (omega arith)
 signed-back (negsuc v) h =
     let e : 4294967295 - (4294967295 - v) ≡ v = omega arith in
     signed-high (4294967295 - v) (omega arith) ∙ ap negsuc e
 
-pub unsigned-held : (z : ℤ) → IsI32 z → IsU32 (unsigned z)
+unsigned-held : (z : ℤ) → IsI32 z → IsU32 (unsigned z)
 unsigned-held (pos v) h = omega arith
 unsigned-held (negsuc v) h = omega arith
 
@@ -63,7 +62,7 @@ all-held k zs l h = all-map zs (λ z. small-held k z l) h
 pub i32-back : (b : List ℕ) (at : ℕ) (z : ℤ) (rest : List ℕ) → IsI32 z → drop at b ≡ bytesOf 4 (unsigned z) ++ rest → i32 b at ≡ z
 i32-back b at z rest h e = ap signed (u32-back b at (unsigned z) rest (unsigned-held z h) e) ∙ signed-back z h
 
-pub pair-back : (b : List ℕ) (at : ℕ) (t : ℕ × ℤ) (rest : List ℕ)
+pair-back : (b : List ℕ) (at : ℕ) (t : ℕ × ℤ) (rest : List ℕ)
     → IsU16 (t .0) × IsI32 (t .1)
     → drop at b ≡ (bytesOf 2 (t .0) ++ bytesOf 4 (unsigned (t .1))) ++ rest
     → pairAt b at ≡ t
@@ -75,7 +74,7 @@ pair-back b at (k, z) rest (h, g) e =
 -- ---- fields one after another
 
 -- each of so many bytes, and read back where it stands
-pub fields-back : {A : Type 0} (P : A → Type 0) (bytes : ℕ) (write : A → List ℕ) (b : List ℕ) (read : ℕ → A)
+fields-back : {A : Type 0} (P : A → Type 0) (bytes : ℕ) (write : A → List ℕ) (b : List ℕ) (read : ℕ → A)
     → ((x : A) → length (write x) ≡ bytes)
     → ((at : ℕ) (x : A) (rest : List ℕ) → P x → drop at b ≡ write x ++ rest → read at ≡ x)
     → (at : ℕ) (xs : List A) (rest : List ℕ) → All P xs → drop at b ≡ flatMap write xs ++ rest → fields bytes read at (length xs) ≡ xs

@@ -2,23 +2,22 @@
 use Prim.Native.Nat.{ℕ, zero, suc, _+_, _*_, _-_, _/_, _%_, _≤_, _<_}
 use native.Mathlib.Nat.{mul-suc}
 use native.Mathlib.Omega.{arith}
-use mathlib.Core.Path.{_≡_, refl, sym, _∙_, ap, ap₂, subst}
-use mathlib.Core.Bool.{true}
+use mathlib.Core.Path.{_≡_, sym, _∙_, ap, ap₂, subst}
 use mathlib.Core.List.{List, _∷_, _++_, append-assoc, flatMap}
-use lib.ListN.{length, getD, take, drop, length-drop, take-append-drop}
+use lib.ListN.{length, getD, drop}
 use native.Mathlib.Decide.{decLt}
-use lib.Seq.{drop-cons, drop-drop, length-take-le}
-use borrow.Author.Tests.{leb-true}
+use lib.Seq.{drop-cons}
 use Rattle.lists.specs.Lists.{All}
 use Rattle.lists.proofs.Lists.{all-getD, all-valuesAlong}
-use Rattle.format.specs.Fields.{bytesOf, unsigned, signed, u16, u32, i32, pairAt, fields, u16s, u32s, i32s, pairsAt}
-use Rattle.format.specs.Records.{size, kind, next, whole}
+use Rattle.format.specs.Fields.{bytesOf, unsigned, signed, u16, u32, i32, pairAt, fields, u16s, u32s, i32s, pairsAt, IsU32, IsI32}
+use Rattle.format.specs.Records.{size, kind}
 use Rattle.format.specs.Answer.{recordBytes, characterBytes, integerBytes}
 use Rattle.format.specs.Written.{u16Bytes, pairBytes}
-use Rattle.format.specs.Demands.{Bytes, IsU32, IsI32}
+use Rattle.format.specs.Demands.{Bytes}
+use Rattle.format.proofs.BytesRead.{record-leads}
 use Rattle.format.proofs.Fields.{signed-low, signed-high}
 
-pub signed-written : (v : ℕ) → IsU32 v → unsigned (signed v) ≡ v
+signed-written : (v : ℕ) → IsU32 v → unsigned (signed v) ≡ v
 signed-written v h = go (decLt v 2147483648)
   where
     go : Dec (v < 2147483648) → unsigned (signed v) ≡ v
@@ -82,7 +81,7 @@ module _ (b : List ℕ) (bytes : Bytes b) where
 
 -- ---- fields one after another
 
-pub fields-written : {A : Type 0} (width : ℕ) (write : A → List ℕ) (b : List ℕ) (read : ℕ → A)
+fields-written : {A : Type 0} (width : ℕ) (write : A → List ℕ) (b : List ℕ) (read : ℕ → A)
     → ((at : ℕ) → at + width ≤ length b → drop at b ≡ write (read at) ++ drop (at + width) b)
     → (at count : ℕ) → at + width * count ≤ length b
     → drop at b ≡ flatMap write (fields width read at count) ++ drop (at + width * count) b
@@ -97,7 +96,7 @@ fields-written width write b read f at (suc count) l =
     ∙ sym (append-assoc (write (read at)) rest (drop (at + width * suc count) b))
 
 -- and what is read, a u32 or an i32 holds
-pub signed-held : (v : ℕ) → IsU32 v → IsI32 (signed v)
+signed-held : (v : ℕ) → IsU32 v → IsI32 (signed v)
 signed-held v h = go (decLt v 2147483648)
   where
     go : Dec (v < 2147483648) → IsI32 (signed v)
@@ -147,13 +146,5 @@ module _ (b : List ℕ) (bytes : Bytes b) (at : ℕ) where
       → drop at b ≡ recordBytes k body ++ rest
   body-written k body rest l is-kind is-size e =
       leading-written l
-      ∙ ap₂ (λ m xs. bytesOf 4 m ++ xs) is-size (ap₂ (λ k xs. bytesOf 2 k ++ xs) is-kind e ∙ sym (append-assoc (bytesOf 2 k) body rest))
-      ∙ sym (append-assoc (bytesOf 4 (length body)) (bytesOf 2 k ++ body) rest)
-
-  pub record-written : whole b at ≡ true → drop at b ≡ recordBytes (kind b at) (take (size b at) (drop (at + 6) b)) ++ drop (next b at) b
-  record-written w =
-      let l : next b at ≤ length b = leb-true (next b at) (length b) w in
-      let body : List ℕ = take (size b at) (drop (at + 6) b) in
-      body-written (kind b at) body (drop (next b at) b) (omega arith) refl
-      (sym (length-take-le (size b at) (drop (at + 6) b) (omega (arith, length-drop (at + 6) b))))
-      (sym (take-append-drop (size b at) (drop (at + 6) b)) ∙ ap (λ xs. body ++ xs) (drop-drop (size b at) (at + 6) b))
+      ∙ ap₂ (λ m xs. bytesOf 4 m ++ xs) is-size (ap₂ (λ k xs. bytesOf 2 k ++ xs) is-kind e)
+      ∙ sym (record-leads k body rest)

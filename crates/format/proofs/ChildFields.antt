@@ -15,8 +15,9 @@ use Rattle.calculus.specs.Facts.{Question}
 use Rattle.calculus.specs.Steps.{Step, Sum, BranchOn, Apart, AConf, SConf, SProp, LIntro, LValid, CCollapse, CValid, CInj, Card, Join}
 use Rattle.calculus.specs.Steps.{pairCount, lastCount, shape}
 use Rattle.calculus.proofs.Alphabet.{ranges-are}
+use Rattle.format.specs.Fields.{IsU16}
 use Rattle.format.specs.StepForms.{isChild, childInRange}
-use Rattle.format.specs.Written.{IsU16, OperandsInRange, ChildInRange}
+use Rattle.format.specs.Written.{OperandsInRange, ChildInRange, TakenInRange}
 
 -- ---- the test and the words
 
@@ -75,8 +76,8 @@ few-children u (Card xs) (_, most, _) =
     )
 few-children u (Join j k) h = omega arith
 
-pub child-short : (u : Question) (t : Step × ℕ) → OperandsInRange u (t .0) → ChildInRange u t → IsU16 (t .1)
-child-short u t o h = go (h .a-child)
+pub child-short : (u : Question) (t : Step × ℕ) → TakenInRange u t → IsU16 (t .1)
+child-short u t (o, h) = go (h .a-child)
   where
     go : (t .1 ≤ length (shape (u .n) (t .0))) ⊎ (t .1 ≡ 1) → IsU16 (t .1)
     go (inl l) = omega (arith, few-children u (t .0) o)

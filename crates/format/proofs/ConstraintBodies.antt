@@ -4,7 +4,7 @@ use native.Mathlib.Omega.{arith}
 use mathlib.Core.Path.{_≡_, refl, sym, _∙_, ap, ap₂, subst}
 use mathlib.Core.Bool.{Bool, true, cond, _&&_}
 use mathlib.Core.List.{List, [], _∷_, _++_, append-assoc, append-nil, flatMap}
-use lib.ListN.{length, drop, length-append}
+use lib.ListN.{length, drop, length-append, getD}
 use lib.Dec.{leb, ltb, eqb}
 use borrow.Author.Tests.{lt-ltb, le-leb, eq-eqb, ne-eqb}
 use lib.IntN.{ℤ}
@@ -12,12 +12,13 @@ use Rattle.lists.proofs.Tests.{→and-both}
 use Rattle.calculus.specs.Limits.{columnLimit}
 use Rattle.calculus.specs.Facts.{Question, Fact, same, notSame, isLiteral, arithmetic, Relation, ge, eq, ne, columnCount}
 use Rattle.calculus.specs.Extended.{Extended, isUpper, isLower, isValue, isDecimal, inOrder, Names}
-use Rattle.format.specs.Fields.{bytesOf, u16, u16s}
+use Rattle.calculus.specs.NormalForms.{functionNumber, fieldsOf}
+use Rattle.format.specs.Fields.{bytesOf, u16, u16s, IsU16}
 use Rattle.format.specs.Records.{need}
 use Rattle.format.specs.Answer.{recordBytes}
 use Rattle.format.specs.Question.{stringKind, arithmeticKind, extendedKind, stringRange, stringFact}
 use Rattle.format.specs.Question.{formRange, formOf, relationOf, extendedRange, extendedFault, extendedBy, extendedOf, factFault, bodyFact}
-use Rattle.format.specs.Written.{u16Bytes, formBytes, relationNumber, constraintRecord, extendedRecord, IsU16, FormInRange, ConstraintInRange}
+use Rattle.format.specs.Written.{u16Bytes, formBytes, relationNumber, constraintRecord, extendedRecord, FormInRange, ConstraintInRange}
 use Rattle.format.specs.Demands.{Bytes}
 use Rattle.format.proofs.Faults.{passed}
 use Rattle.format.proofs.Encoded.{length-shorts}
@@ -192,29 +193,14 @@ fact-written b bytes u k at m few l e = go (fact-formed b (u .p) (length (u .lit
 
 -- ---- an extended constraint
 
-abbrev pub functionCode : Extended → ℕ
-functionCode (isUpper x y) = 0
-functionCode (isLower x y) = 1
-functionCode (isValue x y) = 2
-functionCode (isDecimal x y) = 3
-functionCode (inOrder x y) = 4
-
 abbrev firstOf : Extended → ℕ
-firstOf (isUpper x y) = x
-firstOf (isLower x y) = x
-firstOf (isValue x y) = x
-firstOf (isDecimal x y) = x
-firstOf (inOrder x y) = x
+firstOf e = getD (fieldsOf e) 0 0
 
 abbrev secondOf : Extended → ℕ
-secondOf (isUpper x y) = y
-secondOf (isLower x y) = y
-secondOf (isValue x y) = y
-secondOf (isDecimal x y) = y
-secondOf (inOrder x y) = y
+secondOf e = getD (fieldsOf e) 1 0
 
 abbrev pub extendedBody : Extended → List ℕ
-extendedBody e = threeBody (functionCode e) (firstOf e) (secondOf e)
+extendedBody e = threeBody (functionNumber e) (firstOf e) (secondOf e)
 
 pub extended-bytes : (e : Extended) → extendedRecord e ≡ recordBytes extendedKind (extendedBody e)
 unfolding extendedRecord
@@ -224,7 +210,7 @@ extended-bytes (isValue x y) = refl
 extended-bytes (isDecimal x y) = refl
 extended-bytes (inOrder x y) = refl
 
-extended-is : (e : Extended) → extendedBy (functionCode e) (firstOf e) (secondOf e) ≡ e
+extended-is : (e : Extended) → extendedBy (functionNumber e) (firstOf e) (secondOf e) ≡ e
 extended-is (isUpper x y) = refl
 extended-is (isLower x y) = refl
 extended-is (isValue x y) = refl
@@ -234,14 +220,14 @@ extended-is (inOrder x y) = refl
 both-below : (p q x y : ℕ) → x < p → y < q → (ltb x p && ltb y q) ≡ true
 both-below p q x y h k = →and-both (ltb x p) (ltb y q) (lt-ltb x p h) (lt-ltb y q k)
 
-extended-range : (u : Question) (e : Extended) → Names u e → extendedRange (u .p) (u .q) (functionCode e) (firstOf e) (secondOf e) ≡ true
+extended-range : (u : Question) (e : Extended) → Names u e → extendedRange (u .p) (u .q) (functionNumber e) (firstOf e) (secondOf e) ≡ true
 extended-range u (isUpper x y) (h, k) = both-below (u .p) (u .p) x y h k
 extended-range u (isLower x y) (h, k) = both-below (u .p) (u .p) x y h k
 extended-range u (isValue x y) (h, k) = both-below (u .q) (u .p) x y h k
 extended-range u (isDecimal x y) (h, k) = both-below (u .p) (u .q) x y h k
 extended-range u (inOrder x y) (h, k) = both-below (u .p) (u .p) x y h k
 
-function-few : (e : Extended) → functionCode e ≤ 4
+function-few : (e : Extended) → functionNumber e ≤ 4
 function-few (isUpper x y) = omega arith
 function-few (isLower x y) = omega arith
 function-few (isValue x y) = omega arith
@@ -263,13 +249,13 @@ pub record ExtendedRead (b : List ℕ) (u : Question) (at : ℕ) (e : Extended) 
 pub extended-read : (b : List ℕ) (u : Question) (at : ℕ) (e : Extended) (rest : List ℕ) → Counts u → Names u e → drop at b ≡ extendedBody e ++ rest → ExtendedRead b u at e
 extended-read b u at e rest c h stands =
     let (x, y) = names-few u c e h in
-    let t = three-read b at (functionCode e) (firstOf e) (secondOf e) rest (omega (arith, function-few e)) x y stands in
-    let six : length (extendedBody e) ≡ 6 = length-shorts (functionCode e ∷ firstOf e ∷ secondOf e ∷ []) in
+    let t = three-read b at (functionNumber e) (firstOf e) (secondOf e) rest (omega (arith, function-few e)) x y stands in
+    let six : length (extendedBody e) ≡ 6 = length-shorts (functionNumber e ∷ firstOf e ∷ secondOf e ∷ []) in
     record {
       six = six;
       fine =
           ap (extendedFault b (u .p) (u .q) at) six
-          ∙ three-fine (extendedRange (u .p) (u .q)) b at (functionCode e) (firstOf e) (secondOf e) t (extended-range u e h);
+          ∙ three-fine (extendedRange (u .p) (u .q)) b at (functionNumber e) (firstOf e) (secondOf e) t (extended-range u e h);
       is-constraint = rw (t .first, t .second, t .third) (extended-is e);
     }
 

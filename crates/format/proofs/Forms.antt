@@ -16,10 +16,10 @@ use Rattle.calculus.specs.Limits.{Small, columnLimit, numberLimit}
 use Rattle.calculus.specs.LinearForms.{zeros, isZero}
 use Rattle.calculus.proofs.LinearForms.{isZero→}
 use Rattle.calculus.specs.Facts.{Question, columnCount}
-use Rattle.format.specs.Fields.{bytesOf, unsigned, i32, pairsAt, within}
+use Rattle.format.specs.Fields.{bytesOf, unsigned, i32, pairsAt, within, IsU16, IsI32}
 use Rattle.format.specs.Question.{coefficientInRange, pairInRange, rising, formRange, fillCoefficients, formOf}
-use Rattle.format.specs.Written.{pairBytes, termsFrom, formBytes, IsU16, FormInRange}
-use Rattle.format.specs.Demands.{Bytes, IsI32}
+use Rattle.format.specs.Written.{pairBytes, termsFrom, formBytes, FormInRange}
+use Rattle.format.specs.Demands.{Bytes}
 use Rattle.format.proofs.Encoded.{length-bytes, length-pairBytes}
 use Rattle.format.proofs.Fields.{length-pairs}
 use Rattle.format.proofs.BytesRead.{behind, small-held, i32-back, pairs-back}
@@ -53,7 +53,7 @@ NoneFrom c k zs = (j : ℕ) → c ≤ k + j → getD zs j (pos 0) ≡ pos 0
 none-later : (c k : ℕ) (z : ℤ) (zs : List ℤ) → NoneFrom c k (z ∷ zs) → NoneFrom c (suc k) zs
 none-later c k z zs h j l = h (suc j) (omega arith)
 
-pub few-terms : (k : ℕ) (zs : List ℤ) → length (termsFrom k zs) ≤ length zs
+few-terms : (k : ℕ) (zs : List ℤ) → length (termsFrom k zs) ≤ length zs
 unfolding termsFrom
 few-terms k [] = omega arith
 few-terms k (z ∷ zs) = go (isZero z) (few-terms (suc k) zs)
@@ -62,7 +62,7 @@ few-terms k (z ∷ zs) = go (isZero z) (few-terms (suc k) zs)
     go true h = omega arith
     go false h = omega arith
 
-pub terms-rise : (c low k : ℕ) (zs : List ℤ) → low ≤ k → All (Small numberLimit) zs → NoneFrom c k zs → rising c low (termsFrom k zs) ≡ true
+terms-rise : (c low k : ℕ) (zs : List ℤ) → low ≤ k → All (Small numberLimit) zs → NoneFrom c k zs → rising c low (termsFrom k zs) ≡ true
 unfolding termsFrom rising
 terms-rise c low k [] l h n = refl
 terms-rise c low k (z ∷ zs) l (h, hs) n = go (isZero z) refl (λ low l. terms-rise c low (suc k) zs l hs (none-later c k z zs n))
@@ -81,7 +81,7 @@ terms-rise c low k (z ∷ zs) l (h, hs) n = go (isZero z) refl (λ low l. terms-
         (later (k + 1) (omega arith))
 
 -- filled in behind the first k columns they are the coefficients again
-pub terms-fill : (first : List ℤ) (k : ℕ) (zs : List ℤ) → length first ≡ k → fillCoefficients (first ++ zeros (length zs)) (termsFrom k zs) ≡ first ++ zs
+terms-fill : (first : List ℤ) (k : ℕ) (zs : List ℤ) → length first ≡ k → fillCoefficients (first ++ zeros (length zs)) (termsFrom k zs) ≡ first ++ zs
 unfolding termsFrom fillCoefficients
 terms-fill first k [] l = refl
 terms-fill first k (z ∷ zs) l = go (isZero z) refl (λ y. terms-fill (first ++ (y ∷ [])) (suc k) zs (length-more first y k l))
@@ -157,7 +157,7 @@ later-low c low t ts e h =
     (→and-both (leb (suc low) (t .0)) (ltb (t .0) c && coefficientInRange (t .1)) (le-leb (suc low) (t .0) h)
     (and-both (leb low (t .0)) (ltb (t .0) c && coefficientInRange (t .1)) p .1)) rest
 
-pub spread : (c k n : ℕ) (first : List ℤ) (ts : List (ℕ × ℤ)) → length first ≡ k → c ≤ k + n → rising c k ts ≡ true → Spread c k n first ts
+spread : (c k n : ℕ) (first : List ℤ) (ts : List (ℕ × ℤ)) → length first ≡ k → c ≤ k + n → rising c k ts ≡ true → Spread c k n first ts
 unfolding rising termsFrom fillCoefficients
 spread c k zero first [] l h e = record { coefficients = []; filled = refl; size = refl; terms = refl; numbers = tt; columns = λ j g. refl }
 spread c k zero first (t ∷ ts) l h e = let r = ranged c k t ts e in absurd (omega (arith, r .low-enough, r .column))

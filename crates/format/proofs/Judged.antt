@@ -23,7 +23,7 @@ use Rattle.format.specs.Places.{skip, texts}
 use Rattle.format.specs.Answer.{answerForm, assignmentOf, outside}
 use Rattle.format.specs.Judging.{Rejected, Submitted, byForm, judgeAnswer, judgeBehind, submission, meets, meetsConstraint}
 use Rattle.format.specs.Judging.{firstUnmet, saidOf, said}
-use Rattle.format.specs.Demands.{TrueJudgement, TH-3}
+use Rattle.format.specs.Demands.{TrueJudgement, TH-3, Asks}
 use Rattle.format.proofs.Faults.{not-both, clash}
 use Rattle.format.proofs.Fields.{length-i32s}
 use Rattle.format.proofs.Asked.{headed-in}
@@ -69,7 +69,7 @@ module _ (u : Question) (es : List Extended) (a : Assignment) where
 
 -- what was judged is the question that was read and an answer of its form and in its ranges
 pub record Taken (b v : List ℕ) (u : Question) (es : List Extended) (a : Assignment) : Type 0 where
-  pub asked-is : judgedIn (judgedQuestion b) ≡ some (u, es)
+  pub asked-is : Asks b u es
   pub values-are : a ≡ assignmentOf v u
   pub formed : answerForm v (u .p) (u .q) 0 ≡ true
   pub all-inside : outside v u (u .p) 0 0 ≡ none
@@ -81,7 +81,7 @@ judged-taken b v u es a e = behind (judgedQuestion b) refl e
     answered : (w : Question) (ws : List Extended) (x : Bool) (o : Option ℕ)
         → answerForm v (w .p) (w .q) 0 ≡ x
         → outside v w (w .p) 0 0 ≡ o
-        → judgedIn (judgedQuestion b) ≡ some (w, ws)
+        → Asks b w ws
         → byForm w ws v x o ≡ Submitted u es a
         → Taken b v u es a
     answered w ws false o f p q e = clash cc

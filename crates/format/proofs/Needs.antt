@@ -1,5 +1,5 @@
 -- TH-L2: an accepted ticket meets on its way exactly what its need reports.
-use Prim.Native.Nat.{ℕ, zero, suc, _+_, _<_, _≤_}
+use Prim.Native.Nat.{ℕ, zero, suc, _+_, _≤_}
 use native.Mathlib.Omega.{arith}
 use native.Mathlib.Decide.{ℕ-discrete}
 use mathlib.Core.Path.{_≡_, refl, sym, _∙_, ap, ap₂, subst, fun-ext}
@@ -7,12 +7,12 @@ use mathlib.Core.Logic.{_⊎_, inl, inr}
 use mathlib.Core.Bool.{Bool, true, false, cond, false≢true}
 use mathlib.Core.Option.{Option, some, Option·getD}
 use mathlib.Core.List.{List, [], _∷_, _++_, map, map-map}
-use lib.ListN.{length, getElem?, length-map}
+use lib.ListN.{length, length-map}
 use lib.Dec.{leb}
 use lib.IntN.{ℤ}
 use borrow.Author.Tests.{leb-true, eqb-true, eqb-false}
 use Rattle.lists.specs.Lists.{All, maximum}
-use Rattle.lists.proofs.Lists.{all-left}
+use Rattle.lists.proofs.Lists.{all-left, element-within}
 use Rattle.lists.proofs.Tests.{and-both}
 use Rattle.calculus.specs.Facts.{Question, Fact, Branch}
 use Rattle.calculus.specs.Steps.{Step, shape}
@@ -20,7 +20,7 @@ use Rattle.calculus.specs.Children.{childAt}
 use Rattle.calculus.specs.Rules.{children}
 use Rattle.calculus.specs.Instances.{Instance, IsStep}
 use Rattle.calculus.specs.Walk.{Walk, working, closed}
-use Rattle.calculus.specs.Derivations.{ClosedBy, AsIfFitted, Path, TakesAsIfFitted, PathAsIfFitted}
+use Rattle.calculus.specs.Derivations.{AsIfFitted, Path, TakesAsIfFitted, PathAsIfFitted}
 use Rattle.calculus.specs.InRange.{FactsInRange}
 use Rattle.calculus.proofs.Fits.{instance→fits}
 use Rattle.calculus.proofs.Leads.{walk→closed, arrives-as}
@@ -33,7 +33,7 @@ use Rattle.format.specs.Checking.{orNone, checker, accepted, verdict}
 use Rattle.format.specs.ProperForm.{byShape, steps, stepsWithChild, claimBehind, claimIn}
 use Rattle.format.specs.Needs.{statesMet, factsIn, pendingIn, Report, report, complete, NeedRefused, Needs, needBy, reportOf, needed}
 use Rattle.format.specs.Demands.{AcceptedAs, OnItsWay, OpenOnTree, OpenOnPath, AsIfOnTree, AsIfOnPath, Reported, OnTreeAsIf, OnPathAsIf, TH-L2, TH-L2-met}
-use Rattle.format.specs.Demands.{TH-L2-numbers}
+use Rattle.format.specs.Demands.{TH-L2-numbers, ClosesAsIf}
 use Rattle.format.proofs.Faults.{clash}
 use Rattle.format.proofs.Behind.{Taken, formed-children, proving-no-model, taking-no-walk}
 use Rattle.format.proofs.Claimed.{behindClaim, started, claimed-range, claimed-in-range, claimed-asked}
@@ -221,7 +221,7 @@ claim-is-two {t} h =
 
 pub closes-as-if : (u : Question) (ts : List (Step × ℕ)) (o : Option (List ℤ)) (s : State ℕ ℕ) → Taken (byShape u) (proving (working (length (u .constraints)) [])) ts o s
     → complete s ≡ true
-    → ClosedBy (AsIfFitted (u .n)) _+_ (length (u .constraints)) (bare ts)
+    → ClosesAsIf u (bare ts)
 closes-as-if u ts o (proving (working k ss)) h c = absurd (false≢true c)
 closes-as-if u ts o (proving closed) h c =
     walk→closed (AsIfFitted (u .n)) _+_ (length (u .constraints)) (bare ts)
@@ -235,11 +235,6 @@ tree-as-if t u o s k =
     tree-on-its-way (byShape u) (AsIfFitted (u .n)) (AsIfFitted (u .n)) (AsIfOnTree u) (λ k. k) (length (u .constraints)) (stepsWithChild t)
     (λ sts leaf k l. l) (λ sts m k l. (m, l, refl)) (λ b ss st f. refl) (λ first others e to a. a) (λ first others e to a. a) o s k
 
-element-there : {A : Type 0} (xs : List A) (k : ℕ) (d : A) → k < length xs → getElem? xs k ≡ some (Option·getD (getElem? xs k) d)
-element-there [] k d h = absurd (omega arith)
-element-there (x ∷ xs) zero d h = refl
-element-there (x ∷ xs) (suc k) d h = element-there xs k d (omega arith)
-
 -- the child taken adds what it has, one of a closing rule nothing
 child-taken : (n : ℕ) (t : Step × ℕ) → childInRange n (t .0) (t .1) ≡ true → TakesAsIfFitted n t (Option·getD (childAt (shape n (t .0)) (t .1)) 0)
 child-taken n t e = go (shape n (t .0)) (t .1) e
@@ -251,7 +246,7 @@ child-taken n t e = go (shape n (t .0)) (t .1) e
     go (c ∷ cs) (suc k) e =
         let (_, h) = and-both (leb 1 (suc k)) (leb (suc k) (suc (length cs))) e in
         let g : suc k ≤ suc (length cs) = leb-true (suc k) (suc (length cs)) h in
-        inl (element-there (c ∷ cs) k 0 (omega arith))
+        inl (element-within (c ∷ cs) k 0 (omega arith))
 
 path-there : (n k : ℕ) (ts : List (Step × ℕ)) → All (λ t. childInRange n (t .0) (t .1) ≡ true) ts → (facts : ℕ) × PathAsIfFitted n k ts facts
 unfolding PathAsIfFitted

@@ -7,11 +7,10 @@ use mathlib.Core.Path.{_≡_, refl, sym, _∙_, ap, subst}
 use mathlib.Core.Logic.{_⊎_, inl, inr}
 use mathlib.Core.Option.{Option, none}
 use mathlib.Core.List.{List, [], _∷_, _++_, map, map-append, map-id}
-use lib.ListN.{length, take, drop, length-map, take-append-drop}
-use lib.Seq.{take-append-seam}
+use lib.ListN.{length, length-map}
 use lib.IntN.{ℤ}
 use Rattle.lists.specs.Lists.{maximum}
-use Rattle.lists.proofs.Lists.{map-take}
+use Rattle.lists.proofs.Lists.{map-split}
 use Rattle.calculus.specs.Steps.{Step}
 use Rattle.calculus.specs.Walk.{Waiting, Walk, working, closed, enter}
 use Rattle.calculus.specs.Derivations.{LeadsBy, here}
@@ -21,15 +20,6 @@ use Rattle.format.specs.Needs.{statesMet, factsIn, pendingIn, report}
 use Rattle.format.specs.Demands.{OnItsWay}
 use Rattle.format.proofs.Behind.{Taken}
 use Rattle.format.proofs.Checker.{bare, taken-arrives}
-
--- first steps, seen through a map, are first steps
-map-split : {A B : Type 0} (g : A → B) (xs : List A) (f r : List B) → map g xs ≡ f ++ r → (h : List A) × (k : List A) × (xs ≡ h ++ k) × (map g h ≡ f)
-map-split g xs f r e = (
-  take (length f) xs,
-  drop (length f) xs,
-  sym (take-append-drop (length f) xs),
-  map-take g (length f) xs ∙ ap (take (length f)) e ∙ take-append-seam f r,
-)
 
 module _ {B C : Type 0} (w : Method B C) where
   -- the state after some steps

@@ -6,7 +6,10 @@ use mathlib.Core.Bool.{Bool, true, false}
 use mathlib.Core.Option.{Option, none, some}
 use mathlib.Core.List.{List, [], _∷_}
 use lib.ListN.{length}
+use lib.Dec.{eqb}
 use lib.IntN.{ℤ}
+use borrow.Author.Tests.{eqb-true}
+use Rattle.lists.specs.Lists.{All}
 use Rattle.lists.proofs.Lists.{all-map, all-mapped}
 use Rattle.calculus.specs.Facts.{Question}
 use Rattle.calculus.specs.Steps.{Step}
@@ -16,6 +19,7 @@ use Rattle.format.specs.Written.{withChildZero, Content, noSolutionTicke
 use Rattle.format.specs.Demands.{Bytes, WrittenAs, FormedAs, TH-form, TH-form-one}
 use Rattle.format.proofs.Faults.{clash}
 use Rattle.format.proofs.Behind.{Taken, proving-stays, proving-no-model, taking-no-walk, taking-models}
+use Rattle.format.proofs.Checker.{bare}
 use Rattle.format.proofs.ChildFields.{child→}
 use Rattle.format.proofs.RecordsBehind.{fine-splits, fine-taken}
 use Rattle.format.proofs.ShapeWalks.{taken→none-past, none-past→taken, path-taken}
@@ -23,14 +27,15 @@ use Rattle.format.proofs.Claimed.{started}
 use Rattle.format.proofs.Tickets.{Holding, proper→, →proper}
 use Rattle.format.proofs.WholeTickets.{→holding, Writes, holding→}
 
-without-back : (sts sts' : List Step) → withChildZero sts ≡ withChildZero sts' → sts ≡ sts'
-without-back [] [] e = refl
-without-back [] (st ∷ sts) e = clash cc
-without-back (st ∷ sts) [] e = clash cc
-without-back (st ∷ sts) (st' ∷ sts') e =
-    let first : _≡_ {A = Step × ℕ} (st, 0) (st', 0) = cc in
-    let rest : withChildZero sts ≡ withChildZero sts' = cc in
-    ap₂ _∷_ (ap (λ (t : Step × ℕ). t .0) first) (without-back sts sts' rest)
+-- ---- steps without a child
+
+pub bare-zero : (sts : List Step) → bare (withChildZero sts) ≡ sts
+bare-zero [] = refl
+bare-zero (st ∷ sts) = ap (λ l. st ∷ l) (bare-zero sts)
+
+zero-bare : (ts : List (Step × ℕ)) → All (λ t. eqb (t .1) 0 ≡ true) ts → ts ≡ withChildZero (bare ts)
+zero-bare [] h = refl
+zero-bare ((st, c) ∷ ts) (h, hs) = ap₂ (λ (c : ℕ) (l : List (Step × ℕ)). (st, c) ∷ l) (eqb-true c 0 h) (zero-bare ts hs)
 
 -- ---- from words to proper form
 
@@ -42,7 +47,7 @@ module _ (b : List ℕ) (u : Question) where
       let (h, same) = →holding b u true none (withChildZero sts) question (w .few) (fine-splits u sts steps) tt (w .bytes) in
       let (end, taken) = none-past→taken u (length (u .constraints)) sts none-past in
       let (r, done) = →proper b u true none h (subst (λ ts. Taken (byShape u) (started (byShape u) true) ts none (proving end)) (sym same) taken) in
-      ((end, r, done), same)
+      ((end, r, done), ap bare same ∙ bare-zero sts)
 
   written→strings : (ts : List (Step × ℕ)) (m : List ℤ) → WrittenAs b (stringsTicket u ts m) → FormedAs b (stringsTicket u ts m)
   unfolding InRange written
@@ -69,14 +74,15 @@ module _ (b : List ℕ) (bytes : Bytes b) (u : Question) where
       walked : (o : Option (List ℤ)) → o ≡ none → Holding b u true o → Taken (byShape u) (started (byShape u) true) (stepsWithChild b) none (proving end)
           → WrittenAs b (noSolutionTicket u sts)
       walked o e h taken =
-          let w : Writes b u true none (withChildZero sts) =
-          subst (Writes b u true none) same (holding→ b u true none bytes (subst (Holding b u true) e h)) in
+          let read : Writes b u true none (stepsWithChild b) = holding→ b u true none bytes (subst (Holding b u true) e h) in
+          let zeros : stepsWithChild b ≡ withChildZero sts = zero-bare (stepsWithChild b) (all-map (stepsWithChild b) (λ t k. k .1) (read .steps)) ∙ ap withChildZero same in
+          let w : Writes b u true none (withChildZero sts) = subst (Writes b u true none) zeros read in
           record {
             in-range = (
               w .question,
               all-map sts (λ st k. k .0) (subst (λ X. X) (all-mapped _ (λ (st : Step). (st, 0)) sts) (w .steps)),
               taken→none-past u (length (u .constraints)) sts (proving end)
-                  (subst (λ ts. Taken (byShape u) (started (byShape u) true) ts none (proving end)) same taken),
+                  (subst (λ ts. Taken (byShape u) (started (byShape u) true) ts none (proving end)) zeros taken),
             );
             bytes = w .bytes;
             few = w .few;
@@ -126,7 +132,7 @@ form-words b bytes c = (proper→written b bytes c, written→proper b c)
 form-one : (b : List ℕ) (c d : Content) → FormedAs b c → FormedAs b d → c ≡ d
 form-one b (noSolutionTicket u sts) (noSolutionTicket v sts') ((w, r, e), f) ((w', r', e'), g) =
     let same : u ≡ v = cc in
-    ap₂ noSolutionTicket same (without-back sts sts' (sym f ∙ g))
+    ap₂ noSolutionTicket same (sym f ∙ g)
 form-one b (noSolutionTicket u sts) (stringsTicket v ts m) ((w, r, e), f) ((w', r', e'), g) = clash cc
 form-one b (stringsTicket u ts m) (noSolutionTicket v sts) ((w, r, e), f) ((w', r', e'), g) = clash cc
 form-one b (stringsTicket u ts m) (stringsTicket v ts' m') ((w, r, e), f) ((w', r', e'), g) =

@@ -3,7 +3,6 @@ use Prim.Native.Nat.{ℕ, suc, _+_, _<_, _≤_}
 use native.Mathlib.Omega.{arith}
 use native.Mathlib.Decide.{decLt}
 use mathlib.Core.Path.{_≡_, refl, sym, _∙_, ap, ap₂, subst}
-use mathlib.Core.Logic.{inl, inr}
 use mathlib.Core.Bool.{Bool, true, false, not, _||_}
 use mathlib.Core.List.{List, [], _∷_, _++_, append-assoc, append-nil, flatMap}
 use lib.ListN.{length, drop, length-append}
@@ -11,7 +10,7 @@ use lib.Seq.{append-snoc}
 use lib.Dec.{ltb}
 use borrow.Author.Tests.{lt-ltb, le-ltb}
 use Rattle.lists.specs.Lists.{All, Distinct}
-use Rattle.lists.proofs.Lists.{In, not-in→, in-right}
+use Rattle.lists.proofs.Lists.{in-middle}
 use Rattle.calculus.specs.Limits.{alphabetLimit, literalLimit, factLimit}
 use Rattle.calculus.specs.Facts.{Question, Fact, same, notSame, isLiteral, arithmetic}
 use Rattle.calculus.specs.Extended.{Extended, Names}
@@ -116,12 +115,6 @@ range-any n p q ls cs ds (same x y) h = h
 range-any n p q ls cs ds (notSame x y) h = h
 range-any n p q ls cs ds (isLiteral x l) h = h
 range-any n p q ls cs ds (arithmetic r e) h = record { size = h .size; numbers = h .numbers; columns = h .columns }
-
--- a string in the middle is not among those before it
-in-middle : {A : Type 0} (xs : List A) (y : A) (ys : List A) → Distinct (xs ++ (y ∷ ys)) → In y xs → ⊥
-in-middle [] y ys d i = i
-in-middle (x ∷ xs) y ys d (inl e) = not-in→ x y (xs ++ (y ∷ ys)) (d .0) (in-right y xs (y ∷ ys) (inl refl)) (sym e)
-in-middle (x ∷ xs) y ys d (inr i) = in-middle xs y ys (d .1) i
 
 -- behind the last rank and what is done, the literals left may be read; so may the constraints, more of which may follow; so may the extended constraints
 pub record LiteralsLeft (n last : ℕ) (done ls : List (List ℕ)) : Type 0 where

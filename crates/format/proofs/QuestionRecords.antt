@@ -16,7 +16,7 @@ use Rattle.format.specs.Records.{size, kind, next, whole, need}
 use Rattle.format.specs.Answer.{recordBytes, characterBytes}
 use Rattle.format.specs.Question.{headRank, literalRank, stringRank, arithmeticRank, extendedKind, extendedRank, rankOf, Progress, unread}
 use Rattle.format.specs.Question.{rankInPlace, inPlace, questionBodyFault, formFault}
-use Rattle.format.specs.Question.{headFault, textOf, bodyFact, withFact, stringKind, arithmeticKind, questionAfter, extendedAfter, questionAdvanced, ending}
+use Rattle.format.specs.Question.{headFault, textOf, bodyFact, withFact, stringKind, arithmeticKind, questionAfter, extendedAfter, questionAdvanced, ending, byRank}
 use Rattle.format.specs.Written.{headRecord, literalRecord, constraintRecord, extendedRecord, LiteralInRange, ConstraintInRange}
 use Rattle.format.proofs.Faults.{passed}
 use Rattle.format.proofs.Encoded.{length-record, length-characters}
@@ -122,31 +122,30 @@ pub record Known (b : List ℕ) (k r : ℕ) : Type 0 where
   pub after : (u : Question) (at m : ℕ) → questionAfter b u k at m ≡ withFact u (bodyFact b k at m)
   pub extended : (es : List Extended) (at : ℕ) → extendedAfter b es k at ≡ es
 
+-- a rank between those of literals and of extended constraints
+by-constraint : {A : Type 0} (r : ℕ) (head literal constraint extended : A) → literalRank < r → r ≤ arithmeticRank → byRank r head literal constraint extended ≡ constraint
+by-constraint r head literal constraint extended h g =
+    rw (ne-eqb r headRank (λ e. omega arith), ne-eqb r literalRank (λ e. omega arith), ne-eqb r extendedRank (λ e. omega arith)) refl
+
+known-by : (b : List ℕ) (k r : ℕ) → k < 65536 → ending k ≡ false → rankOf k ≡ r → literalRank < r → r ≤ arithmeticRank → Known b k r
+known-by b k r few not-ending rank h g = record {
+  few = few;
+  not-ending = not-ending;
+  rank = rank;
+  constraint = h;
+  at-most = g;
+  body = λ u at m. rw (rank) (by-constraint r _ _ _ _ h g);
+  after = λ u at m. rw (rank) (by-constraint r _ _ _ _ h g);
+  extended = λ es at. rw (rank) (by-constraint r _ _ _ _ h g);
+}
+
 pub known-string : (b : List ℕ) → Known b stringKind stringRank
 unfolding rankOf
-known-string b = record {
-  few = omega arith;
-  not-ending = refl;
-  rank = refl;
-  constraint = omega arith;
-  at-most = omega arith;
-  body = λ u at m. refl;
-  after = λ u at m. refl;
-  extended = λ es at. refl;
-}
+known-string b = known-by b stringKind stringRank (omega arith) refl refl (omega arith) (omega arith)
 
 pub known-arithmetic : (b : List ℕ) → Known b arithmeticKind arithmeticRank
 unfolding rankOf
-known-arithmetic b = record {
-  few = omega arith;
-  not-ending = refl;
-  rank = refl;
-  constraint = omega arith;
-  at-most = omega arith;
-  body = λ u at m. refl;
-  after = λ u at m. refl;
-  extended = λ es at. refl;
-}
+known-arithmetic b = known-by b arithmeticKind arithmeticRank (omega arith) refl refl (omega arith) (omega arith)
 
 pub known : (b : List ℕ) (f : Fact) → Known b (factKind f) (factRank f)
 known b (same x y) = known-string b

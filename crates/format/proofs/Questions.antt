@@ -1,24 +1,24 @@
 -- A question as bytes, both ways, in each manner of reading: what is read, and where, is what the bytes begin with, and 10 is a constraint more than 128.
 use Prim.Native.Nat.{ℕ, zero, suc, _+_, _<_, _≤_}
 use native.Mathlib.Omega.{arith}
-use mathlib.Core.Path.{_≡_, refl, sym, _∙_, ap, ap₂, subst}
+use mathlib.Core.Path.{_≡_, refl, sym, _∙_, ap, subst}
 use mathlib.Core.Logic.{_⊎_, inl, inr}
 use mathlib.Core.Bool.{Bool, true, false, true≢false, not, _||_}
 use mathlib.Core.Option.{some}
-use mathlib.Core.List.{List, [], _++_, map}
-use lib.ListN.{length, drop, length-append, length-drop, length-map}
+use mathlib.Core.List.{List, [], _++_}
+use lib.ListN.{length, drop, length-append, length-drop}
 use lib.Dec.{T, ltb, eqb}
 use borrow.Author.Tests.{leb-true, le-leb, eqb-true, ltb-true, ltb-false}
 use Rattle.lists.proofs.Tests.{true→, or→, →true}
 use Rattle.calculus.specs.Limits.{ticketBytes, factLimit}
 use Rattle.calculus.specs.Facts.{Question, Fact}
-use Rattle.calculus.specs.Extended.{Extended, basic, extended, constraintsOf}
+use Rattle.calculus.specs.Extended.{Extended, constraintsOf}
 use Rattle.format.specs.Records.{size, kind, next}
 use Rattle.format.specs.Question.{headRank, literalRank, extendedRank, rankOf, isConstraint, Progress, unread, constraintCount, withFact, Manner}
 use Rattle.format.specs.Question.{judgingManner, formManner, bodyFact, formFault, roomFor, findsRoom, orCrowded, questionFault, questionAdvanced, Reading, Stopped, Ended, ending}
 use Rattle.format.specs.Question.{readIn, judgedQuestion, questionForm, questionIn, judgedIn, questionOf}
 use Rattle.format.specs.Written.{questionBytes, constraintRecord, QuestionInRange}
-use Rattle.format.specs.Demands.{Bytes, PutsQuestion, TH-put, TH-asked}
+use Rattle.format.specs.Demands.{Bytes, PutsQuestion, TH-put, TH-asked, Asks}
 use Rattle.format.proofs.Faults.{clash}
 use Rattle.format.proofs.RecordFaults.{uncrowded, rank-extended, not-extended}
 use Rattle.format.proofs.Turns.{Comes, ends, stops, lacks, comes}
@@ -27,11 +27,12 @@ use Rattle.format.proofs.Asked.{Ready, advanced-ready, entry-few, heade
 use Rattle.format.proofs.Standing.{question-short}
 use Rattle.format.proofs.Refusals.{form-number}
 use Rattle.format.proofs.BytesWritten.{leading-written}
-use Rattle.format.proofs.QuestionsRead.{ReadIn, behindQuestion, question-read}
+use Rattle.format.proofs.QuestionsRead.{behindQuestion, question-read, form-in, extended-in}
 use Rattle.format.proofs.QuestionsWritten.{Sort, a-head, a-literal, a-constraint, an-extended, WrittenTo, Begun, order-there, constraint-there, sort-there}
 use Rattle.format.proofs.QuestionsWritten.{written-behind}
 use Rattle.format.proofs.QuestionRecords.{reached, Known}
 use Rattle.format.proofs.QuestionBytes.{constraint-more}
+use Rattle.calculus.proofs.Extended.{length-constraintsOf}
 
 -- ---- what every record keeps
 
@@ -85,7 +86,7 @@ module _ (m : Manner) (b : List ℕ) (small : Bytes b) where
       bytes = w .bytes;
       delimited = record {
         size = size b at;
-        kind-is = kind b at;
+        of-kind = kind b at;
         more = drop (at + 6) b;
         claim-or-end = delimiter (kind b at) e;
         leading = leading-written b small at six;
@@ -195,10 +196,6 @@ module _ (m : Manner) (b : List ℕ) (small : Bytes b) where
 
 -- ---- the theorems
 
-count-constraints : (u : Question) (es : List Extended) → length (constraintsOf u es) ≡ length (u .constraints) + length es
-count-constraints u es =
-    length-append (map basic (u .constraints)) (map extended es) ∙ ap₂ _+_ (length-map (u .constraints) basic) (length-map es extended)
-
 pub questions-put : TH-put
 questions-put b small u = (from-bytes, to-bytes)
   where
@@ -211,27 +208,23 @@ questions-put b small u = (from-bytes, to-bytes)
 
     to-bytes : PutsQuestion b u [] → questionOf b ≡ some u
     to-bytes h =
-        let in-form : ReadIn formManner u [] =
-        record { arithmetic-taken = omega arith; extended-taken = λ l. absurd (omega arith); room = λ e. absurd (true≢false (sym e)) } in
-        let r = question-read formManner b u [] h in-form in
+        let r = question-read formManner b u [] h (form-in u) in
         ap questionIn (r .ends)
         ∙ headed-in (λ s. s .question) (reached (r .last) u []) (length (questionBytes u [])) (behindQuestion u []) (le-leb headRank (r .last) (r .has-head))
 
 pub questions-asked : TH-asked
 questions-asked b small u es = (from-bytes, to-bytes)
   where
-    from-bytes : judgedIn (judgedQuestion b) ≡ some (u, es) → PutsQuestion b u es × (length (constraintsOf u es) ≤ factLimit)
+    from-bytes : Asks b u es → PutsQuestion b u es × (length (constraintsOf u es) ≤ factLimit)
     from-bytes e =
         let h = headed-by (λ s. (s .question, s .extended)) (judgedQuestion b) e in
         let w = question-written judgingManner b small (h .ends) (leb-true headRank (h .progress .last) (h .has-head)) in
         subst (λ (t : Question × List Extended). PutsQuestion b (t .0) (t .1) × (length (constraintsOf (t .0) (t .1)) ≤ factLimit)) (h .gives)
-        (w .begins, omega (arith, w .room refl, count-constraints (h .progress .question) (h .progress .extended)))
+        (w .begins, omega (arith, w .room refl, length-constraintsOf (h .progress .question) (h .progress .extended)))
 
-    to-bytes : PutsQuestion b u es × (length (constraintsOf u es) ≤ factLimit) → judgedIn (judgedQuestion b) ≡ some (u, es)
+    to-bytes : PutsQuestion b u es × (length (constraintsOf u es) ≤ factLimit) → Asks b u es
     to-bytes (h, few) =
-        let judged : ReadIn judgingManner u es =
-        record { arithmetic-taken = omega arith; extended-taken = λ _. omega arith; room = λ _. omega (arith, count-constraints u es) } in
-        let r = question-read judgingManner b u es h judged in
+        let r = question-read judgingManner b u es h (extended-in judgingManner u es (omega arith) (λ _. omega (arith, length-constraintsOf u es))) in
         ap judgedIn (r .ends)
         ∙ headed-in (λ s. (s .question, s .extended)) (reached (r .last) u es) (length (questionBytes u es)) (behindQuestion u es)
         (le-leb headRank (r .last) (r .has-head))
@@ -241,8 +234,8 @@ pub begins-one : (b : List ℕ) (u v : Question) (es ds : List Extended) → Put
 begins-one b u v es ds h k =
     let m : Manner = record { limited = false; greatest = extendedRank } in
     let none : m .limited ≡ true → ⊥ = λ e. true≢false (sym e) in
-    let r = question-read m b u es h (record { arithmetic-taken = omega arith; extended-taken = λ _. omega arith; room = λ e. absurd (none e) }) in
-    let q = question-read m b v ds k (record { arithmetic-taken = omega arith; extended-taken = λ _. omega arith; room = λ e. absurd (none e) }) in
+    let r = question-read m b u es h (extended-in m u es (omega arith) (λ e. absurd (none e))) in
+    let q = question-read m b v ds k (extended-in m v ds (omega arith) (λ e. absurd (none e))) in
     let one : reached (r .last) u es ≡ reached (q .last) v ds = ended-one (sym (r .ends) ∙ q .ends) in
     (ap (λ (s : Progress). s .question) one, ap (λ (s : Progress). s .extended) one)
   where

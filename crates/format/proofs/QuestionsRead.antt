@@ -4,7 +4,7 @@ use native.Mathlib.Omega.{arith}
 use native.Mathlib.Nat.{zero-add}
 use mathlib.Core.Path.{_≡_, refl, sym, _∙_, ap, ap₂, subst}
 use mathlib.Core.Logic.{_⊎_, inl, inr}
-use mathlib.Core.Bool.{Bool, true, false, not, _||_}
+use mathlib.Core.Bool.{Bool, true, false, not, _||_, true≢false}
 use mathlib.Core.List.{List, [], _∷_, _++_, append-nil, flatMap}
 use lib.ListN.{length, drop}
 use lib.Seq.{drop-at}
@@ -18,7 +18,7 @@ use Rattle.calculus.specs.Extended.{Extended, Names}
 use Rattle.format.specs.Records.{size, kind}
 use Rattle.format.specs.Question.{headRank, literalRank, stringRank, arithmeticRank, extendedRank, rankOf, Progress, unread}
 use Rattle.format.specs.Question.{isConstraint, Manner, roomFor, questionFault}
-use Rattle.format.specs.Question.{withFact, Ended, Stopped, orCrowded, ending, readOn, readIn}
+use Rattle.format.specs.Question.{withFact, Ended, Stopped, orCrowded, ending, readOn, readIn, formManner}
 use Rattle.format.specs.Written.{constraintRecord, LiteralInRange, ConstraintInRange, questionBytes, QuestionInRange}
 use Rattle.format.specs.Fields.{bytesOf}
 use Rattle.format.specs.Demands.{PutsQuestion}
@@ -38,6 +38,19 @@ pub record ReadIn (m : Manner) (u : Question) (es : List Extended) : Type 0 wher
   pub arithmetic-taken : arithmeticRank ≤ m .greatest
   pub extended-taken : 1 ≤ length es → extendedRank ≤ m .greatest
   pub room : m .limited ≡ true → length (u .constraints) + length es ≤ factLimit
+
+-- a question without extended constraints; one with them where kind 11 is taken
+pub plain-in : (m : Manner) (u : Question) → arithmeticRank ≤ m .greatest → (m .limited ≡ true → length (u .constraints) ≤ factLimit) → ReadIn m u []
+plain-in m u g room = record { arithmetic-taken = g; extended-taken = λ z. absurd (omega arith); room = λ e. omega (arith, room e) }
+
+pub extended-in : (m : Manner) (u : Question) (es : List Extended) → extendedRank ≤ m .greatest
+    → (m .limited ≡ true → length (u .constraints) + length es ≤ factLimit)
+    → ReadIn m u es
+extended-in m u es g room = record { arithmetic-taken = omega arith; extended-taken = λ _. g; room = room }
+
+-- where 10 is not looked for
+pub form-in : (u : Question) → ReadIn formManner u []
+form-in u = plain-in formManner u (omega arith) (λ e. absurd (true≢false (sym e)))
 
 -- the number of the record behind the question
 abbrev pub behindQuestion : Question → List Extended → ℕ
@@ -174,7 +187,7 @@ module _ (m : Manner) (b : List ℕ) (u : Question) where
         all = ranges u r
 
         plain : ReadIn m u []
-        plain = record { arithmetic-taken = i .arithmetic-taken; extended-taken = λ z. absurd (omega arith); room = λ x. omega (arith, i .room x) }
+        plain = plain-in m u (i .arithmetic-taken) (λ x. omega (arith, i .room x))
 
         rises : Rising stringRank (u .constraints ++ [])
         rises = subst (Rising stringRank) (sym (append-nil (u .constraints))) (in-order-rising stringRank (u .constraints) (omega arith) (r .in-order))
@@ -209,10 +222,10 @@ question-read m b u es h i =
     let to = question-read-to m b u es (h .rest) (h .in-range) (h .named) i (h .few) (h .bytes) in
     let at : ℕ = length (questionBytes u es) in
     let d = h .delimited in
-    let (short, ends) = delimiter-ends (d .kind-is) (d .claim-or-end) in
-    let stands : drop at b ≡ bytesOf 4 (d .size) ++ (bytesOf 2 (d .kind-is) ++ d .more) =
+    let (short, ends) = delimiter-ends (d .of-kind) (d .claim-or-end) in
+    let stands : drop at b ≡ bytesOf 4 (d .size) ++ (bytesOf 2 (d .of-kind) ++ d .more) =
     ap (drop at) (h .bytes) ∙ drop-at (questionBytes u es) (h .rest) at refl ∙ d .leading in
-    let lead = leading-read b at (d .size) (d .kind-is) (d .more) short stands in
+    let lead = leading-read b at (d .size) (d .of-kind) (d .more) short stands in
     record {
       last = to .last;
       has-head = to .has-head;
@@ -246,9 +259,8 @@ pub crowded-read : (m : Manner) (b : List ℕ) (u : Question) (f : Fact) (rest :
 unfolding questionFault
 crowded-read m b u f rest limited g r full few e =
     let all = part-ranges u f r in
-    let i : ReadIn m u [] = record { arithmetic-taken = g; extended-taken = λ z. absurd (omega arith); room = λ _. omega arith } in
     let rises : Rising stringRank (u .constraints ++ (f ∷ [])) = in-order-rising stringRank (u .constraints ++ (f ∷ [])) (omega arith) (r .in-order) in
-    let to = constraints-read-to m b u (f ∷ []) (constraintRecord f ++ rest) all i rises few (e ∙ plain-parts u (constraintRecord f ++ rest)) in
+    let to = constraints-read-to m b u (f ∷ []) (constraintRecord f ++ rest) all (plain-in m u g (λ _. omega arith)) rises few (e ∙ plain-parts u (constraintRecord f ++ rest)) in
     let at : ℕ = length (questionBytes u []) in
     let stands : drop at b ≡ constraintRecord f ++ rest =
     ap (drop at) e ∙ drop-at (questionBytes u []) (constraintRecord f ++ rest) at refl in

@@ -45,7 +45,7 @@ rank-none : (k : ℕ) → eqb k headKind ≡ false → eqb k literalKind ≡ fal
 unfolding rankOf
 rank-none k e1 e2 e3 e4 e5 = rw (e1, e2, e3, e4, e5)
 
-pub sort-of : (b : List ℕ) (greatest last literals k : ℕ) → rankInPlace greatest last literals (rankOf k) ≡ true → Sort b k
+sort-of : (b : List ℕ) (greatest last literals k : ℕ) → rankInPlace greatest last literals (rankOf k) ≡ true → Sort b k
 sort-of b greatest last literals k place =
     go (eqb k headKind) (eqb k literalKind) (eqb k stringKind) (eqb k arithmeticKind) (eqb k extendedKind) refl refl refl refl refl
   where
@@ -62,7 +62,7 @@ sort-of b greatest last literals k place =
         absurd (omega (arith, none, behind-head greatest last literals (rankOf k) place (λ z. omega arith) .at-least))
 
 -- what is read behind a record of kind k
-pub advanced-is : (b : List ℕ) (s : Progress) (at k : ℕ) → kind b at ≡ k
+advanced-is : (b : List ℕ) (s : Progress) (at k : ℕ) → kind b at ≡ k
     → questionAdvanced b s at ≡ reached (rankOf k) (questionAfter b (s .question) k (at + 6) (size b at)) (extendedAfter b (s .extended) k (at + 6))
 unfolding questionAdvanced
 advanced-is b s at k e =

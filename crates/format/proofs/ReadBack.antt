@@ -16,13 +16,13 @@ use Rattle.calculus.proofs.Alphabet.{character-below}
 use Rattle.calculus.specs.Facts.{Question}
 use Rattle.calculus.specs.Meaning.{Assignment, IsAssignment}
 use Rattle.calculus.specs.Extended.{Extended}
-use Rattle.format.specs.Fields.{u32s}
+use Rattle.format.specs.Fields.{u32s, IsU32, IsI32}
 use Rattle.format.specs.Records.{size, kind, next}
 use Rattle.format.specs.Question.{judgingManner, judgedQuestion, byHead}
 use Rattle.format.specs.Places.{skip, textAt, texts}
 use Rattle.format.specs.Answer.{recordBytes, characterBytes, integerBytes, stringRecords, encode, answerForm, integersAt, assignmentOf, outside}
 use Rattle.format.specs.Judging.{Submission, Rejected, Submitted, byForm, judgeAnswer, judgeBehind, submission}
-use Rattle.format.specs.Demands.{IsU32, IsI32, AnswerHeld, Asks, TH-3-all}
+use Rattle.format.specs.Demands.{AnswerHeld, Asks, TH-3-all}
 use Rattle.format.proofs.Entries.{ReadInRange}
 use Rattle.format.proofs.Encoded.{length-characters, length-integers}
 use Rattle.format.proofs.Asked.{headed-by, read-in-range}

@@ -16,13 +16,13 @@ use Rattle.lists.proofs.Tests.{and-both}
 use Rattle.calculus.specs.Limits.{columnLimit, valueLimit}
 use Rattle.calculus.specs.Facts.{Question, columnCount}
 use Rattle.calculus.specs.Steps.{Step}
-use Rattle.format.specs.Fields.{i32s, allWithin}
+use Rattle.format.specs.Fields.{i32s, allWithin, IsU16}
 use Rattle.format.specs.Records.{size, kind, next, whole, records, need}
 use Rattle.format.specs.Question.{Progress, headRead}
 use Rattle.format.specs.StepForms.{childInRange}
 use Rattle.format.specs.Reading.{modelAt, stepWithChild, claimAt, claimFault}
 use Rattle.format.specs.Answer.{integerBytes}
-use Rattle.format.specs.Written.{u16Bytes, claimRecord, stepRecord, stepRecords, modelRecord, endRecord, withChildZero, IsU16, OperandsInRange, ChildInRange, ModelInRange}
+use Rattle.format.specs.Written.{u16Bytes, claimRecord, stepRecord, stepRecords, modelRecord, endRecord, withChildZero, OperandsInRange, ModelInRange, TakenInRange}
 use Rattle.format.specs.Demands.{Bytes}
 use Rattle.format.proofs.Records.{records-more}
 use Rattle.format.proofs.Faults.{none-applies, passed}
@@ -36,7 +36,7 @@ use Rattle.format.proofs.StepsRead.{short-at, step-read}
 use Rattle.format.proofs.StepsWritten.{one-at, step-written}
 
 -- the record at a position is there, so it is the first from there on
-pub first-whole : (b : List ℕ) (at : ℕ) → whole b at ≡ true → records b at ≡ at ∷ records b (next b at)
+first-whole : (b : List ℕ) (at : ℕ) → whole b at ≡ true → records b at ≡ at ∷ records b (next b at)
 first-whole b at w = records-more b at (omega (arith, leb-true (next b at) (length b) w))
 
 -- ---- the claim
@@ -174,8 +174,8 @@ module _ (u : Question) where
   fine-splits [] h = tt
   fine-splits (st ∷ sts) (h, hs) = (fine-split st h, fine-splits sts hs)
 
-  pub fine-taken : (t : Step × ℕ) → OperandsInRange u (t .0) × ChildInRange u t → Fine u (childInRange (u .n)) t
-  fine-taken t (h, c) = record { operands = h; short = child-short u t h c; passes = →child u t c }
+  pub fine-taken : (t : Step × ℕ) → TakenInRange u t → Fine u (childInRange (u .n)) t
+  fine-taken t (h, c) = record { operands = h; short = child-short u t (h, c); passes = →child u t c }
 
 module _ (b : List ℕ) (u : Question) (few : columnCount u ≤ columnLimit) (ok : Step → ℕ → Bool) where
   pub fine-read : (at : ℕ) (t : Step × ℕ) (rest : List ℕ) → Fine u ok t → drop at b ≡ stepRecord t ++ rest → StepAt b u ok at t × (drop (next b at) b ≡ rest)

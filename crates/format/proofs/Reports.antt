@@ -1,53 +1,43 @@
 -- TH-L2: which tickets there is a report for, and which give 11, in words.
 use Prim.Native.Nat.{ℕ, _+_, _≤_}
 use native.Mathlib.Omega.{arith}
-use mathlib.Core.Path.{_≡_, refl, sym, _∙_, ap, ap₂, subst}
+use mathlib.Core.Path.{_≡_, refl, sym, _∙_, ap, subst}
 use mathlib.Core.Bool.{Bool, true, false, cond}
 use mathlib.Core.Option.{none, Option·getD}
 use mathlib.Core.List.{List, [], _∷_}
 use lib.ListN.{length, length-map}
-use lib.Dec.{eqb}
 use lib.IntN.{ℤ}
-use borrow.Author.Tests.{eqb-true}
 use Rattle.lists.specs.Lists.{All}
 use Rattle.lists.proofs.Lists.{all-map}
 use Rattle.calculus.specs.Facts.{Question}
 use Rattle.calculus.specs.Steps.{Step, shape}
 use Rattle.calculus.specs.Children.{childAt}
 use Rattle.calculus.specs.Walk.{Walk, working, closed}
-use Rattle.calculus.specs.Derivations.{ClosedBy, AsIfFitted}
+use Rattle.calculus.specs.Derivations.{AsIfFitted}
 use Rattle.calculus.proofs.Leads.{closed→walk}
 use Rattle.format.specs.Question.{formManner, questionForm}
 use Rattle.format.specs.Reading.{State, proving, taking, modelled, Method, stepped, Ticket, Faulty, Done, begin, readBehind}
 use Rattle.format.specs.ProperForm.{byShape, ticketForm, stepsWithChild}
-use Rattle.format.specs.Written.{endRecord, withChildZero, Content, noSolutionTicket, stringsTicket, written, OperandsInRange, ChildInRange, InRange}
+use Rattle.format.specs.Written.{endRecord, withChildZero, Content, noSolutionTicket, stringsTicket, written, InRange, TakenInRange, recordBehind}
 use Rattle.format.specs.Needs.{Report, complete, Need, NeedRefused, Needs, needBy, reportOf, needed}
 use Rattle.format.specs.Refusals.{Begins}
-use Rattle.format.specs.Demands.{Bytes, WrittenAs, Complete, TH-L2-reported, UnclosedAt, unclosed, unmodelled, TH-L2-unclosed}
+use Rattle.format.specs.Demands.{Bytes, WrittenAs, Complete, TH-L2-reported, UnclosedAt, unclosed, unmodelled, TH-L2-unclosed, ClosesAsIf}
+use Rattle.format.proofs.QuestionsRead.{form-in}
 use Rattle.format.proofs.Faults.{clash}
 use Rattle.format.proofs.Refusals.{InTicket}
-use Rattle.format.proofs.Behind.{Taken, childOk, formed-children, proving-stays, taking-no-walk, taking-unmodelled}
+use Rattle.format.proofs.Behind.{Taken, childOk, proving-stays, taking-unmodelled}
 use Rattle.format.proofs.ChildFields.{child→}
 use Rattle.format.proofs.RecordsBehind.{Fine, fine-splits, fine-taken}
-use Rattle.format.proofs.Claimed.{behindClaim}
-use Rattle.format.proofs.Tickets.{childFits, Holding, ReadAs, done→read}
+use Rattle.format.proofs.Tickets.{Holding, ReadAs, done→read}
 use Rattle.format.proofs.WholeTickets.{holding→}
 use Rattle.format.proofs.ShapeWalks.{none-past→taken}
-use Rattle.format.proofs.ProperBytes.{written→proper, form-words}
+use Rattle.format.proofs.ProperBytes.{bare-zero, written→proper, form-words}
 use Rattle.format.proofs.Checker.{bare}
 use Rattle.format.proofs.OnItsWay.{stepsTaken, walk-taken}
 use Rattle.format.proofs.Beginnings.{Faultless, end-done, beginning-read}
 use Rattle.format.proofs.Needs.{closes-as-if, form-numbers}
 
 -- steps without their child fields, put and taken away
-bare-zero : (sts : List Step) → bare (withChildZero sts) ≡ sts
-bare-zero [] = refl
-bare-zero (st ∷ sts) = ap (λ l. st ∷ l) (bare-zero sts)
-
-zero-bare : (ts : List (Step × ℕ)) → All (λ t. eqb (t .1) 0 ≡ true) ts → ts ≡ withChildZero (bare ts)
-zero-bare [] h = refl
-zero-bare ((st, c) ∷ ts) (h, hs) = ap₂ (λ (c : ℕ) (l : List (Step × ℕ)). (st, c) ∷ l) (eqb-true c 0 h) (zero-bare ts hs)
-
 -- what is taken without a model has no fault, and leads to where it is taken
 taken-faultless : {B C : Type 0} (w : Method B C) (s to : State B C) (ts : List (Step × ℕ)) → Taken w s ts none to → Faultless w s ts × (stepsTaken w s ts ≡ to)
 unfolding Taken Faultless
@@ -63,10 +53,6 @@ taken-faultless w (modelled br m) to (t ∷ ts) h = absurd h
 not-complete : {X : Type 0} (x : Bool) (y z : X) → (x ≡ true → ⊥) → cond x y z ≡ z
 not-complete true y z h = absurd (h refl)
 not-complete false y z h = refl
-
--- the number of the end record behind steps
-abbrev lastRecord : {A : Type 0} → Question → List A → ℕ
-lastRecord u steps = 2 + length (u .literals) + length (u .constraints) + length steps
 
 module _ (t : List ℕ) where
   -- reading by shapes
@@ -87,7 +73,7 @@ module _ (t : List ℕ) where
     begins-done claim ts r least most h fine faultless =
         let on =
         beginning-read byShape formManner t u claim ts endRecord (h .question)
-        (record { arithmetic-taken = omega arith; extended-taken = λ z. absurd (omega arith); room = λ z. absurd (let no : _≡_ {A = ℕ} 0 1 = cc in omega arith) })
+        (form-in u)
         least most (h .few-bytes) fine faultless (h .bytes) in
         on .reads
         ∙ end-done (byShape u) t u (stepsTaken (byShape u) (begin (byShape u) claim) ts) _ (on .position) (on .stands)
@@ -97,7 +83,7 @@ module _ (t : List ℕ) where
     record TreeRead (sts : List Step) : Type 0 where
       end : Walk ℕ ℕ
       taken : Taken (byShape u) (proving (working root [])) (withChildZero sts) none (proving end)
-      reads : read ≡ Done u (proving end) (lastRecord u sts)
+      reads : read ≡ Done u (proving end) (recordBehind u sts)
 
     tree-read : (sts : List Step) → WrittenAs t (noSolutionTicket u sts) → TreeRead sts
     unfolding InRange written
@@ -105,7 +91,7 @@ module _ (t : List ℕ) where
         let (question, steps, none-past) = w .in-range in
         let (end, taken) = none-past→taken u root sts none-past in
         let (faultless, to) = taken-faultless (byShape u) (proving (working root [])) (proving end) (withChildZero sts) taken in
-        let r : ℕ = lastRecord u sts in
+        let r : ℕ = recordBehind u sts in
         record {
           end = end;
           taken = taken;
@@ -120,13 +106,13 @@ module _ (t : List ℕ) where
     tree-closed : (sts : List Step) (k : TreeRead sts) → Complete (noSolutionTicket u sts) → k .end ≡ closed
     tree-closed sts k c =
         let (_, to) = taken-faultless (byShape u) (proving (working root [])) (proving (k .end)) (withChildZero sts) (k .taken) in
-        let walked = closed→walk (AsIfFitted (u .n)) _+_ root (bare (withChildZero sts)) (subst (ClosedBy (AsIfFitted (u .n)) _+_ root) (sym (bare-zero sts)) c) in
+        let walked = closed→walk (AsIfFitted (u .n)) _+_ root (bare (withChildZero sts)) (subst (ClosesAsIf u) (sym (bare-zero sts)) c) in
         let same : proving (k .end) ≡ proving closed = sym to ∙ walk-taken (byShape u) (working root []) closed (withChildZero sts) walked in
         cc
 
     closed-tree : (sts : List Step) (k : TreeRead sts) → complete (proving (k .end)) ≡ true → Complete (noSolutionTicket u sts)
     closed-tree sts k c =
-        subst (ClosedBy (AsIfFitted (u .n)) _+_ root) (bare-zero sts) (closes-as-if u (withChildZero sts) none (proving (k .end)) (k .taken) c)
+        subst (ClosesAsIf u) (bare-zero sts) (closes-as-if u (withChildZero sts) none (proving (k .end)) (k .taken) c)
 
     -- under claim 2 without a model, on a branch
     path-goes : (ts : List (Step × ℕ)) (k : ℕ) → (end : ℕ) × Faultless (byShape u) (taking k) ts × (stepsTaken (byShape u) (taking k) ts ≡ taking end)
@@ -136,7 +122,7 @@ module _ (t : List ℕ) where
         let (end, faultless, e) = path-goes ts (k + Option·getD (childAt (shape (u .n) (s .0)) (s .1)) 0) in
         (end, (refl, faultless), e)
 
-    path-read : (ts : List (Step × ℕ)) (r : ℕ) → Begins t u 2 ts endRecord r → All (λ s. OperandsInRange u (s .0) × ChildInRange u s) ts
+    path-read : (ts : List (Step × ℕ)) (r : ℕ) → Begins t u 2 ts endRecord r → All (TakenInRange u) ts
         → (end : ℕ) × (read ≡ Done u (taking end) r)
     path-read ts r h range =
         let (end, faultless, to) = path-goes ts root in
@@ -152,32 +138,26 @@ module _ (t : List ℕ) where
   module _ (bytes : Bytes t) (u : Question) (q : ℕ) where
     tree-words : (k : Walk ℕ ℕ) → read ≡ Done u (proving k) q → (sts : List Step) × WrittenAs t (noSolutionTicket u sts)
     unfolding ticketForm
-    tree-words k e = by-claim (done→read byShape t u e)
-      where
-        by-claim : ReadAs byShape t u (proving k) → (sts : List Step) × WrittenAs t (noSolutionTicket u sts)
-        by-claim (false, o, h, taken) = absurd (taking-no-walk (byShape u) (length (u .constraints)) (stepsWithChild t) o k taken)
-        by-claim (true, o, h, taken) =
-            let none-taken = formed-children t u (childFits u true) (behindClaim (h .claimed)) (stepsWithChild t) o (h .formed) in
-            (bare (stepsWithChild t), form-words t bytes (noSolutionTicket u (bare (stepsWithChild t))) .0 ((k, q, e), zero-bare (stepsWithChild t) none-taken))
+    tree-words k e = (bare (stepsWithChild t), form-words t bytes (noSolutionTicket u (bare (stepsWithChild t))) .0 ((k, q, e), refl))
 
     path-words : (k : ℕ) → read ≡ Done u (taking k) q
-        → (ts : List (Step × ℕ)) × Begins t u 2 ts endRecord q × All (λ s. OperandsInRange u (s .0) × ChildInRange u s) ts
+        → (ts : List (Step × ℕ)) × Begins t u 2 ts endRecord q × All (TakenInRange u) ts
     path-words k e = by-claim (done→read byShape t u e)
       where
         ts : List (Step × ℕ)
         ts = stepsWithChild t
 
         r : ℕ
-        r = lastRecord u ts
+        r = recordBehind u ts
 
-        begun : Holding t u false none → Begins t u 2 ts endRecord r × All (λ s. OperandsInRange u (s .0) × ChildInRange u s) ts
+        begun : Holding t u false none → Begins t u 2 ts endRecord r × All (TakenInRange u) ts
         begun h =
             let w = holding→ t u false none bytes h in (
               record { bytes = w .bytes; few-bytes = w .few; question = w .question; number = refl },
               all-map ts (λ s (g, c). (g, child→ u s c)) (w .steps),
             )
 
-        by-claim : ReadAs byShape t u (taking k) → (ts : List (Step × ℕ)) × Begins t u 2 ts endRecord q × All (λ s. OperandsInRange u (s .0) × ChildInRange u s) ts
+        by-claim : ReadAs byShape t u (taking k) → (ts : List (Step × ℕ)) × Begins t u 2 ts endRecord q × All (TakenInRange u) ts
         by-claim (true, o, h, taken) =
             let ((w, z), _) = proving-stays (byShape u) (working (length (u .constraints)) []) ts o taken in
             clash cc
@@ -213,7 +193,7 @@ complete-reported t bytes = (λ (r, e). reported r (read t) refl e, there)
     done r u (proving closed) q p e =
         let (sts, w) = tree-words t bytes u q closed p in
         let k = tree-read t u sts w in
-        let same : Done u (proving (k .end)) (lastRecord u sts) ≡ Done u (proving closed) q = sym (k .reads) ∙ p in
+        let same : Done u (proving (k .end)) (recordBehind u sts) ≡ Done u (proving closed) q = sym (k .reads) ∙ p in
         let end : k .end ≡ closed = cc in
         (noSolutionTicket u sts, w, closed-tree t u sts k (ap (λ w. complete (proving w)) end))
     done r u (taking b) q p e = clash cc
@@ -228,7 +208,7 @@ complete-reported t bytes = (λ (r, e). reported r (read t) refl e, there)
         let k = tree-read t u sts w in (
           reportOf t u,
           done-needs t u (proving (k .end)) _ (k .reads)
-              ∙ ap (λ w. byState t u (proving w) (lastRecord u sts)) (tree-closed t u sts k c),
+              ∙ ap (λ w. byState t u (proving w) (recordBehind u sts)) (tree-closed t u sts k c),
         )
     there (stringsTicket u ts m, w, c) = let (k, q, p) = model-read t u ts m w in (reportOf t u, done-needs t u (modelled k m) q p)
 
@@ -240,10 +220,10 @@ unclosed-refused t r bytes = (refused (read t) refl (form-numbers t), there)
     done u (proving (working b ss)) q p e =
         let (sts, w) = tree-words t bytes u q (working b ss) p in
         let k = tree-read t u sts w in
-        let same : Done u (proving (k .end)) (lastRecord u sts) ≡ Done u (proving (working b ss)) q = sym (k .reads) ∙ p in
+        let same : Done u (proving (k .end)) (recordBehind u sts) ≡ Done u (proving (working b ss)) q = sym (k .reads) ∙ p in
         let still : k .end ≡ working b ss = cc in
         let number : q ≡ r = cc in
-        let at : lastRecord u sts ≡ q = cc in
+        let at : recordBehind u sts ≡ q = cc in
         unclosed u sts w (λ c. let z : working b ss ≡ closed = sym still ∙ tree-closed t u sts k c in clash cc) (sym number ∙ sym at)
     done u (proving closed) q p e = clash cc
     done u (taking b) q p e =
@@ -259,7 +239,7 @@ unclosed-refused t r bytes = (refused (read t) refl (form-numbers t), there)
     there (unclosed u sts w not-closed at) =
         let k = tree-read t u sts w in
         done-needs t u (proving (k .end)) _ (k .reads)
-        ∙ not-complete (complete (proving (k .end))) (Needs (reportOf t u)) (NeedRefused 11 (lastRecord u sts))
+        ∙ not-complete (complete (proving (k .end))) (Needs (reportOf t u)) (NeedRefused 11 (recordBehind u sts))
         (λ c. not-closed (closed-tree t u sts k c))
         ∙ ap (NeedRefused 11) (sym at)
     there (unmodelled u ts begins range) = let (end, reads) = path-read t u ts r begins range in done-needs t u (taking end) r reads

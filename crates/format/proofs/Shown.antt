@@ -4,15 +4,15 @@ use native.Mathlib.Omega.{arith}
 use mathlib.Core.Path.{_≡_, refl, sym, _∙_, ap, ap₂, subst}
 use mathlib.Core.Bool.{Bool, true, false, cond, _&&_}
 use mathlib.Core.Option.{Option, none, some}
-use mathlib.Core.List.{List, map}
-use lib.ListN.{length, getElem?, length-append, length-map}
+use mathlib.Core.List.{List}
+use lib.ListN.{length, getElem?}
 use lib.Dec.{leb, eqb}
 use borrow.Author.Tests.{le-leb, leb-true, ne-eqb}
 use Rattle.lists.specs.Lists.{All}
 use Rattle.lists.proofs.Lists.{all-valuesAlong}
 use Rattle.calculus.specs.Facts.{Question}
 use Rattle.calculus.specs.Meaning.{Assignment}
-use Rattle.calculus.specs.Extended.{Extended, Names, Constraint, basic, extended, constraintsOf, MeetsConstraint}
+use Rattle.calculus.specs.Extended.{Extended, Names, Constraint, constraintsOf, MeetsConstraint}
 use Rattle.lists.proofs.Searches.{FirstWithout}
 use Rattle.format.specs.Fields.{u16}
 use Rattle.format.specs.Records.{size, next, records}
@@ -34,6 +34,7 @@ use Rattle.format.proofs.Judged.{first-unmet}
 use Rattle.format.proofs.Asked.{read-few}
 use Rattle.format.proofs.RecordFaults.{extended-constraint-formed}
 use Rattle.format.proofs.Extended.{judged-counted}
+use Rattle.calculus.proofs.Extended.{length-constraintsOf}
 
 -- ---- parts
 
@@ -204,10 +205,6 @@ all-named b t to stands = all-valuesAlong (next b) (extendedAt b) (Names u) (ext
         let at : ℕ = skip b j (extendedFrom b (t .literals) (t .constraints)) in
         let f = extended-constraint-formed b (t .p) (t .q) (at + 6) (size b at) (stands .extended-stand j l .formed) in
         names-by u (u16 b (at + 6)) (u16 b (at + 6 + 2)) (u16 b (at + 6 + 4)) (f .function) (f .first) (f .second)
-
-length-constraintsOf : (u : Question) (es : List Extended) → length (constraintsOf u es) ≡ length (u .constraints) + length es
-length-constraintsOf u es =
-    length-append (map basic (u .constraints)) (map extended es) ∙ ap₂ _+_ (length-map (u .constraints) basic) (length-map es extended)
 
 pub constraints-counted : TH-L3-counted
 constraints-counted b s at r e headed =

@@ -104,7 +104,7 @@ module _ (rules : RuleSet) (work answer : ℕ) (b : List ℕ) where
   unfolding verdictBy
   sized h = ap bySize (large work answer h)
 
-  pub unsized : (LargeEnough work answer → ⊥) → verdictBy rules work answer b ≡ Refused 1 0
+  unsized : (LargeEnough work answer → ⊥) → verdictBy rules work answer b ≡ Refused 1 0
   unfolding verdictBy
   unsized h = go (largeEnough work answer) refl
     where

@@ -13,7 +13,7 @@ use Rattle.calculus.specs.Steps.{Step, Sum, BranchOn, Apart, AConf, SConf, SPro
 use Rattle.format.specs.Fields.{bytesOf}
 use Rattle.format.specs.StepForms.{Rule, sum, branch, apart, aConf, sConf, sProp, lIntro, lValid, cCollapse, cValid, cInj}
 use Rattle.format.specs.StepForms.{card, join, unknown, ruleNames, ruleOf}
-use Rattle.format.specs.Written.{u16Bytes, pairBytes, formBytes, functionNumber, stepBody, bodyOf}
+use Rattle.format.specs.Written.{u16Bytes, pairBytes, formBytes, lenOrCode, stepBody, bodyOf}
 use Rattle.format.proofs.Encoded.{length-shorts}
 
 -- ---- the rule of a step, the number of a rule
@@ -99,7 +99,7 @@ operandBytes (BranchOn e) = formBytes e
 operandBytes (Apart k) = u16Bytes (k ∷ [])
 operandBytes (AConf k) = u16Bytes (k ∷ [])
 operandBytes SConf = []
-operandBytes (SProp f x y) = u16Bytes (functionNumber f ∷ x ∷ y ∷ [])
+operandBytes (SProp f x y) = u16Bytes (lenOrCode f ∷ x ∷ y ∷ [])
 operandBytes (LIntro x) = u16Bytes (x ∷ [])
 operandBytes (LValid x) = u16Bytes (x ∷ [])
 operandBytes (CCollapse x) = u16Bytes (x ∷ [])

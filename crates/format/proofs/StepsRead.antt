@@ -13,17 +13,17 @@ use Rattle.lists.proofs.Lists.{all-map, →all-true}
 use Rattle.calculus.specs.Limits.{columnLimit, numberLimit}
 use Rattle.calculus.specs.Facts.{Question, Function, len, code, columnCount}
 use Rattle.calculus.specs.Steps.{Step, Sum, BranchOn, Apart, AConf, SConf, SProp, LIntro, LValid, CCollapse, CValid, CInj, Card, Join}
-use Rattle.format.specs.Fields.{bytesOf, u16, u32, u16s, pairsAt}
+use Rattle.format.specs.Fields.{bytesOf, u16, u32, u16s, pairsAt, IsU16}
 use Rattle.format.specs.Records.{size, kind, next, whole}
 use Rattle.format.specs.StepForms.{sum, branch, sConf, sProp}
 use Rattle.format.specs.StepForms.{card, ruleOf, Form, form, formFor, fitsForm, rule, childField, lengthFits, pairsIn, sumPairs}
 use Rattle.format.specs.StepForms.{multipliersWithin, cardVariables, functionOf, areVariables, operandsInRange, stepOf}
 use Rattle.format.specs.Question.{formRange, formOf}
 use Rattle.format.specs.Reading.{stepWithChild}
-use Rattle.format.specs.Written.{u16Bytes, pairBytes, formBytes, functionNumber, bodyOf, stepRecord, IsU16, FormInRange, SumInRange, OperandsInRange}
+use Rattle.format.specs.Written.{u16Bytes, pairBytes, formBytes, lenOrCode, bodyOf, stepRecord, FormInRange, SumInRange, OperandsInRange}
 use Rattle.format.proofs.Fields.{field-at}
 use Rattle.format.proofs.Encoded.{length-bytes, length-shorts, length-pairBytes}
-use Rattle.format.proofs.BytesRead.{behind, u32-back, small-held, u16s-back, pairs-back, leading-read, record-read}
+use Rattle.format.proofs.BytesRead.{behind, u32-back, small-held, u16s-back, pairs-back, leading-read, record-read, record-leads}
 use Rattle.format.proofs.Forms.{form-read}
 use Rattle.format.proofs.StepBodies.{ruleIn, numberOf, rule-numbered, number-short, operandBytes, body-is, length-body}
 
@@ -39,11 +39,11 @@ short-at b at vs rest i to h e l p =
 variables-pass : (p : ℕ) (xs : List ℕ) → All (λ x. x < p) xs → areVariables p xs ≡ true
 variables-pass p xs h = →all-true _ xs (λ x. lt-ltb x p) h
 
-function-back : (f : Function) → functionOf (functionNumber f) ≡ f
+function-back : (f : Function) → functionOf (lenOrCode f) ≡ f
 function-back len = refl
 function-back code = refl
 
-function-few : (f : Function) → functionNumber f ≤ 1
+function-few : (f : Function) → lenOrCode f ≤ 1
 function-few len = omega arith
 function-few code = omega arith
 
@@ -152,23 +152,23 @@ module _ (b : List ℕ) (u : Question) (few : columnCount u ≤ columnLimit) (at
   variables-passes : (v w x y : ℕ) → v ≡ x → w ≡ y → x < u .p → y < u .p → areVariables (u .p) (v ∷ w ∷ []) ≡ true
   variables-passes v w x y e f h k = ap₂ (λ v w. areVariables (u .p) (v ∷ w ∷ [])) e f ∙ variables-pass (u .p) (x ∷ y ∷ []) (h, (k, tt))
 
-  property-read : (f : Function) (x y : ℕ) → x < u .p → y < u .p → m ≡ 4 + length (u16Bytes (functionNumber f ∷ x ∷ y ∷ []))
-      → drop (at + 4) b ≡ u16Bytes (functionNumber f ∷ x ∷ y ∷ []) ++ rest
+  property-read : (f : Function) (x y : ℕ) → x < u .p → y < u .p → m ≡ 4 + length (u16Bytes (lenOrCode f ∷ x ∷ y ∷ []))
+      → drop (at + 4) b ≡ u16Bytes (lenOrCode f ∷ x ∷ y ∷ []) ++ rest
       → OperandsRead b u at m (SProp f x y)
   unfolding operandsInRange stepOf
   property-read f x y h k l s =
-      let vs : List ℕ = functionNumber f ∷ x ∷ y ∷ [] in
+      let vs : List ℕ = lenOrCode f ∷ x ∷ y ∷ [] in
       let size : m ≡ 10 = l ∙ ap (λ n. 4 + n) (length-shorts vs) in
       let few-function = function-few f in
       let shorts : All IsU16 vs = (omega arith, (variable-short x h, (variable-short y k, tt))) in
-      let function : u16 b (at + 4) ≡ functionNumber f = short-at b (at + 4) vs rest 0 (at + 4) shorts s (omega arith) (omega arith) in
+      let function : u16 b (at + 4) ≡ lenOrCode f = short-at b (at + 4) vs rest 0 (at + 4) shorts s (omega arith) (omega arith) in
       let first : u16 b (at + 6) ≡ x = short-at b (at + 4) vs rest 1 (at + 6) shorts s (omega arith) (omega arith) in
       let second : u16 b (at + 8) ≡ y = short-at b (at + 4) vs rest 2 (at + 8) shorts s (omega arith) (omega arith) in
       record {
         short = omega (arith, size);
         fitting = fits (formFor sProp) m (omega (arith, size)) (omega (arith, size)) (omega (arith, size));
         in-range =
-            ap₂ _&&_ (ap (λ v. leb v 1) function ∙ le-leb (functionNumber f) 1 few-function)
+            ap₂ _&&_ (ap (λ v. leb v 1) function ∙ le-leb (lenOrCode f) 1 few-function)
             (variables-passes (u16 b (at + 6)) (u16 b (at + 8)) x y first second h k);
         reads =
             ap (λ v. SProp (functionOf v) (u16 b (at + 6)) (u16 b (at + 8))) function
@@ -259,10 +259,7 @@ step-read b u at (st, k) rest few h short e =
     let long : ℕ = 4 + length (operandBytes st) in
     let body : List ℕ = bodyOf st k in
     let stands : drop (at + 6) b ≡ body ++ rest =
-    leading-read b at (length body) 6 (body ++ rest) (omega arith) (
-    e ∙ append-assoc (bytesOf 4 (length body)) (bytesOf 2 6 ++ body) rest
-    ∙ ap (λ l. bytesOf 4 (length body) ++ l) (append-assoc (bytesOf 2 6) body rest)
-    ) .more-stands in
+    leading-read b at (length body) 6 (body ++ rest) (omega arith) (e ∙ record-leads 6 body rest) .more-stands in
     let o = operands-read b u few (at + 6) long rest st h refl (operands-stand b (at + 6) st k short rest stands) in
     let r = record-read b at 6 body rest (omega arith) (omega (arith, length-body st k, o .short)) e in
     let sized : size b at ≡ long = r .is-size ∙ length-body st k in

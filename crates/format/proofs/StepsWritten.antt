@@ -9,19 +9,19 @@ use lib.Dec.{leb, eqb}
 use lib.IntN.{ℤ, natAbs}
 use borrow.Author.Tests.{leb-true, eqb-true}
 use Rattle.lists.specs.Lists.{All}
-use Rattle.lists.proofs.Lists.{all-true→, all-valuesAlong}
+use Rattle.lists.proofs.Lists.{all-true→, all-valuesAlong, all-both}
 use Rattle.lists.proofs.Tests.{and-both}
 use Rattle.calculus.specs.Limits.{Small, columnLimit, numberLimit}
 use Rattle.calculus.specs.Facts.{Question, columnCount}
 use Rattle.calculus.specs.Steps.{Step}
-use Rattle.format.specs.Fields.{bytesOf, u16, u32, u16s, pairsAt, pairAt}
+use Rattle.format.specs.Fields.{bytesOf, u16, u32, u16s, pairsAt, pairAt, IsU16}
 use Rattle.format.specs.Records.{size, kind, next, whole}
 use Rattle.format.specs.Question.{formOf}
 use Rattle.format.specs.StepForms.{Rule, sum, branch, apart, aConf, sConf, sProp, lIntro, lValid, cCollapse, cValid, cInj}
 use Rattle.format.specs.StepForms.{card, join, unknown, Form, form, formFor, fitsForm, rule, childField, lengthFits, pairsIn, sumPairs}
 use Rattle.format.specs.StepForms.{multipliersWithin, cardVariables, functionOf, areVariables, operandsInRange, stepOf, stepAt}
 use Rattle.format.specs.Reading.{stepWithChild}
-use Rattle.format.specs.Written.{u16Bytes, pairBytes, formBytes, functionNumber, bodyOf, stepRecord, IsU16, OperandsInRange}
+use Rattle.format.specs.Written.{u16Bytes, pairBytes, formBytes, lenOrCode, bodyOf, stepRecord, OperandsInRange}
 use Rattle.format.specs.Demands.{Bytes}
 use Rattle.format.proofs.Faults.{clash}
 use Rattle.format.proofs.Fields.{length-u16s, length-pairs}
@@ -31,11 +31,7 @@ use Rattle.format.proofs.BytesWritten.{u16-below, u32-written, u16s-wri
 use Rattle.format.proofs.Forms.{form-written}
 use Rattle.format.proofs.StepBodies.{ruleIn, numberOf, number-named, operandBytes, body-is, length-body}
 
-all-both : {A : Type 0} (P Q : A → Type 0) (xs : List A) → All P xs → All Q xs → All (λ x. P x × Q x) xs
-all-both P Q [] h k = tt
-all-both P Q (x ∷ xs) (h, hs) (k, ks) = ((h, k), all-both P Q xs hs ks)
-
-function-written : (k : ℕ) → k ≤ 1 → functionNumber (functionOf k) ≡ k
+function-written : (k : ℕ) → k ≤ 1 → lenOrCode (functionOf k) ≡ k
 function-written zero h = refl
 function-written (suc zero) h = refl
 function-written (suc (suc k)) h = absurd (omega arith)
@@ -47,7 +43,7 @@ module _ (b : List ℕ) (bytes : Bytes b) (at : ℕ) where
   unfolding u16s
   one-at l = u16s-written b bytes at 1 l
 
-  pub two-at : at + 4 ≤ length b → drop at b ≡ u16Bytes (u16 b at ∷ u16 b (at + 2) ∷ []) ++ drop (at + 4) b
+  two-at : at + 4 ≤ length b → drop at b ≡ u16Bytes (u16 b at ∷ u16 b (at + 2) ∷ []) ++ drop (at + 4) b
   unfolding u16s
   two-at l = u16s-written b bytes at 2 l
 
@@ -174,12 +170,12 @@ module _ (b : List ℕ) (bytes : Bytes b) (u : Question) (few : columnCount u �
   property-written l e =
       let long : m ≡ 10 = exactly 10 l in
       let (few-function, below) = and-both (leb (u16 b (at + 4)) 1) (areVariables (u .p) (u16 b (at + 6) ∷ u16 b (at + 8) ∷ [])) e in
-      let function : functionNumber (functionOf (u16 b (at + 4))) ≡ u16 b (at + 4) = function-written (u16 b (at + 4)) (leb-true (u16 b (at + 4)) 1 few-function) in
+      let function : lenOrCode (functionOf (u16 b (at + 4))) ≡ u16 b (at + 4) = function-written (u16 b (at + 4)) (leb-true (u16 b (at + 4)) 1 few-function) in
       record {
         in-range = two-variables (u16 b (at + 6)) (u16 b (at + 8)) below;
         same-rule = refl;
         known = λ z. clash cc;
-        as-long = long ∙ sym (ap (λ n. 4 + n) (length-shorts (functionNumber (functionOf (u16 b (at + 4))) ∷ u16 b (at + 6) ∷ u16 b (at + 8) ∷ [])));
+        as-long = long ∙ sym (ap (λ n. 4 + n) (length-shorts (lenOrCode (functionOf (u16 b (at + 4))) ∷ u16 b (at + 6) ∷ u16 b (at + 8) ∷ [])));
         written-as =
             three-written long ∙ ap (λ k. u16Bytes (k ∷ u16 b (at + 6) ∷ u16 b (at + 8) ∷ []) ++ drop (at + m) b) (sym function);
       }

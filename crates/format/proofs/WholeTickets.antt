@@ -15,16 +15,16 @@ use Rattle.lists.specs.Lists.{All}
 use Rattle.calculus.specs.Limits.{columnLimit, ticketBytes}
 use Rattle.calculus.specs.Facts.{Question, columnCount}
 use Rattle.calculus.specs.Steps.{Step}
-use Rattle.format.specs.Fields.{bytesOf}
 use Rattle.format.specs.Records.{next}
 use Rattle.format.specs.Question.{Progress, formManner, questionForm, headRank}
 use Rattle.format.specs.Reading.{claimAt}
 use Rattle.format.specs.ProperForm.{stepsWithChild}
 use Rattle.format.specs.Written.{u16Bytes, questionBytes, claimRecord, stepRecords, beginning, QuestionInRange, OperandsInRange}
 use Rattle.format.specs.Demands.{Bytes, Delimited, PutsQuestion}
+use Rattle.format.proofs.BytesRead.{record-leads}
 use Rattle.format.proofs.Bodies.{few-columns}
 use Rattle.format.proofs.QuestionRecords.{reached}
-use Rattle.format.proofs.QuestionsRead.{behindQuestion, question-read}
+use Rattle.format.proofs.QuestionsRead.{behindQuestion, question-read, form-in}
 use Rattle.format.proofs.Questions.{question-written}
 use Rattle.format.proofs.Asked.{read-plain}
 use Rattle.format.proofs.Behind.{Formed, formed-steps}
@@ -49,12 +49,10 @@ claim-delimits claim rest =
     let body : List ℕ = u16Bytes (claim ∷ []) in
     record {
       size = length body;
-      kind-is = 5;
+      of-kind = 5;
       more = body ++ rest;
       claim-or-end = inl refl;
-      leading =
-          append-assoc (bytesOf 4 (length body)) (bytesOf 2 5 ++ body) rest
-          ∙ ap (λ l. bytesOf 4 (length body) ++ l) (append-assoc (bytesOf 2 5) body rest);
+      leading = record-leads 5 body rest;
     }
 
 -- the question stands up to the claim
@@ -96,7 +94,7 @@ module _ (b : List ℕ) (u : Question) (x : Bool) (o : Option (List ℤ)) where
       let parts : b ≡ questionBytes u [] ++ rest = e ∙ beginning-is u (claimNumber x) ts (endingBytes o) in
       let asked =
       question-read formManner b u [] (record { in-range = q; named = tt; rest = rest; bytes = parts; delimited = claim-delimits (claimNumber x) behind; few = few })
-      (record { arithmetic-taken = omega arith; extended-taken = λ z. absurd (omega arith); room = λ z. absurd (let no : _≡_ {A = ℕ} 0 1 = cc in omega arith) }) in
+      (form-in u) in
       let at : ℕ = length (questionBytes u []) in
       let s : Progress = reached (asked .last) u [] in
       let (least, most, is) = claim-known x in

@@ -1,7 +1,8 @@
--- The demands as statements about bytes. TH-1 is what checking promises of its result and the lent buffers; TH-2 to TH-6 and those of the change requests (02),
--- TH-L1 and on, are theorems about the definitions, for every byte list. The code's promises that are not on this page: judging's, judging/specs `Finds` (what
--- TH-3 and TH-L1 speak of); a ticket's need and the sameness of questions, equations with `needed` and `sameness`, in needs/src and sameness/src; the replies of
--- the entries in C, nuldwich/specs/Replies; the program's lines, lines/specs/Reports.
+-- The demands as statements about bytes. TH-1 is what checking promises of its result and the lent buffers. All others are theorems about the definitions, for every
+-- list of bytes: TH-1-small and on, TH-form, TH-put, TH-asked and TH-refusals say in words what is refused and what is read; TH-2 to TH-6 are demands 2 and 3; TH-L1
+-- and on those of the change requests (02). The code's promises that are not on this page: checking's, checking/specs `Promised` by TH-1, and what follows from it,
+-- checking/specs `Theory`; judging's, judging/specs `Finds` (what TH-3 and TH-L1 speak of); a ticket's need and the sameness of questions, equations with `needed`
+-- and `sameness`, in needs/src and sameness/src; the replies of the entries in C, nuldwich/specs/Replies; the program's lines, lines/specs/Reports.
 use Prim.Native.Nat.{ℕ, _+_, _*_, _/_, _%_, _^_, _<_, _≤_}
 use mathlib.Core.Path.{_≡_}
 use mathlib.Core.Bool.{true, false, cond}
@@ -31,10 +32,10 @@ use Rattle.calculus.specs.Extended.{upper, lower, toInt, fromInt, Extended, Nam
 use Rattle.calculus.specs.NormalForms.{divisorOf, GreatestCommonDivisor, reduced, PositiveLead, SameSets}
 use Rattle.format.specs.Question.{extendedKind, Progress, Stopped, Ended, question, judgedQuestion, questionForm, headRead, judgedIn}
 use Rattle.format.specs.Question.{questionOf}
-use Rattle.format.specs.Fields.{bytesOf}
+use Rattle.format.specs.Fields.{bytesOf, IsU32, IsI32}
 use Rattle.format.specs.Records.{kind, next, records}
-use Rattle.format.specs.Written.{questionBytes, endRecord, withChildZero, Content, noSolutionTicket, stringsTicket, written}
-use Rattle.format.specs.Written.{QuestionInRange, OperandsInRange, ChildInRange, InRange}
+use Rattle.format.specs.Written.{questionBytes, endRecord, Content, noSolutionTicket, stringsTicket, written}
+use Rattle.format.specs.Written.{QuestionInRange, InRange, TakenInRange, recordBehind}
 use Rattle.format.specs.Refusals.{Begins, FirstRefusal}
 use Rattle.format.specs.Places.{constraintAt}
 use Rattle.format.specs.Answer.{encode, assignmentOf}
@@ -101,9 +102,9 @@ pub record WrittenAs (b : List ℕ) (c : Content) : Type 0 where
   pub bytes : b ≡ written c
   pub few : length b ≤ ticketBytes
 
--- of proper form, with this question, these steps with their child fields, and under claim 2 this model
+-- of proper form, with this question and these steps, and under claim 2 with the children taken and this model
 abbrev pub FormedAs : List ℕ → Content → Type 0
-FormedAs b (noSolutionTicket u sts) = ProperNoSolution b u × (stepsWithChild b ≡ withChildZero sts)
+FormedAs b (noSolutionTicket u sts) = ProperNoSolution b u × (steps b ≡ sts)
 FormedAs b (stringsTicket u ts m) = ProperStrings b u m × (stepsWithChild b ≡ ts)
 
 -- every ticket that document 01 allows is read as what it says, and nothing else is of proper form
@@ -117,10 +118,10 @@ TH-form-one = (b : List ℕ) (c d : Content) → WrittenAs b c → WrittenAs b d
 -- "reading ends at the six leading bytes of the first claim or end record"
 pub record Delimited (rest : List ℕ) : Type 0 where
   pub size : ℕ
-  pub kind-is : ℕ
+  pub of-kind : ℕ
   pub more : List ℕ
-  pub claim-or-end : (kind-is ≡ 5) ⊎ (kind-is ≡ 8)
-  pub leading : rest ≡ bytesOf 4 size ++ (bytesOf 2 kind-is ++ more)
+  pub claim-or-end : (of-kind ≡ 5) ⊎ (of-kind ≡ 8)
+  pub leading : rest ≡ bytesOf 4 size ++ (bytesOf 2 of-kind ++ more)
 
 -- the bytes begin with this question and these extended constraints, in range, and a claim or an end follows
 pub record PutsQuestion (b : List ℕ) (u : Question) (es : List Extended) : Type 0 where
@@ -135,9 +136,13 @@ pub record PutsQuestion (b : List ℕ) (u : Question) (es : List Extended) : Typ
 abbrev pub TH-put : Type 0
 TH-put = (b : List ℕ) → Bytes b → (u : Question) → Iff (questionOf b ≡ some u) (PutsQuestion b u [])
 
+-- the bytes ask this question with these extended constraints, as judging takes them
+abbrev pub Asks : List ℕ → Question → List Extended → Type 0
+Asks b u es = judgedIn (judgedQuestion b) ≡ some (u, es)
+
 abbrev pub TH-asked : Type 0
 TH-asked = (b : List ℕ) → Bytes b → (u : Question) (es : List Extended)
-    → Iff (judgedIn (judgedQuestion b) ≡ some (u, es)) (PutsQuestion b u es × (length (constraintsOf u es) ≤ factLimit))
+    → Iff (Asks b u es) (PutsQuestion b u es × (length (constraintsOf u es) ≤ factLimit))
 
 -- ---- the refusals 8 to 14 in words: each is given at the first record to which a number applies, and is the first that applies there
 
@@ -159,10 +164,6 @@ TH-2-covers = (work answer : ℕ) (t : List ℕ) → verdict work answer t ≡ N
 -- an assignment meets all of some constraints, of the question and extended
 abbrev pub MetAll : Question → Assignment → List Constraint → Type 0
 MetAll u a cs = All (MeetsConstraint u a) cs
-
--- the bytes ask this question with these extended constraints, as judging takes them
-abbrev pub Asks : List ℕ → Question → List Extended → Type 0
-Asks b u es = judgedIn (judgedQuestion b) ≡ some (u, es)
 
 -- the values judged are an assignment of the question; all met is said exactly when it meets every constraint, and a constraint is named exactly when it is
 -- the first that it does not meet
@@ -201,14 +202,6 @@ abbrev pub TH-3-unformed : Type 0
 TH-3-unformed = (b v : List ℕ) (u : Question) (es : List Extended) → Bytes v → Asks b u es
     → Iff (submission b v ≡ Rejected 15 0)
     ((a : Assignment) → length (a .strs) ≡ u .p → length (a .ints) ≡ u .q → All (λ s. length s ≤ lengthLimit) (a .strs) → v ≢ encode a)
-
--- a number that a u32 holds; one that an i32 holds, −2,147,483,648 to 2,147,483,647, where negsuc k is −1 − k
-abbrev pub IsU32 : ℕ → Type 0
-IsU32 k = k < 4294967296
-
-abbrev pub IsI32 : ℤ → Type 0
-IsI32 (pos k) = k < 2147483648
-IsI32 (negsuc k) = k < 2147483648
 
 -- what an answer of its form holds, in range or not: "one record of kind 9 for each string variable (its characters, u32 each, 0 to 64), one of kind 10 (q i32
 -- values)"
@@ -294,10 +287,14 @@ TH-L2 = (work answer : ℕ) (t : List ℕ)
     → (AcceptedAs 1 (verdict work answer t) → Reported t (λ u. OnItsWay (OpenOnTree u) (steps t)))
     × (AcceptedAs 2 (verdict work answer t) → Reported t (λ u. OnItsWay (OpenOnPath u) (stepsWithChild t)))
 
+-- "treating every step as if it fitted", the tree of these steps is closed at its end
+abbrev pub ClosesAsIf : Question → List Step → Type 0
+ClosesAsIf u sts = ClosedBy (AsIfFitted (u .n)) _+_ (length (u .constraints)) sts
+
 -- and of every ticket, accepted or not, for which there is a report, its numbers are these; "a tree not closed at its end .. gives 11"
 pub record OnTreeAsIf (t : List ℕ) (u : Question) (r : Report) : Type 0 where
   pub claim : claimIn t ≡ 1
-  pub closed : ClosedBy (AsIfFitted (u .n)) _+_ (length (u .constraints)) (steps t)
+  pub closed : ClosesAsIf u (steps t)
   pub numbers : OnItsWay (AsIfOnTree u) (steps t) r
 
 pub record OnPathAsIf (t : List ℕ) (u : Question) (r : Report) : Type 0 where
@@ -307,9 +304,9 @@ pub record OnPathAsIf (t : List ℕ) (u : Question) (r : Report) : Type 0 where
 abbrev pub TH-L2-met : Type 0
 TH-L2-met = (t : List ℕ) (r : Report) → needed t ≡ Needs r → (u : Question) × (questionOf t ≡ some u) × (OnTreeAsIf t u r ⊎ OnPathAsIf t u r)
 
--- "treating every step as if it fitted", the tree is closed at its end; a ticket for strings has its model before it
+-- not "a tree not closed at its end, or claim 2 without a model": a ticket for strings has its model before the end
 abbrev pub Complete : Content → Type 0
-Complete (noSolutionTicket u sts) = ClosedBy (AsIfFitted (u .n)) _+_ (length (u .constraints)) sts
+Complete (noSolutionTicket u sts) = ClosesAsIf u sts
 Complete (stringsTicket u ts m) = Unit {0}
 
 -- there is a report exactly for the tickets that document 01 allows and that are complete, facts and splits past the limits included
@@ -319,8 +316,8 @@ TH-L2-reported = (t : List ℕ) → Bytes t → Iff ((r : Report) × (needed t �
 -- record r is the end record of a ticket with "a tree not closed at its end, or claim 2 without a model", and else in range
 pub data UnclosedAt (t : List ℕ) (r : ℕ) : Type 0 where
   unclosed : (u : Question) (sts : List Step) → WrittenAs t (noSolutionTicket u sts) → (Complete (noSolutionTicket u sts) → ⊥)
-      → r ≡ 2 + length (u .literals) + length (u .constraints) + length sts → UnclosedAt t r
-  unmodelled : (u : Question) (ts : List (Step × ℕ)) → Begins t u 2 ts endRecord r → All (λ s. OperandsInRange u (s .0) × ChildInRange u s) ts → UnclosedAt t r
+      → r ≡ recordBehind u sts → UnclosedAt t r
+  unmodelled : (u : Question) (ts : List (Step × ℕ)) → Begins t u 2 ts endRecord r → All (TakenInRange u) ts → UnclosedAt t r
 
 -- and these are the tickets to which it "gives 11"
 abbrev pub TH-L2-unclosed : Type 0

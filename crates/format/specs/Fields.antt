@@ -1,5 +1,5 @@
 -- "Fields are little-endian": numbers read from a list of bytes, by position, and numbers as bytes. Past the end a byte reads as 0.
-use Prim.Native.Nat.{ℕ, zero, suc, _+_, _*_, _-_, _/_, _%_}
+use Prim.Native.Nat.{ℕ, zero, suc, _+_, _*_, _-_, _/_, _%_, _<_}
 use mathlib.Core.Bool.{Bool, cond}
 use mathlib.Core.List.{List, [], _∷_}
 use lib.ListN.{getD}
@@ -46,6 +46,19 @@ within k z = leb (natAbs z) k
 
 unfoldable pub allWithin : ℕ → List ℤ → Bool
 allWithin k zs = all (within k) zs
+
+-- ---- what a field can hold
+
+-- a number that a u16 holds; one that a u32 holds; one that an i32 holds, −2,147,483,648 to 2,147,483,647, where negsuc k is −1 − k
+abbrev pub IsU16 : ℕ → Type 0
+IsU16 k = k < 65536
+
+abbrev pub IsU32 : ℕ → Type 0
+IsU32 k = k < 4294967296
+
+abbrev pub IsI32 : ℤ → Type 0
+IsI32 (pos k) = k < 2147483648
+IsI32 (negsuc k) = k < 2147483648
 
 -- ---- numbers as bytes
 

@@ -13,7 +13,7 @@ use Rattle.calculus.specs.Derivations.{SmallFact, ChildLimits, SplitLimits, Lea
 use Rattle.calculus.specs.Settled.{MeetsArithmetic, Settled, ShortLengths}
 use Rattle.format.specs.Question.{withFact}
 use Rattle.format.specs.Written.{questionBytes, constraintRecord, stepRecord, modelRecord, endRecord, withChildZero, beginning}
-use Rattle.format.specs.Written.{QuestionInRange, OperandsInRange, ChildInRange, ModelInRange}
+use Rattle.format.specs.Written.{QuestionInRange, OperandsInRange, ModelInRange, TakenInRange, recordBehind}
 
 -- ---- at a step and at the model: the first number that applies
 
@@ -45,7 +45,7 @@ pub record Begins (t : List ℕ) (u : Question) (claim : ℕ) (ts : List (Step �
   pub bytes : t ≡ beginning u claim ts ++ rest
   pub few-bytes : length t ≤ ticketBytes
   pub question : QuestionInRange u
-  pub number : r ≡ 2 + length (u .literals) + length (u .constraints) + length ts
+  pub number : r ≡ recordBehind u ts
 
 -- under claim 1 the steps so far fit, are within the limits, and lead to a branch that is open, with so many splits pending
 pub record OnTree (t : List ℕ) (u : Question) (b : Branch) (pending : ℕ) (rest : List ℕ) (r : ℕ) : Type 0 where
@@ -59,7 +59,7 @@ pub record OnTree (t : List ℕ) (u : Question) (b : Branch) (pending : ℕ) (re
 pub record OnPath (t : List ℕ) (u : Question) (b : Branch) (rest : List ℕ) (r : ℕ) : Type 0 where
   pub steps : List (Step × ℕ)
   pub begins : Begins t u 2 steps rest r
-  pub in-range : All (λ s. OperandsInRange u (s .0) × ChildInRange u s) steps
+  pub in-range : All (TakenInRange u) steps
   pub within : PathWithinLimits u steps
   pub path : Path u (u .constraints) steps b
 
@@ -73,8 +73,7 @@ pub record StepOnTree (t : List ℕ) (u : Question) (b : Branch) (pending : ℕ)
 pub record StepOnPath (t : List ℕ) (u : Question) (b : Branch) (s : Step × ℕ) (r : ℕ) : Type 0 where
   pub more : List ℕ
   pub stands : OnPath t u b (stepRecord s ++ more) r
-  pub operands : OperandsInRange u (s .0)
-  pub child : ChildInRange u s
+  pub in-range : TakenInRange u s
 
 -- record r is a model in its range
 pub record AtModel (t : List ℕ) (u : Question) (leaf : Branch) (m : List ℤ) (r : ℕ) : Type 0 where

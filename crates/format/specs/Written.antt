@@ -14,9 +14,10 @@ use Rattle.calculus.specs.LinearForms.{isZero}
 use Rattle.calculus.specs.Facts.{Question, Fact, same, notSame, isLiteral, arithmetic, Branch, Relation, ge, eq, ne, Function, len, code, columnCount}
 use Rattle.calculus.specs.Instances.{entry}
 use Rattle.calculus.specs.Steps.{Step, Sum, BranchOn, Apart, AConf, SConf, SProp, LIntro, LValid, CCollapse, CValid, CInj, Card, Join, shape}
-use Rattle.calculus.specs.Extended.{Extended, isUpper, isLower, isValue, isDecimal, inOrder}
+use Rattle.calculus.specs.Extended.{Extended}
+use Rattle.calculus.specs.NormalForms.{functionNumber, fieldsOf}
 use Rattle.calculus.specs.Derivations.{ClosedBy, AsIfFitted}
-use Rattle.format.specs.Fields.{bytesOf, unsigned}
+use Rattle.format.specs.Fields.{bytesOf, unsigned, IsU16}
 use Rattle.format.specs.Answer.{recordBytes, characterBytes, integerBytes}
 
 -- ---- fields one after another
@@ -70,13 +71,9 @@ constraintRecord (notSame x y) = stringRecord 1 x y
 constraintRecord (isLiteral x l) = stringRecord 2 x l
 constraintRecord (arithmetic r e) = arithmeticRecord r e
 
--- 02, L3: "u16 function, u16 a, u16 b", functions 0 to 4 in their order there
+-- 02, L3: "u16 function, u16 a, u16 b"
 unfoldable pub extendedRecord : Extended → List ℕ
-extendedRecord (isUpper x y) = recordBytes 11 (u16Bytes (0 ∷ x ∷ y ∷ []))
-extendedRecord (isLower x y) = recordBytes 11 (u16Bytes (1 ∷ x ∷ y ∷ []))
-extendedRecord (isValue x y) = recordBytes 11 (u16Bytes (2 ∷ x ∷ y ∷ []))
-extendedRecord (isDecimal x y) = recordBytes 11 (u16Bytes (3 ∷ x ∷ y ∷ []))
-extendedRecord (inOrder x y) = recordBytes 11 (u16Bytes (4 ∷ x ∷ y ∷ []))
+extendedRecord e = recordBytes 11 (u16Bytes (functionNumber e ∷ fieldsOf e))
 
 -- "Kinds 1 to 4 are the question", and kind 11 behind them (02, L3)
 unfoldable pub questionBytes : Question → List Extended → List ℕ
@@ -91,9 +88,9 @@ abbrev pub claimRecord : ℕ → List ℕ
 claimRecord k = recordBytes 5 (u16Bytes (k ∷ []))
 
 -- "function (0 len, 1 code)"
-abbrev pub functionNumber : Function → ℕ
-functionNumber len = 0
-functionNumber code = 1
+abbrev pub lenOrCode : Function → ℕ
+lenOrCode len = 0
+lenOrCode code = 1
 
 -- "6 step: u16 rule, u16 child, operands"; "Operands are u16 unless named"
 abbrev pub stepBody : ℕ → ℕ → List ℕ → List ℕ
@@ -106,7 +103,7 @@ bodyOf (BranchOn e) k = stepBody 2 k (formBytes e)
 bodyOf (Apart f) k = stepBody 3 k (u16Bytes (f ∷ []))
 bodyOf (AConf f) k = stepBody 4 k (u16Bytes (f ∷ []))
 bodyOf SConf k = stepBody 5 k []
-bodyOf (SProp f x y) k = stepBody 6 k (u16Bytes (functionNumber f ∷ x ∷ y ∷ []))
+bodyOf (SProp f x y) k = stepBody 6 k (u16Bytes (lenOrCode f ∷ x ∷ y ∷ []))
 bodyOf (LIntro x) k = stepBody 7 k (u16Bytes (x ∷ []))
 bodyOf (LValid x) k = stepBody 8 k (u16Bytes (x ∷ []))
 bodyOf (CCollapse x) k = stepBody 9 k (u16Bytes (x ∷ []))
@@ -144,15 +141,15 @@ withChildZero sts = map (λ st. (st, 0)) sts
 abbrev pub beginning : Question → ℕ → List (Step × ℕ) → List ℕ
 beginning u claim ts = questionBytes u [] ++ (claimRecord claim ++ stepRecords ts)
 
+-- "record from 0": the number of the one behind the head, the literals, the constraints, the claim and these steps
+abbrev pub recordBehind : {A : Type 0} → Question → List A → ℕ
+recordBehind u steps = 2 + length (u .literals) + length (u .constraints) + length steps
+
 unfoldable pub written : Content → List ℕ
 written (noSolutionTicket u sts) = beginning u 1 (withChildZero sts) ++ endRecord
 written (stringsTicket u ts m) = beginning u 2 ts ++ (modelRecord m ++ endRecord)
 
 -- ---- the values that document 01 allows
-
--- a number that a u16 can hold
-abbrev pub IsU16 : ℕ → Type 0
-IsU16 k = k < 65536
 
 -- the number of a string variable
 abbrev pub Variable : Question → ℕ → Type 0
@@ -230,6 +227,10 @@ pub record ChildInRange (u : Question) (t : Step × ℕ) : Type 0 where
   pub from-one : 1 ≤ t .1
   pub a-child : (t .1 ≤ length (shape (u .n) (t .0))) ⊎ (t .1 ≡ 1)
 
+-- "u16 rule, u16 child, operands" of a step under claim 2
+abbrev pub TakenInRange : Question → Step × ℕ → Type 0
+TakenInRange u t = OperandsInRange u (t .0) × ChildInRange u t
+
 -- "an i32 for each column, within ±100,000,000"
 pub record ModelInRange (u : Question) (m : List ℤ) : Type 0 where
   pub size : length m ≡ columnCount u
@@ -243,4 +244,4 @@ NoStepPast u sts = (first others : List Step) → sts ≡ first ++ others → Cl
 -- what a ticket of proper form may say: its steps need neither fit nor close
 unfoldable pub InRange : Content → Type 0
 InRange (noSolutionTicket u sts) = QuestionInRange u × All (OperandsInRange u) sts × NoStepPast u sts
-InRange (stringsTicket u ts m) = QuestionInRange u × All (λ t. OperandsInRange u (t .0) × ChildInRange u t) ts × ModelInRange u m
+InRange (stringsTicket u ts m) = QuestionInRange u × All (TakenInRange u) ts × ModelInRange u m

@@ -6,10 +6,10 @@ use native.Mathlib.Omega.{arith}
 use mathlib.Core.Path.{_≡_, refl, sym, _∙_, ap, ap₂, subst}
 use mathlib.Core.Logic.{_≢_, _⊎_, inl, inr}
 use mathlib.Core.Bool.{Bool, true, false, cond, _&&_, _||_, and-false}
-use mathlib.Core.Option.{none, some}
+use mathlib.Core.Option.{none, some, Option·getD}
 use mathlib.Core.List.{List, [], _∷_, _++_, map, flatMap, append-nil, append-assoc}
-use lib.ListN.{length, getD, take, drop, getElem?, replicate, length-append, drop-of-length-le}
-use lib.Seq.{drop-cons}
+use lib.ListN.{length, getD, take, drop, getElem?, replicate, length-append, drop-of-length-le, take-append-drop}
+use lib.Seq.{drop-cons, take-append-seam}
 use lib.Dec.{T, leb}
 use borrow.Author.Tests.{le-leb}
 use native.Mathlib.Decide.{decLt}
@@ -26,6 +26,10 @@ all-map (x ∷ xs) f (h, hs) = (f x h, all-map xs f hs)
 pub all-append : {A : Type 0} (P : A → Type 0) (xs ys : List A) → All P xs → All P ys → All P (xs ++ ys)
 all-append P [] ys h g = g
 all-append P (x ∷ xs) ys (h, hs) g = (h, all-append P xs ys hs g)
+
+pub all-both : {A : Type 0} (P Q : A → Type 0) (xs : List A) → All P xs → All Q xs → All (λ x. P x × Q x) xs
+all-both P Q [] h k = tt
+all-both P Q (x ∷ xs) (h, hs) (k, ks) = ((h, k), all-both P Q xs hs ks)
 
 pub all-left : {A : Type 0} (P : A → Type 0) (xs ys : List A) → All P (xs ++ ys) → All P xs
 all-left P [] ys h = tt
@@ -177,6 +181,12 @@ not-in→ x y [] d h = absurd h
 not-in→ x y (z ∷ xs) d (inl e) = λ p. d .0 (p ∙ e)
 not-in→ x y (z ∷ xs) d (inr h) = not-in→ x y xs (d .1) h
 
+-- an element in the middle is not among those before it
+pub in-middle : {A : Type 0} (xs : List A) (y : A) (ys : List A) → Distinct (xs ++ (y ∷ ys)) → In y xs → ⊥
+in-middle [] y ys d i = i
+in-middle (x ∷ xs) y ys d (inl e) = not-in→ x y (xs ++ (y ∷ ys)) (d .0) (in-right y xs (y ∷ ys) (inl refl)) (sym e)
+in-middle (x ∷ xs) y ys d (inr i) = in-middle xs y ys (d .1) i
+
 pub →not-in : {A : Type 0} (x : A) (xs : List A) → (In x xs → ⊥) → NotIn x xs
 →not-in x [] f = tt
 →not-in x (y ∷ ys) f = ((λ e. f (inl e)), →not-in x ys (λ i. f (inr i)))
@@ -252,11 +262,26 @@ map-take f zero xs = refl
 map-take f (suc k) [] = refl
 map-take f (suc k) (x ∷ xs) = ap (λ ys. f x ∷ ys) (map-take f k xs)
 
+-- the first elements, seen through a map, are first elements
+pub map-split : {A B : Type 0} (g : A → B) (xs : List A) (f r : List B) → map g xs ≡ f ++ r → (h : List A) × (k : List A) × (xs ≡ h ++ k) × (map g h ≡ f)
+map-split g xs f r e = (
+  take (length f) xs,
+  drop (length f) xs,
+  sym (take-append-drop (length f) xs),
+  map-take g (length f) xs ∙ ap (take (length f)) e ∙ take-append-seam f r,
+)
+
 -- an element that is there does not depend on the default
 pub getD-any : {A : Type 0} (l : List A) (i : ℕ) (d e : A) → i < length l → getD l i d ≡ getD l i e
 getD-any [] i d e h = absurd (omega arith)
 getD-any (x ∷ l) zero d e h = refl
 getD-any (x ∷ l) (suc i) d e h = getD-any l i d e (omega arith)
+
+-- an element within a list is there
+pub element-within : {A : Type 0} (xs : List A) (k : ℕ) (d : A) → k < length xs → getElem? xs k ≡ some (Option·getD (getElem? xs k) d)
+element-within [] k d h = absurd (omega arith)
+element-within (x ∷ xs) zero d h = refl
+element-within (x ∷ xs) (suc k) d h = element-within xs k d (omega arith)
 
 pub element-append : {A : Type 0} (xs ys : List A) (j : ℕ) → j < length xs → getElem? (xs ++ ys) j ≡ getElem? xs j
 element-append [] ys j h = absurd (omega arith)

@@ -16,31 +16,46 @@ use Rattle.format.specs.Reading.{fault, advanced, readSteps}
 use Rattle.format.specs.Checking.{factsWithin, childrenWithin, roomForAll, keeps, verdictBy}
 use Rattle.format.specs.Written.{u16Bytes, pairBytes}
 use Rattle.format.specs.Cases.{ticket}
-use Rattle.pinned.specs.Cases.{filled, textsTo, columnsTo, numbersTo, Pins}
+use Rattle.pinned.specs.Cases.{filled, textsTo, columnsTo, numbersTo, RulesPinned, LimitsPinned, OrderPinned}
 
-pub pins : Pins
+pub rules-pinned : RulesPinned
+unfolding characterCount character codeRanges allEquations dividesExactly statesEqual statesDifference lowest u32 signed u16s pairsAt bytesOf fillCoefficients stepOf u16Bytes
+    pairBytes flatMap filled
+rules-pinned = record {
+  rule-numbers = (refl, (refl, (refl, (refl, (refl, (refl, (refl, (refl, (refl, (refl, (refl, (refl, (refl, (refl, tt))))))))))))));
+  children-of-rules = (refl, (refl, (refl, (refl, (refl, (refl, (refl, (refl, (refl, (refl, (refl, (refl, (refl, (refl, (refl, (refl, (refl, (refl, (refl, tt)))))))))))))))))));
+}
+
+pub limits-pinned : LimitsPinned
 unfolding characterCount character codeRanges isCharacter allCharacters shape allEquations dividesExactly statesEqual statesDifference lowest u32 signed u16s u32s i32s pairsAt
     bytesOf recordsBy records rankOf rising fillCoefficients factFault formFault questionFault questionAdvanced readFrom readBy multipliersWithin operandsInRange stepOf
     characterBytes integerBytes stringRecords encode allWithin skip texts answerForm outside submission fault advanced readSteps factsWithin childrenWithin roomForAll keeps
     verdictBy u16Bytes pairBytes ticket flatMap filled textsTo columnsTo numbersTo
-pins = record {
-  rule-numbers = (refl, (refl, (refl, (refl, (refl, (refl, (refl, (refl, (refl, (refl, (refl, (refl, (refl, (refl, tt))))))))))))));
-  children-of-rules = (refl, (refl, (refl, (refl, (refl, (refl, (refl, (refl, (refl, (refl, (refl, (refl, (refl, (refl, (refl, tt)))))))))))))));
+limits-pinned = record {
   sizes = (refl, (refl, (refl, (refl, (refl, tt)))));
   heads = (refl, (refl, (refl, (refl, (refl, (refl, tt))))));
-  literals = (refl, (refl, (refl, (refl, (refl, (refl, tt))))));
+  literals = (refl, (refl, (refl, (refl, (refl, (refl, (refl, tt)))))));
   strings = (refl, (refl, (refl, (refl, tt))));
   forms = (refl, (refl, (refl, (refl, (refl, (refl, (refl, (refl, (refl, tt)))))))));
-  counts = (refl, (refl, tt));
+  counts = (refl, (refl, (refl, (refl, tt))));
   claims = (refl, (refl, tt));
-  sums = (refl, (refl, (refl, (refl, (refl, (refl, (refl, (refl, (refl, tt)))))))));
+  sums = (refl, (refl, (refl, (refl, (refl, (refl, (refl, (refl, (refl, (refl, (refl, tt)))))))))));
   branches = (refl, (refl, (refl, tt)));
   variables = (refl, (refl, (refl, (refl, tt))));
   cards = (refl, (refl, (refl, tt)));
   child-numbers = (refl, (refl, (refl, (refl, (refl, (refl, (refl, (refl, (refl, (refl, (refl, (refl, (refl, (refl, (refl, tt)))))))))))))));
   unknown-rules = (refl, (refl, (refl, tt)));
   pending-splits = (refl, (refl, tt));
-  models = (refl, (refl, (refl, tt)));
-  first-of-two = (refl, (refl, (refl, (refl, (refl, (refl, (refl, (refl, (refl, (refl, (refl, (refl, (refl, (refl, (refl, tt)))))))))))))));
-  judgements = (refl, (refl, (refl, (refl, (refl, (refl, (refl, (refl, (refl, tt)))))))));
+  models = (refl, (refl, (refl, (refl, tt))));
+}
+
+pub order-pinned : OrderPinned
+unfolding characterCount character codeRanges isCharacter allCharacters shape allEquations dividesExactly statesEqual statesDifference lowest u32 signed u16s u32s i32s pairsAt
+    bytesOf recordsBy records rankOf rising fillCoefficients factFault formFault questionFault questionAdvanced readFrom readBy multipliersWithin operandsInRange stepOf
+    characterBytes integerBytes stringRecords encode allWithin skip texts answerForm outside submission fault advanced readSteps factsWithin childrenWithin roomForAll keeps
+    verdictBy u16Bytes pairBytes ticket flatMap filled textsTo columnsTo numbersTo
+order-pinned = record {
+  first-of-two = (refl, (refl, (refl, (refl, (refl, (refl, (refl, (refl, (refl, (refl, (refl, (refl, (refl, (refl, tt))))))))))))));
+  sites = (refl, (refl, (refl, (refl, (refl, (refl, (refl, (refl, (refl, (refl, (refl, (refl, (refl, (refl, (refl, (refl, (refl, tt)))))))))))))))));
+  judgements = (refl, (refl, (refl, (refl, (refl, (refl, (refl, (refl, (refl, (refl, (refl, tt)))))))))));
 }

@@ -1,5 +1,5 @@
--- Cases that pin what no theorem does: the numbers of the rules, the order and signs of every rule's children, each limit at its end and one past it, and of
--- each two numbers that can meet at one record which comes first.
+-- Cases that pin what the definitions and the code could change together: the numbers of the rules, the order and signs of every rule's children, each limit at
+-- its end and one past it, and of neighbouring numbers that can meet at one record which comes first.
 use Prim.Native.Nat.{ℕ, zero, suc}
 use mathlib.Core.Path.{_≡_}
 use mathlib.Core.Option.{some}
@@ -15,7 +15,7 @@ use Rattle.format.specs.Records.{size}
 use Rattle.format.specs.Answer.{recordBytes, characterBytes, integerBytes}
 use Rattle.format.specs.StepForms.{stepAt}
 use Rattle.format.specs.Checking.{Outcome, Refused, verdict}
-use Rattle.format.specs.Judging.{submission, Judgement, Refusal, AllMet, said}
+use Rattle.format.specs.Judging.{submission, Judgement, Refusal, AllMet, Unmet, said}
 use Rattle.format.specs.Written.{u16Bytes, pairBytes, headRecord, literalRecord, stringRecord, claimRecord, modelRecord, endRecord}
 use Rattle.format.specs.Cases.{arithmeticFields, stepFields, sumFields, ticket, stringsGiven}
 
@@ -71,7 +71,7 @@ ruleNumbers =
 abbrev pub three : Question
 three = record { n = 100; p = 3; q = 1; literals = (65 ∷ []) ∷ (66 ∷ 67 ∷ []) ∷ []; constraints = [] }
 
--- 2a − 3 ≥ 0; a + 1 = 0; 3 − a ≠ 0; −1 ≥ 0; x ≈ y; x ≈ literal 1; the lengths of x and y, and of z and y, agree; a − 4 ≥ 0 and its negative
+-- 2a − 3 ≥ 0; a + 1 = 0; 3 − a ≠ 0; −1 ≥ 0; x ≈ y; x ≈ literal 1; the lengths of x and y, and of z and y, agree; a − 4 ≥ 0 and its negative; x ≉ y
 abbrev pub standing : Branch
 standing =
     arithmetic ge (row (negsuc 2) ((0, pos 2) ∷ [])) ∷ arithmetic eq (row (pos 1) ((0, pos 1) ∷ [])) ∷ arithmetic ne (row (pos 3) ((0, negsuc 0) ∷ []))
@@ -104,6 +104,14 @@ childrenOfRules =
     ∷ splitting three standing (Card (0 ∷ 1 ∷ 2 ∷ []))
     ((same 0 1 ∷ []) ∷ (same 0 2 ∷ []) ∷ (same 1 2 ∷ []) ∷ (arithmetic ge (row (negsuc 0) ((1, pos 1) ∷ [])) ∷ []) ∷ [])
     ∷ splitting three standing (Join 8 9) ((arithmetic eq (row (negsuc 3) ((0, pos 1) ∷ [])) ∷ []) ∷ [])
+    -- a literal of two characters has code −1
+    ∷ splitting three (isLiteral 0 2 ∷ []) (CCollapse 0) ((arithmetic eq (row (pos 1) ((4, pos 1) ∷ [])) ∷ []) ∷ [])
+    -- two literals meet
+    ∷ splitting three (isLiteral 0 1 ∷ isLiteral 0 2 ∷ []) SConf []
+    -- three strings over two characters have at least 2 each; over one there is no last child
+    ∷ splitting (record { n = 2; p = 3; q = 1; literals = []; constraints = [] }) standing (Card (0 ∷ 1 ∷ 2 ∷ []))
+    ((same 0 1 ∷ []) ∷ (same 0 2 ∷ []) ∷ (same 1 2 ∷ []) ∷ (arithmetic ge (row (negsuc 1) ((1, pos 1) ∷ [])) ∷ []) ∷ [])
+    ∷ splitting (record { n = 1; p = 3; q = 1; literals = []; constraints = [] }) standing (Card (0 ∷ 1 ∷ [])) ((same 0 1 ∷ []) ∷ [])
     ∷ []
 
 -- ---- each limit at its end and one past it
@@ -171,6 +179,7 @@ literals =
     ∷ outcome (headRecord 100 0 0 ∷ literalRecord (replicate 65 99) ∷ claimRecord 1 ∷ endRecord ∷ []) (Refused 5 1)
     ∷ outcome (headRecord 100 0 0 ∷ literalRecord [] ∷ claimRecord 1 ∷ endRecord ∷ []) (Refused 5 1)
     ∷ outcome (headRecord 100 0 0 ∷ literalRecord (100 ∷ []) ∷ claimRecord 1 ∷ endRecord ∷ []) (Refused 6 1)
+    ∷ outcome (headRecord 100 0 0 ∷ literalRecord (1 ∷ []) ∷ literalRecord (1 ∷ []) ∷ []) (Refused 7 2)
     ∷ []
 
 -- string constraints: relation, variable, literal
@@ -196,11 +205,13 @@ forms =
     ∷ outcome (headRecord 100 0 2 ∷ arithmeticFields 0 (pos 0) ((1, pos 0) ∷ []) ∷ claimRecord 1 ∷ endRecord ∷ []) (Refused 6 1)
     ∷ []
 
--- 128 constraints
+-- 128 constraints, and 128 facts on a branch
 abbrev pub counts : List Pin
 counts =
     outcome (headRecord 100 1 0 ∷ (replicate 128 (stringRecord 0 0 0) ++ (claimRecord 1 ∷ endRecord ∷ []))) (Refused 11 130)
     ∷ outcome (headRecord 100 1 0 ∷ (replicate 129 (stringRecord 0 0 0) ++ (claimRecord 1 ∷ endRecord ∷ []))) (Refused 10 129)
+    ∷ outcome (headRecord 100 1 0 ∷ (replicate 127 (stringRecord 0 0 0) ++ (claimRecord 1 ∷ stepFields (8 ∷ 0 ∷ 0 ∷ []) ∷ endRecord ∷ []))) (Refused 11 130)
+    ∷ outcome (headRecord 100 1 0 ∷ (replicate 128 (stringRecord 0 0 0) ++ (claimRecord 1 ∷ stepFields (8 ∷ 0 ∷ 0 ∷ []) ∷ endRecord ∷ []))) (Refused 10 130)
     ∷ []
 
 -- the claim
@@ -210,7 +221,7 @@ claims =
     ∷ outcome (headRecord 100 0 0 ∷ claimRecord 3 ∷ endRecord ∷ []) (Refused 6 1)
     ∷ []
 
--- Sum: 1 to 8 pairs, divisor, multiplier
+-- Sum: 1 to 8 pairs, divisor, multiplier; at least 1 on a ≥ fact
 abbrev pub sums : List Pin
 sums =
     proving (sumFields 0 1 []) (Refused 5 3)
@@ -222,6 +233,8 @@ sums =
     ∷ proving (sumFields 0 1 ((0, pos 1000000000) ∷ [])) (Refused 11 4)
     ∷ proving (sumFields 0 1 ((0, pos 1000000001) ∷ [])) (Refused 6 3)
     ∷ proving (sumFields 0 1 ((1, pos 1) ∷ [])) (Refused 8 3)
+    ∷ proving (sumFields 0 1 ((0, pos 0) ∷ [])) (Refused 8 3)
+    ∷ proving (sumFields 0 1 ((0, negsuc 0) ∷ [])) (Refused 8 3)
     ∷ []
 
 -- Branch: the children's numbers
@@ -290,6 +303,7 @@ models =
     modelled 64 (negsuc 99999999) (stringsGiven (replicate 64 0 ∷ []) (negsuc 99999999 ∷ []))
     ∷ modelled 65 (pos 0) (Refused 14 2)
     ∷ modelled 2 (pos 100000001) (Refused 6 2)
+    ∷ outcome (headRecord 100 1 0 ∷ claimRecord 2 ∷ modelRecord (pos 65 ∷ negsuc 0 ∷ []) ∷ []) (Refused 14 2)
     ∷ []
 
 -- ---- two numbers at one record: the first of them is given
@@ -307,12 +321,12 @@ firstOfTwo =
     ∷ outcome (recordBytes 1 (replicate 9 0) ∷ []) (Refused 5 0)
     -- 6 and 8: a variable out of range, twice
     ∷ proving (stepFields (11 ∷ 0 ∷ 3 ∷ 3 ∷ [])) (Refused 6 3)
-    -- 6 and 7 do not meet: a literal that repeats is in range; 7 stands at the second
-    ∷ outcome (headRecord 100 0 0 ∷ literalRecord (1 ∷ []) ∷ literalRecord (1 ∷ []) ∷ []) (Refused 7 2)
     -- 8 and 9: a column that does not divide, a constant past the limit
     ∷ outcome (headRecord 100 0 1 ∷ arithmeticFields 0 (pos 1000000000) ((0, pos 1) ∷ []) ∷ claimRecord 1 ∷ sumFields 0 2 ((0, pos 3) ∷ []) ∷ []) (Refused 8 3)
     -- 9 and 10: a number past the limit, and a 65th pending split
     ∷ outcome (headRecord 100 1 0 ∷ claimRecord 1 ∷ (replicate 64 (stepFields (8 ∷ 0 ∷ 0 ∷ [])) ++ (branchFields 0 (pos 1000000000) [] ∷ []))) (Refused 9 66)
+    -- 6 and 10: a 129th constraint out of range
+    ∷ outcome (headRecord 100 1 0 ∷ (replicate 128 (stringRecord 0 0 0) ++ (stringRecord 3 0 0 ∷ []))) (Refused 6 129)
     -- 4 and 11: a byte behind the end; 5 and 11: an end with a body
     ∷ checking 6400 4268 (ticket (headRecord 100 0 0 ∷ claimRecord 1 ∷ endRecord ∷ (0 ∷ []) ∷ [])) (Refused 4 2)
     ∷ outcome (headRecord 100 0 0 ∷ claimRecord 1 ∷ recordBytes 8 (0 ∷ []) ∷ []) (Refused 5 2)
@@ -322,8 +336,40 @@ firstOfTwo =
     ∷ outcome (headRecord 100 1 0 ∷ arithmeticFields 0 (negsuc 0) ((0, pos 1) ∷ []) ∷ claimRecord 2 ∷ modelRecord (pos 0 ∷ negsuc 0 ∷ []) ∷ []) (Refused 12 3)
     -- 13 and 14: length 65 with a code
     ∷ outcome (headRecord 100 1 0 ∷ claimRecord 2 ∷ modelRecord (pos 65 ∷ pos 0 ∷ []) ∷ []) (Refused 13 2)
-    -- 14 and 3: it stands at the model, before an end that is missing
-    ∷ outcome (headRecord 100 1 0 ∷ claimRecord 2 ∷ modelRecord (pos 65 ∷ negsuc 0 ∷ []) ∷ []) (Refused 14 2)
+    ∷ []
+
+-- ---- 3 to 5 where nothing else applies, each at its record
+
+-- a branch that closes at once, and what stands behind
+abbrev pub behindClosed : List (List ℕ) → Outcome → Pin
+behindClosed rs o = outcome ((headRecord 100 0 0 ∷ arithmeticFields 0 (negsuc 0) [] ∷ claimRecord 1 ∷ stepFields (4 ∷ 0 ∷ 0 ∷ []) ∷ []) ++ rs) o
+
+-- a model of no columns, and what stands behind
+abbrev pub behindModel : List (List ℕ) → Outcome → Pin
+behindModel rs o = outcome ((headRecord 100 0 0 ∷ claimRecord 2 ∷ modelRecord [] ∷ []) ++ rs) o
+
+abbrev pub sites : List Pin
+sites =
+    -- "the bytes stop before a record, or before any end record, is complete"
+    outcome (headRecord 100 0 0 ∷ []) (Refused 3 1)
+    ∷ outcome (headRecord 100 0 0 ∷ claimRecord 1 ∷ []) (Refused 3 2)
+    ∷ outcome (headRecord 100 0 0 ∷ claimRecord 1 ∷ (4 ∷ 0 ∷ 0 ∷ 0 ∷ 6 ∷ 0 ∷ 5 ∷ 0 ∷ 0 ∷ []) ∷ []) (Refused 3 2)
+    ∷ behindClosed [] (Refused 3 4)
+    ∷ behindModel [] (Refused 3 3)
+    -- "a kind is unknown or out of its place (.. an end without claim included), a step follows the last closed branch"
+    ∷ outcome (claimRecord 1 ∷ []) (Refused 4 0)
+    ∷ outcome (headRecord 100 0 0 ∷ endRecord ∷ []) (Refused 4 1)
+    ∷ outcome (headRecord 100 0 0 ∷ claimRecord 1 ∷ claimRecord 1 ∷ []) (Refused 4 2)
+    ∷ outcome (headRecord 100 0 0 ∷ claimRecord 1 ∷ modelRecord [] ∷ []) (Refused 4 2)
+    ∷ outcome (headRecord 100 1 0 ∷ arithmeticFields 0 (pos 0) [] ∷ stringRecord 0 0 0 ∷ []) (Refused 4 2)
+    ∷ outcome (headRecord 100 1 0 ∷ recordBytes 11 (u16Bytes (0 ∷ 0 ∷ 0 ∷ [])) ∷ []) (Refused 4 1)
+    ∷ behindClosed (recordBytes 6 [] ∷ []) (Refused 4 4)
+    ∷ behindModel (recordBytes 6 [] ∷ []) (Refused 4 3)
+    ∷ behindModel (modelRecord [] ∷ []) (Refused 4 3)
+    -- "the body length fits no form"
+    ∷ outcome (headRecord 100 0 0 ∷ recordBytes 5 (1 ∷ 0 ∷ 0 ∷ []) ∷ []) (Refused 5 1)
+    ∷ outcome (headRecord 100 1 0 ∷ recordBytes 3 (0 ∷ 0 ∷ []) ∷ []) (Refused 5 1)
+    ∷ outcome (headRecord 100 0 1 ∷ claimRecord 2 ∷ modelRecord [] ∷ []) (Refused 5 2)
     ∷ []
 
 -- ---- judging, over one string and one integer: the answer's bytes, from its string, its integers, and what stands behind
@@ -344,13 +390,19 @@ judgements =
     ∷ answering [] (negsuc 100000000 ∷ []) [] (Refusal 16 1)
     -- 15 and 16: a character out of range, and a byte behind
     ∷ answering (100 ∷ []) (pos 0 ∷ []) (0 ∷ []) (Refusal 15 0)
+    -- "one with no head before it gives 4"
+    ∷ judged (ticket (endRecord ∷ [])) [] (Refusal 4 0)
+    -- a constraint that is not met
+    ∷ judged (ticket (headRecord 100 1 0 ∷ arithmeticFields 0 (negsuc 0) ((0, pos 1) ∷ []) ∷ endRecord ∷ [])) (recordBytes 9 [] ++ (recordBytes 10 [] ++ endRecord)) (Unmet 0)
     ∷ []
 
 -- ---- all of them hold
 
-pub record Pins : Type 0 where
+pub record RulesPinned : Type 0 where
   pub rule-numbers : All PinHolds ruleNumbers
   pub children-of-rules : All PinHolds childrenOfRules
+
+pub record LimitsPinned : Type 0 where
   pub sizes : All PinHolds sizes
   pub heads : All PinHolds heads
   pub literals : All PinHolds literals
@@ -366,5 +418,8 @@ pub record Pins : Type 0 where
   pub unknown-rules : All PinHolds unknownRules
   pub pending-splits : All PinHolds pendingSplits
   pub models : All PinHolds models
+
+pub record OrderPinned : Type 0 where
   pub first-of-two : All PinHolds firstOfTwo
+  pub sites : All PinHolds sites
   pub judgements : All PinHolds judgements

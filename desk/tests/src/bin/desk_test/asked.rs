@@ -1,0 +1,43 @@
+//! What `ask` is to say.
+
+use crate::commands::Case;
+
+/// Words as in `commands`.
+pub const CASES: [Case; 36] = [
+    ("ask E/office/01-numbers-too-long.txt", 0, "says: no record meets these conditions; these took part:\n", ""),
+    ("ask E/office/01-numbers-too-long.txt", 0, ".txt:13: len(donor) >= len(recipient) + 4\n", ""),
+    ("ask E/office/03-check-letter-clash.txt", 0, "the question takes 6 of 16 strings (3 of them for texts in quotes), 1 of", ""),
+    ("ask E/office/05-linked-donors.txt", 0, "the proved library says: these alone clash:\n", ""),
+    ("ask E/office/02-numbers-just-fit.txt", 0, "says: these values meet all conditions:\n  donor = 11 characters, free\n", ""),
+    ("ask E/office/08-full-sheet.txt", 0, "  n4 = the same as n1\n", ""),
+    ("ask E/office/10-transfer-chain.txt -o T/asked.ticket", 0, "  r1 = \"RJ1-0001\"\n  r2 = 10 characters, free", ""),
+    ("ask E/office/07-parity-of-checks.txt -o T/parity.ticket", 0, "the ticket has 342 bytes and is in ", ""),
+    ("check T/asked.ticket", 0, "asked.ticket: strings\n", ""),
+    ("ask E/example1.ticket", 0, "  condition 0: ", ""),
+    ("ask E/example4.ticket", 0, "  x0 = \"\\u{0}\"\n", ""),
+    ("ask T/free.txt", 0, "  a = 5 characters, free, other than c, \"ABCDE\"\n  b = the same as a\n  c = 5 characters, free, other than a\n", ""),
+    ("ask T/free.txt", 0, "  d = 1 character, free\n  e = \"\"\n", ""),
+    ("ask --json T/free.txt", 0, "\"name\":\"e\",\"characters\":[],\"free\":false,", ""),
+    ("ask --json E/office/09-four-wards.txt", 0, "\"answer\":\"no solution\",\"took_part\":[{\"constraint\":", ""),
+    ("ask T/rules.txt", 3, "gave up: conditions on case, digits and order can be judged, not solved:\n", ""),
+    ("ask T/rules.txt", 3, "rules.txt:6: k = number(donor)\n", ""),
+    ("ask T/tight.txt", 0, "  x = 1 character, free, other than y\n  y = \"\\u{", ""),
+    ("ask --json T/rules.txt", 3, "\"answer\":\"gave up\",\"reason\":\"conditions on case", ""),
+    ("ask T/longest.txt", 3, "gave up: only texts of over 64 characters were found\n", ""),
+    ("ask T/129.txt", 3, "gave up: no derivation or model was found that keeps to 128 facts on a branch\n", ""),
+    ("ask T/nothing.txt", 0, "these values meet all conditions:\n  (there are no variables)\n", ""),
+    ("ask T/return.txt", 2, "", "return.txt:1:9: a line ends here for some programs: end it by a line feed"),
+    ("ask T/windows.txt", 0, "windows.txt:2: x = \"A\"\n", ""),
+    ("ask T/marked.txt", 0, "marked.txt:2: x = \"A\"\n", ""),
+    ("ask T/none", 2, "", "none: "),
+    ("ask T/empty", 2, "", "empty: "),
+    ("ask T/latin1.txt", 2, "", "latin1.txt:2:6: the text is not in UTF-8 here"),
+    ("ask T/huge.txt", 2, "", "huge.txt: a text has at most 1048576 bytes"),
+    ("ask -o T/none/out T/free.txt", 2, "", "none/out: "),
+    ("ask --time ten T/free.txt", 2, "", "--time takes whole seconds, 1 to 86400"),
+    ("ask --time", 2, "", "--time takes a SECONDS\nusage: nuldwich ask"),
+    ("ask T/free.txt T/free.txt", 2, "", "too many files are named"),
+    ("ask T/wrong.txt", 2, "", "wrong.txt:3:5: y is not declared"),
+    ("ask --time 0 T/free.txt", 2, "", "--time takes whole seconds, 1 to 86400"),
+    ("ask T/cut", 2, "", "cut: record 0: the bytes stop within a record"),
+];

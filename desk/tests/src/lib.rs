@@ -1,0 +1,5 @@
+//! What the desk's test programs share.
+
+pub mod common;
+pub mod runs;
+pub mod valid;
