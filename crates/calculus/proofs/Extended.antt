@@ -113,7 +113,8 @@ precedes-same [] (d ∷ t) e f = absurd (false≢true f)
 precedes-same (c ∷ s) [] e f = absurd (false≢true e)
 precedes-same (c ∷ s) (d ∷ t) e f = go (ltb c d) refl (eqb c d) refl (ltb d c) refl (eqb d c) refl (precedes-same s t) e f
   where
-    go : (a : Bool) → ltb c d ≡ a → (b : Bool) → eqb c d ≡ b → (a' : Bool) → ltb d c ≡ a' → (b' : Bool) → eqb d c ≡ b' → (precedes s t ≡ true → precedes t s ≡ true → s ≡ t)
+    go : (a : Bool) → ltb c d ≡ a → (b : Bool) → eqb c d ≡ b → (a' : Bool) → ltb d c ≡ a' → (b' : Bool) → eqb d c ≡ b'
+        → (precedes s t ≡ true → precedes t s ≡ true → s ≡ t)
         → (a || (b && precedes s t)) ≡ true → (a' || (b' && precedes t s)) ≡ true → c ∷ s ≡ d ∷ t
     go true h b g true h' b' g' ih e f = absurd (let i = ltb-true c d h in let j = ltb-true d c h' in omega arith)
     go true h b g false h' true g' ih e f = absurd (let i = ltb-true c d h in let j = eqb-true d c g' in omega arith)

@@ -304,7 +304,8 @@ report-in-words t r e = go (readBehind byShape t (questionForm t)) refl e
     at-end u q true e = (refl, cc)
     at-end u q false e = clash cc
 
-    go : (x : Ticket ℕ ℕ) → readBehind byShape t (questionForm t) ≡ x → needBy (reportOf t) x ≡ Needs r → (u : Question) × (questionOf t ≡ some u) × (OnTreeAsIf t u r ⊎ OnPathAsIf t u r)
+    go : (x : Ticket ℕ ℕ) → readBehind byShape t (questionForm t) ≡ x → needBy (reportOf t) x ≡ Needs r
+        → (u : Question) × (questionOf t ≡ some u) × (OnTreeAsIf t u r ⊎ OnPathAsIf t u r)
     go (Faulty c q) p e = clash cc
     go (Done u s q) p e =
         let (c, z) = at-end u q (complete s) e in

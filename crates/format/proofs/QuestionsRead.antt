@@ -181,7 +181,9 @@ module _ (m : Manner) (b : List ℕ) (u : Question) where
     pub question-read-to : (rest : List ℕ) → QuestionInRange u → All (Names u) es → ReadIn m u es → length b ≤ ticketBytes → b ≡ questionBytes u es ++ rest
         → ReadsTo m b u es (λ _. Unit {0})
     question-read-to rest r named i few e =
-        let c = constraints-read-to [] (extras ++ rest) all plain rises few (e ∙ parts u es rest ∙ plain-parts u (extras ++ rest)) in to-end c (behind-constraints (c .last) (c .has-head) (c .at-most))
+        let behind = extras ++ rest in
+        let c = constraints-read-to [] behind all plain rises few (e ∙ parts u es rest ∙ plain-parts u behind) in
+        to-end c (behind-constraints (c .last) (c .has-head) (c .at-most))
       where
         all : Ranges u
         all = ranges u r

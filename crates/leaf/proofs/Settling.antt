@@ -239,7 +239,8 @@ module _ (u : Question) (b : Branch) (m : List ℤ) where
       by-class : (t : Bool) → sameClass (labels b) (varNode x) (litNode 0) ≡ t → literalFits u (literalIn u (labels b) x) z c ≡ true
           → lValidFits (labels b) x z ≡ true → nonNeg z ≡ true
       by-class true s f g =
-          let empty : literalFits u (some 0) z c ≡ true = sym (ap (λ (t : Bool). literalFits u (elim t [ true ↦ some 0 | false ↦ lowestLiteral (labels b) x 1 (length (u .literals)) ]) z c) s) ∙ f in
+          let later = lowestLiteral (labels b) x 1 (length (u .literals)) in
+          let empty : literalFits u (some 0) z c ≡ true = sym (ap (λ (t : Bool). literalFits u (elim t [ true ↦ some 0 | false ↦ later ]) z c) s) ∙ f in
           a-length (length (literal u 0)) z (true→ (and-both (eqℤ z (pos (length (literal u 0)))) _ empty .0))
       by-class false s f g = above-zero z (sym (ap (λ (t : Bool). t || ltZ (pos 0) z) s) ∙ g)
 

@@ -1,8 +1,8 @@
 //! Conditions of a question, and their text.
 
 use crate::sums::Sum;
-use crate::tokens::{Place, Term};
-use text::{quoted, Mistake, Names};
+use crate::tokens::Term;
+use text::{quoted, Mistake, Names, Place};
 
 /// What a side of a condition may be.
 #[derive(Clone, Debug, PartialEq, Eq)]

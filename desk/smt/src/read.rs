@@ -3,8 +3,8 @@
 use crate::conditions::{unfit, Condition};
 use crate::symbols;
 use crate::terms::Scope;
-use crate::tokens::{terms, Node, Place, Term};
-use text::{Mistake, Names};
+use crate::tokens::{terms, Node, Term};
+use text::{Mistake, Names, Place};
 use ticket::{MOST_CHARACTERS, MOST_FACTS, MOST_VARIABLES};
 
 /// The alphabet of a question without strings, which has no effect.

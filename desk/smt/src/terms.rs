@@ -2,10 +2,10 @@
 
 use crate::conditions::{compare, opposite, unfit, Condition, Side};
 use crate::sums::{Column, Sum};
-use crate::tokens::{Node, Place, Term};
+use crate::tokens::{Node, Term};
 use std::collections::HashMap;
 use std::rc::Rc;
-use text::Mistake;
+use text::{Mistake, Place};
 use ticket::MOST_FACTS;
 
 /// What a term stands for; conditions hold all at once.

@@ -1,24 +1,11 @@
 //! The terms of a file, each with its place.
 
 use crate::symbols::RESERVED;
-use text::Mistake;
+use text::{Mistake, Place};
 use ticket::{LONGEST_STRING, MOST_CHARACTERS};
 
 /// How deep terms may stand within each other.
 const DEEPEST: usize = 400;
-
-/// Line and column, both from 1.
-#[derive(Clone, Copy, Debug, PartialEq, Eq)]
-pub struct Place {
-    pub line: usize,
-    pub column: usize,
-}
-
-impl Place {
-    pub fn mistake(self, reason: impl Into<String>) -> Mistake {
-        Mistake { line: self.line, column: self.column, reason: reason.into() }
-    }
-}
 
 #[derive(Clone, Debug, PartialEq, Eq)]
 pub enum Node {

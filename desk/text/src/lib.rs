@@ -13,6 +13,7 @@ mod write;
 pub use answer::{read_answer, Answer};
 pub use conditions::relations;
 pub use read::read;
+pub use tokens::Place;
 pub use write::{answer_text, column_text, constraint_text, form_text, question_text, quoted, ticket_text};
 
 use std::fmt;

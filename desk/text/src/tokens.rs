@@ -52,7 +52,7 @@ const STRANGE: [(&str, &str); 19] = [
 /// The signs that compare.
 const RELATIONS: [&str; 6] = ["<=", ">=", "!=", "<", ">", "="];
 
-/// A place in a text, for what is wrong there.
+/// A place in a text, for what is wrong there: line and column, both from 1.
 #[derive(Clone, Copy, Debug, PartialEq, Eq)]
 pub struct Place {
     pub line: usize,
