@@ -77,7 +77,16 @@ def main():
                 there |= {w.split(" as ")[0].strip() for w in words.split(",")}
         return there
 
-    kit = set()
+    def aliases(text):
+        """The names under which a file has modules of the repository."""
+        there = set()
+        for path, name in re.findall(r"(?m)^(?:ghost )?(?:pub )?use ([^\s{;]+) as (\w+)", text):
+            parts = path.split(".")
+            if parts[0] == "Rattle" and parts[1] in own and parts[-1] not in ("Tie", "Goals", "Given"):
+                there.add(name)
+        return there
+
+    kit, modules = set(), set()
 
     def code(text, of_source=False, of_code=False):
         def one(m):
@@ -85,6 +94,9 @@ def main():
             if w not in change or w in kit:
                 return w
             if m.start() and text[m.start() - 1] == ".":
+                before = re.search(r"(?<![\w.'-])(\w+)\.$", text[: m.start()])
+                if before and before.group(1) in modules:
+                    return change[w]
                 return change[w] if w in inner and not (of_code and w in made | functions) else w
             return w if of_source and w in functions else change[w]
         return token.sub(one, text)
@@ -122,10 +134,13 @@ def main():
         old = open(path, encoding="utf-8").read()
         kit.clear()
         kit.update(of_the_kit(old))
+        modules.clear()
+        modules.update(aliases(old))
         new = "".join(line(l, path.endswith(".rt"), bool(re.search(r"/proofs/.+/", path))) for l in old.splitlines(keepends=True))
         if new != old:
             written[path] = new
     kit.clear()
+    modules.clear()
     for path in [p for pattern in ("README.md", "docs/**/*.md", "tests/README.md", "crates/**/README.md") for p in glob.glob(os.path.join(root, pattern), recursive=True)]:
         old = open(path, encoding="utf-8").read()
         new = re.sub(r"`[^`\n]*`", lambda m: code(m.group()), old)

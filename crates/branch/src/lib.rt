@@ -1,4 +1,5 @@
 // The branch that a derivation works on, by value: how many facts stand on it, and its pending splits.
+#![tactic(auto)]
 ghost use Rattle.std.specs.Prelude.{◌≡◌, [], ◌∷◌, ◌≤◌, ◌<◌};
 ghost use Rattle.calculus.specs.Limits.{ticket_bytes, fact_limit, pending_limit};
 ghost use Rattle.branch.specs.Stack.{split, stack, latest_of, begun_of};

@@ -1,4 +1,5 @@
 // What facts and steps rest on: sets of the question's constraints, each as two words, for the facts of a branch in a lent slice (02, L5).
+#![tactic(auto)]
 ghost use Rattle.std.specs.Prelude.{◌≡◌, ◌≢◌, true, [], ◌∷◌, ◌++◌, ℕ, ◌+◌, ◌*◌, ◌<◌, ◌≤◌, length, take};
 ghost use Rattle.calculus.specs.Limits.{variable_limit, fact_limit, work_numbers};
 ghost use Rattle.calculus.specs.Rules.{distinct};

@@ -1,5 +1,6 @@
 // The numbers by which documents 01 and 02 write kinds, claims, relations and functions, each under its name. Rules are named in `steps`, tags of rows in `rows`,
 // nodes in `classes`.
+#![tactic(auto)]
 
 // "A record is a u32 body length, a u16 kind, a body": so many bytes stand before the body.
 pub const RECORD_HEAD: usize = 6;

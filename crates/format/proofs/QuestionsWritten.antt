@@ -121,7 +121,7 @@ module _ (b : List ℕ) (small : Bytes b) where
   head_behind : kind b 0 ≡ head_kind → next b 0 ≤ length b → head_fault b 6 (size b 0) ≡ 0 → WrittenTo b (reached head_rank (head_of b 6) []) 1 (next b 0)
   unfolding question_bytes InOrderOfKind flat_map
   head_behind k l f =
-      let h = records.head-formed b 6 (size b 0) f in
+      let h = records.head_formed b 6 (size b 0) f in
       let n : ℕ = u32 b 6 in
       let body : List ℕ = head_body n (u16 b 10) (u16 b 12) in
       let stands : drop 0 b ≡ record_bytes 1 body ++ drop (next b 0) b =

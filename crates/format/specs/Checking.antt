@@ -131,4 +131,4 @@ verdict work answer b = verdict_by calculus.children work answer b
 
 -- by the rules before L4 of 02
 abbrev pub verdict_before : ℕ → ℕ → List ℕ → Outcome
-verdict_before work answer b = verdict_by calculus.childrenBefore work answer b
+verdict_before work answer b = verdict_by calculus.children_before work answer b

@@ -1,4 +1,5 @@
 // The limits of document 01 for code: those of calculus/specs/Limits under the same names, and constants made from them.
+#![tactic(auto)]
 
 // "1 when the work area has under 6,400 numbers or the answer buffer under 4,268 bytes"
 pub const WORK_NUMBERS: usize = 6400;

@@ -1,4 +1,5 @@
 // The model: "7 model, claim 2 only, once", what is tested at it, and the answer that it gives.
+#![tactic(auto)]
 ghost use Rattle.std.specs.Prelude.{◌≡◌, List, ◌++◌, ◌+◌, ◌*◌, ◌-◌, ◌≤◌, length, ℤ};
 ghost use Rattle.calculus.specs.Limits.{column_limit, answer_bytes};
 ghost use Rattle.calculus.specs.LinearForms.{zeros};

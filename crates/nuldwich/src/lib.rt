@@ -1,5 +1,6 @@
 // The host's entries, in C: "calls both operations on numbers and byte slices", what a ticket will need (02, L2), whether two questions are the same (L6), and the
 // version of all these.
+#![tactic(auto)]
 ghost use Rattle.std.specs.Prelude.{◌≡◌, List, ℕ};
 ghost use Rattle.format.specs.Checking as format;
 ghost use Rattle.format.specs.Cores.{core_of};

@@ -1,1 +1,2 @@
 // The cases are definitions and computations only: see specs/ and proofs/.
+#![tactic(auto)]

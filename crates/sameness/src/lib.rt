@@ -1,4 +1,5 @@
 // Whether two questions are the same: "Have we put this question before?" (02, L6).
+#![tactic(auto)]
 ghost use Rattle.std.specs.Prelude.{◌≡◌, List, [], ◌∷◌, ℕ, ◌+◌, ◌≤◌, length, get_or};
 ghost use Rattle.calculus.specs.Limits.{work_numbers};
 ghost use Rattle.calculus.specs.Facts.{Question};

@@ -1,4 +1,5 @@
 // The program: "reads a ticket on standard input", checks it and prints its lines.
+#![tactic(auto)]
 ghost use Rattle.std.specs.Prelude.{◌≤◌, length};
 ghost use Rattle.libc.specs.Io.{Moved};
 

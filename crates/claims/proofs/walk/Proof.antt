@@ -397,7 +397,7 @@ first_there t q d =
     let s = start_of (stoodAt t) in
     let a = s.args in
     let first = first_of (stoodAt t) in
-    laws.first-known a.ticket.now a.s a.work.now (workOf t) (stoodAt t).loop.b first.first-known.result s.pre.0.2 (known-first first)
+    laws.first_known a.ticket.now a.s a.work.now (workOf t) (stoodAt t).loop.b first.first-known.result s.pre.0.2 (known-first first)
     (opened t q).0 d
 
 latest-requires : tie.Need-latest-requires invariant-loop decreases-loop

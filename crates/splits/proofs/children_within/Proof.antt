@@ -26,7 +26,7 @@ returns c =
     let s = c.before.before.before.before in
     let g = given s.requires.0.ready in
     let t = two c.before.before in
-    sym (limits.two-within g t.0 t.1 t.2
+    sym (limits.two_within g t.0 t.1 t.2
     ∙ ap (λ (x : Bool). x && facts_within (or_none (child_in g 2))) (sym c.before.child-within.ensures ∙ not-true _ c.if1.true))
 
 child-within-requires-2 : tie.Need-child-within-requires-2
@@ -40,7 +40,7 @@ returns-2 c =
     let g = given s.requires.0.ready in
     let t = two c.before.before.before in
     c.child-within2.ensures
-    ∙ sym (limits.two-within g t.0 t.1 t.2
+    ∙ sym (limits.two_within g t.0 t.1 t.2
     ∙ ap (λ (x : Bool). x && facts_within (or_none (child_in g 2))) (sym c.before.before.child-within.ensures ∙ not-false _ c.before.if1.false))
 
 returns-3 : tie.Need-returns-3
