@@ -1,4 +1,3 @@
--- `records::signed_of` meets its contract.
 use borrow.Author.Rules.{rules}
 use mathlib.Core.Path.{◌≡◌, ◌∙◌, sym, ap}
 use Prim.Native.Nat.{ℕ, ◌<◌, ◌≤◌, ◌-◌}
@@ -11,8 +10,7 @@ use Rattle.integers.proofs.Machine.{to_z_low, to_z_high, signed_of}
 use Rattle.format.specs.Fields.{signed}
 use Rattle.format.proofs.Fields.{signed_low, signed_high}
 use Rattle.records.proofs.Signed.{signed_bound}
-use Rattle.records.proofs.signed_of.Statement.{statement}
-use Rattle.records.proofs.signed_of.Tie as tie
+use Rattle.records.proofs.signed_of.Goals as goal
 
 -- 2³² taken away from the upper half of 32 bits
 taken-off : (v : ℕ) → 2147483648 ≤ v → v < 4294967296 → to_z w64 v -ℤ pos 4294967296 ≡ negsuc (4294967295 - v)
@@ -22,21 +20,12 @@ taken-off v h g = signed_of v h g ∙ to_z_high w32 v h ∙ ap negsuc (omega ari
 bounded : (v : ℕ) (z : ℤ) → v < 4294967296 → z ≡ signed v → (z ≡ signed v) × (nat_abs z ≤ 2147483648)
 bounded v z h e = (e, rw e (signed_bound v h))
 
-cast-result : tie.Need-overflow-cast-result
-cast-result c = search rules
+pub overflow_sub-result : goal.overflow_sub-result
+overflow_sub-result c = rw (taken-off c.args.v c.if-v-lt2147483648.false c.requires) (record { sfits = omega arith })
 
-cast-result-2 : tie.Need-overflow-cast-result-2
-cast-result-2 c = search rules
+pub returns-then-v-lt2147483648 : goal.returns-then-v-lt2147483648
+returns-then-v-lt2147483648 c = bounded _ _ c.requires (to_z_low w64 _ (omega arith) ∙ sym (signed_low _ c.if-v-lt2147483648.true))
 
-sub-result : tie.Need-overflow-sub-result
-sub-result c = rw (taken-off c.before.args.v c.if1.false c.before.requires) (record { sfits = omega arith })
-
-returns : tie.Need-returns
-returns c = bounded _ _ c.before.requires (to_z_low w64 _ (omega arith) ∙ sym (signed_low _ c.if1.true))
-
-returns-2 : tie.Need-returns-2
-returns-2 c = bounded _ _ c.before.requires
-    (to_z-of_z w64 _ (sub-result c) ∙ taken-off _ c.if1.false c.before.requires ∙ sym (signed_high _ c.if1.false))
-
-pub signed-of-spec : {M : Type 1} → statement M
-signed-of-spec = tie.close (tie.spec cast-result cast-result-2 sub-result returns returns-2)
+pub returns-else-v-lt2147483648 : goal.returns-else-v-lt2147483648
+returns-else-v-lt2147483648 c = bounded _ _ c.requires
+    (to_z-of_z w64 _ (overflow_sub-result c) ∙ taken-off _ c.if-v-lt2147483648.false c.requires ∙ sym (signed_high _ c.if-v-lt2147483648.false))
