@@ -1,5 +1,6 @@
 // The least power that Card's bound asks for.
 #![tactic(auto)]
+
 ghost use Rattle.std.specs.Prelude.{◌≡◌, ◌≤◌};
 ghost use Rattle.calculus.specs.Limits.{alphabet_limit, variable_limit};
 ghost use Rattle.calculus.specs.Rules.{least_power};
