@@ -345,7 +345,7 @@ fn rank_of(kind: usize) -> usize
 }
 
 // How a question is read.
-#[derive(Drop)]
+#[derive(Clone, Copy)]
 pub struct Manner {
     // Whether 10 is looked for.
     pub limited: bool,
@@ -373,7 +373,7 @@ pub const NEEDING: Manner = Manner {
 // ---- one record
 
 // What was read so far: the rank of the last record, 0 before the head, and the question by its numbers.
-#[derive(Drop)]
+#[derive(Clone, Copy)]
 pub struct Progress {
     pub last: usize,
     pub n: usize,
