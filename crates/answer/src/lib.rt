@@ -1,5 +1,6 @@
 // The answer of checking: its records, written from the buffer's first byte.
 #![tactic(auto)]
+
 ghost use Rattle.std.specs.Prelude.{◌≡◌, ◌+◌, ◌*◌, ◌≤◌, ◌<◌, [], ◌++◌, length, take, nat_abs};
 ghost use Rattle.std.proofs.lemmas.List.Edits.{sets};
 ghost use Rattle.calculus.specs.Limits.{length_limit, variable_limit, number_limit, answer_bytes};
