@@ -1,5 +1,6 @@
 // The branch that a derivation works on, by value: how many facts stand on it, and its pending splits.
 #![tactic(auto)]
+
 ghost use Rattle.std.specs.Prelude.{◌≡◌, [], ◌∷◌, ◌≤◌, ◌<◌};
 ghost use Rattle.calculus.specs.Limits.{ticket_bytes, fact_limit, pending_limit};
 ghost use Rattle.branch.specs.Stack.{split, stack, latest_of, begun_of};
@@ -8,7 +9,7 @@ use limits::PENDING_LIMIT;
 
 // A split with children pending, "that is, not yet begun": the number of facts before it, the position of its step's record, the number of
 // its next child, from 1, and that of its last. No byte is left between the fields.
-#[derive(Drop)]
+#[derive(Clone, Copy)]
 pub struct Split {
     pub mark: u16,
     pub at: u16,
