@@ -1,6 +1,7 @@
 // "Case, digits and order in judging" (02, L3): whether the strings of an answer meet an extended constraint. A string is named by the position of its record;
 // its characters are u32 each.
 #![tactic(auto)]
+
 ghost use Rattle.std.specs.Prelude.{◌≡◌, true, cond, ◌&&◌, ◌+◌, ◌*◌, ◌<◌, ◌≤◌, length, eqb, nat_abs};
 ghost use Rattle.lists.specs.Lists.{all};
 ghost use Rattle.calculus.specs.Limits.{value_limit};
