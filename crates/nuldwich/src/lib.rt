@@ -1,5 +1,5 @@
-// The host's entries, in C: "calls both operations on numbers and byte slices", what a ticket will need (02, L2), whether two questions are the same (L6), and the
-// version of all these.
+// The host's entries: "calls both operations on numbers and byte slices", what a ticket will need (02, L2), whether two questions are the same (L6), and the
+// version of all these. The static library nuldwich_c exports them to C.
 #![tactic(auto)]
 ghost use Rattle.std.specs.Prelude.{◌≡◌, List, ℕ};
 ghost use Rattle.format.specs.Checking as format;
@@ -69,8 +69,7 @@ fn number_side(side: Side) -> u64
 }
 
 // Judges an answer by a question; nothing is written. Both have one lifetime, since the part shown may be of either.
-#[unsafe(no_mangle)]
-pub extern "C" fn nuldwich_judge<'a>(question: &'a [u8], answer: &'a [u8]) -> JudgeReply
+pub fn nuldwich_judge<'a>(question: &'a [u8], answer: &'a [u8]) -> JudgeReply
     ensures { JudgeReplies question.now answer.now result }
 {
     let finding = judge_answer(question, answer);
@@ -88,7 +87,7 @@ pub extern "C" fn nuldwich_judge<'a>(question: &'a [u8], answer: &'a [u8]) -> Ju
     }
 }
 
-// The same under the name of document 01. A host may have a function of this name, so that to C it is a weak symbol of the built archive, for the code of the other.
+// The same under the name of document 01.
 pub fn judge<'a>(question: &'a [u8], answer: &'a [u8]) -> JudgeReply
     ensures { JudgeReplies question.now answer.now result }
 {
@@ -134,16 +133,14 @@ fn reply_outcome(o: Outcome) -> Reply
 }
 
 // Checks a ticket in a lent work area: the entry for tests, which see the work area before and after.
-#[unsafe(no_mangle)]
-pub extern "C" fn nuldwich_check_in(ticket: &[u8], work: &mut [i64], answer: &mut [u8]) -> Reply
+pub fn nuldwich_check_in(ticket: &[u8], work: &mut [i64], answer: &mut [u8]) -> Reply
     ensures { LentReplies ticket.now work.old work.new answer.old answer.new result }
 {
     reply_outcome(check_ticket(ticket, work, answer))
 }
 
 // Checks a ticket; "that entry brings its own work area".
-#[unsafe(no_mangle)]
-pub extern "C" fn nuldwich_check(ticket: &[u8], answer: &mut [u8]) -> Reply
+pub fn nuldwich_check(ticket: &[u8], answer: &mut [u8]) -> Reply
     ensures { CheckReplies ticket.now answer.old answer.new result }
 {
     let mut work = [0i64; WORK_NUMBERS];
@@ -151,7 +148,7 @@ pub extern "C" fn nuldwich_check(ticket: &[u8], answer: &mut [u8]) -> Reply
     reply_outcome(outcome)
 }
 
-// The same under the name of document 01, to C a weak symbol as judge is.
+// The same under the name of document 01.
 pub fn check(ticket: &[u8], answer: &mut [u8]) -> Reply
     ensures { CheckReplies ticket.now answer.old answer.new result }
 {
@@ -193,8 +190,7 @@ fn reply_need(need: Need) -> NeedReply
 }
 
 // Counts what checking a ticket will need; nothing is written.
-#[unsafe(no_mangle)]
-pub extern "C" fn nuldwich_need(ticket: &[u8]) -> NeedReply
+pub fn nuldwich_need(ticket: &[u8]) -> NeedReply
     ensures { result ≡ need_reply (needed ticket.now) }
 {
     reply_need(need_ticket(ticket))
@@ -247,8 +243,7 @@ fn reply_same(s: Sameness) -> SameReply
 }
 
 // Says whether two questions are the same (02, L6); nothing is written. It brings two work areas of its own.
-#[unsafe(no_mangle)]
-pub extern "C" fn nuldwich_same(first: &[u8], second: &[u8]) -> SameReply
+pub fn nuldwich_same(first: &[u8], second: &[u8]) -> SameReply
     ensures { result ≡ same_reply (sameness first.now second.now) }
 {
     reply_same(same_questions(first, second))
@@ -257,16 +252,14 @@ pub extern "C" fn nuldwich_same(first: &[u8], second: &[u8]) -> SameReply
 // ---- the version
 
 // Says which version of the C interface the library has: the major version times 1000, plus the minor one.
-#[unsafe(no_mangle)]
-pub extern "C" fn nuldwich_version() -> u64
+pub fn nuldwich_version() -> u64
     ensures { result ≡ version }
 {
     3002
 }
 
 // The major version. It is in the name, so that a host that was compiled with a header of another one does not link.
-#[unsafe(no_mangle)]
-pub extern "C" fn nuldwich_major_3() -> u64
+pub fn nuldwich_major_3() -> u64
     ensures { result ≡ major }
 {
     nuldwich_version() / 1000

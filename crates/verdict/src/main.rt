@@ -1,45 +1,37 @@
 // The program: "reads a ticket on standard input", checks it and prints its lines.
 #![tactic(auto)]
-ghost use Rattle.std.specs.Prelude.{◌≤◌, length};
-ghost use Rattle.libc.specs.Io.{Moved};
 
-use libc::{STDERR_FILENO, STDIN_FILENO, STDOUT_FILENO};
+ghost use Rattle.std.specs.Prelude.{◌≤◌, length, IfOk};
+
 use limits::{REPORT_BYTES, TICKET_BYTES};
+use std::io;
+use std::io::{Read, Write};
 
-// Reads standard input until the buffer is full or the input ends: how many bytes, or -1 where a read fails.
-fn read_input(buf: &mut [u8]) -> isize
-    requires { length buf.old ≤ 65536 }
-    ensures { Moved (length buf.old) result }
+// Reads until the buffer is full or the input ends: how many bytes.
+fn read_input<R: Read>(input: &mut R, buf: &mut [u8]) -> io::Result<usize>
+    ensures { IfOk result (λ n. n ≤ length buf.old) }
 {
     let mut done = 0;
     while done < buf.len() {
-        let got = libc::read(STDIN_FILENO, &mut buf[done..]);
-        if got < 0 {
-            return -1;
-        }
-        let more = io::count(got, &buf[done..]);
+        let more = input.read(&mut buf[done..])?;
         if more == 0 {
-            return done as isize;
+            return Ok(done);
         }
         done += more;
     }
-    done as isize
+    Ok(done)
 }
 
-fn main() {
+fn main(rt: HostRuntime) -> io::Result<()> {
     // One byte more than a ticket may have, so that a longer one is seen to be too long.
     let mut ticket = [0u8; TICKET_BYTES + 1];
-    let got = read_input(&mut ticket);
-    if got < 0 {
+    match read_input(&mut rt.stdin(), &mut ticket) {
+        Ok(n) => {
+            let mut out = [0u8; REPORT_BYTES];
+            let k = lines::report(&ticket[..n], &mut out);
+            rt.stdout().write_all(&out[..k])
+        }
         // No verdict: what was read need not be the whole ticket.
-        io::write_all(
-            STDERR_FILENO,
-            b"nuldwich-verdict: standard input cannot be read\n",
-        );
-        return;
+        Err(_) => eprintln!(rt; "nuldwich-verdict: standard input cannot be read"),
     }
-    let n = io::count(got, &ticket);
-    let mut out = [0u8; REPORT_BYTES];
-    let k = lines::report(&ticket[..n], &mut out);
-    io::write_all(STDOUT_FILENO, &out[..k]);
 }
