@@ -1,6 +1,7 @@
 // The question: "Kinds 1 to 4 are the question"; judging takes kind 11 besides (02, L3). Checking and judging read it with this one reader, each in its manner,
 // by position: what is kept of it is numbers, and its literals and constraints stay where they stand in the bytes.
 #![tactic(auto)]
+
 ghost use Rattle.std.specs.Prelude.{◌≡◌, cond, ◌+◌, ◌*◌, ◌-◌, ◌<◌, ◌≤◌, length, eqb, nat_abs};
 ghost use Rattle.calculus.specs.Limits.{variable_limit, column_limit};
 ghost use Rattle.calculus.specs.Alphabet.{all_characters};
