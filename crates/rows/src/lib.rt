@@ -1,5 +1,6 @@
 // A fact as a row of 50 numbers in its own stretch of the work area: read, written, built, tested and evaluated.
 #![tactic(auto)]
+
 ghost use Rattle.std.specs.Prelude.{◌≡◌, ◌≢◌, true, ◌||◌, ◌∷◌, ◌+◌, ◌*◌, ◌≤◌, ◌<◌, length, get_or, take, drop, pos, negsuc};
 ghost use Rattle.calculus.specs.Limits.{variable_limit, column_limit, number_limit, value_limit, fact_limit, work_numbers};
 ghost use Rattle.calculus.specs.LinearForms.{zeros, scale, above, below, all_zero, eq_integers, value_in};

@@ -1,0 +1,12 @@
+use Prim.Native.Nat.{◌-◌, ◌≤◌}
+use lib.ListN.{drop}
+use mathlib.Core.Path.{◌≡◌}
+use Rattle.calculus.specs.Limits.{number_limit}
+use Rattle.format.specs.Fields.{all_within}
+use Rattle.rows.proofs.form_within.Given as goal
+
+abbrev pub invariant-loop-j : goal.invariant-loop-j
+invariant-loop-j l = (1 ≤ l.j) × (l.j ≤ 50) × (all_within number_limit (drop l.j l.row) ≡ all_within number_limit (drop 1 l.row))
+
+abbrev pub decreases-loop-j : goal.decreases-loop-j
+decreases-loop-j l = 50 - l.j

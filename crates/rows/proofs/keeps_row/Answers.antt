@@ -1,0 +1,31 @@
+use lib.ListN.{drop}
+use mathlib.Core.Path.{◌∙◌, ◌≡◌, ap, sym}
+use mir.Facts.{to_z-of_z}
+use mir.Syntax.{w64}
+use mir.Val.{SFits}
+use Rattle.calculus.specs.Facts.{Fact, arithmetic}
+use Rattle.format.specs.Checking.{fact_within, keeps_fact}
+use Rattle.format.specs.Question.{relation_of}
+use Rattle.rows.proofs.Tags.{row_relation}
+use Rattle.rows.proofs.Tested.{string_keeps}
+use Rattle.rows.specs.Rows.{fact_of}
+use Rattle.rows.proofs.keeps_row.Goals as goal
+use Rattle.rows.proofs.keeps_row.Goals.{Else-tag-gt-TAG_NE}
+
+-- the fact, where it is arithmetic
+is : (c : Else-tag-gt-TAG_NE)
+    → fact_of c.args.row.now ≡ arithmetic (relation_of c.tag_of-tag.result) (drop 1 c.args.row.now)
+is c = row_relation c.args.row.now c.tag_of-tag.result c.tag_of-tag.ensures c.if-tag-gt-TAG_NE.false
+
+pub returns-then-tag-gt-TAG_NE : goal.returns-then-tag-gt-TAG_NE
+returns-then-tag-gt-TAG_NE c =
+    sym (string_keeps c.args.model.now (fact_of c.args.row.now) (rw c.tag_of-tag.ensures at c.if-tag-gt-TAG_NE.true))
+
+pub row_value-value-requires : goal.row_value-value-requires
+row_value-value-requires c = record { row_len = c.requires.row_len; row_value = sym (ap fact_within (is c)) ∙ c.requires.row_value; within = c.requires.within }
+
+pub returns : goal.returns
+returns c =
+    let f : SFits w64 c.row_value-value.result = record { sfits = c.row_value-value.type_inv } in
+    (rw (to_z-of_z f, c.row_value-value.ensures) at c.relation_holds.ensures)
+    ∙ sym (ap (λ (f : Fact). keeps_fact c.args.model.now f) (is (goal.at.returns c).Else-tag-gt-TAG_NE))
