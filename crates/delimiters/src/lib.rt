@@ -1,5 +1,6 @@
 // The records that delimit a derivation: the claim before it, the model and the end behind it. Nothing here asks for the rules.
 #![tactic(auto)]
+
 ghost use Rattle.std.specs.Prelude.{◌≡◌, ◌+◌, ◌≤◌, length};
 ghost use Rattle.calculus.specs.Limits.{variable_limit};
 ghost use Rattle.format.specs.Reading.{claim_fault, model_fault};
