@@ -26,9 +26,9 @@ MAJOR := $(firstword $(subst ., ,$(VERSION)))
 # The library, as an archive and as a shared library, and what it is proved and built from.
 LIBRARY := target/staticlib/libnuldwich.a
 SHARED := target/shared/libnuldwich.so.$(VERSION)
-SOURCES := crates.txt $(shell find crates -name must-fail -prune -o -print)
+SOURCES := crates.txt $(shell find crates \( -name must-fail -o -name out \) -prune -o -print)
 
-# The names of checking and judging in document 01. To C they are weak symbols of the archive, for the code of the entries with the library's prefix.
+# The names of checking and judging in document 01. To C they are weak symbols.
 SHORT_NAMES := check judge
 
 # The first target, so that `make` alone does nothing by surprise.
@@ -53,13 +53,15 @@ desk: library ## build the desk, the program that people use: target/desk/nuldwi
 	@install -D target/desk-build/release/nuldwich $(DESK)
 
 program: ## build the proved program: target/bin/verdict
-	@rt check verdict >&2
+	@cd crates/verdict && rt run >/dev/null 2>&1 </dev/null || rt run >&2 </dev/null
+	@install -D crates/verdict/out/verdict target/bin/verdict
 
 library: $(LIBRARY) $(SHARED) ## build the library for C, with include/nuldwich.h: target/staticlib/libnuldwich.a, target/shared/libnuldwich.so
 
 $(LIBRARY): $(SOURCES) Makefile
-	@rt staticlib nuldwich >&2
-	@objcopy --remove-section=.llvm_addrsig $(foreach name,$(SHORT_NAMES),--add-symbol $(name)=.text.nuldwich_$(name):0,weak,function) $@
+	@cd crates/nuldwich_c && rt lib >&2
+	@mkdir -p $(@D)
+	@objcopy --remove-section=.llvm_addrsig $(foreach name,$(SHORT_NAMES),--weaken-symbol=$(name)) crates/nuldwich_c/out/libnuldwich_c.a $@
 
 # Of the archive's code; it exports what the version script names.
 $(SHARED): $(LIBRARY) include/nuldwich.map
@@ -109,4 +111,4 @@ cross: library ## compare verdicts with those of cvc5 and Z3, where one of them 
 	@target/desk-build/release/cross
 
 clean: ## remove everything that was built or proved
-	@rm -rf target
+	@rm -rf target crates/*/out

@@ -253,12 +253,11 @@ nuldwich_needs nuldwich_need(const uint8_t *ticket, size_t ticket_len);
 nuldwich_sameness nuldwich_same(const uint8_t *first, size_t first_len, const uint8_t *second, size_t second_len);
 
 /*
- * nuldwich_check and nuldwich_judge under the names that the office's papers have. A source that calls them so defines NULDWICH_SHORT_NAMES before it includes this
- * header. The archive libnuldwich.a alone has them: the shared library does not. There they are weak symbols, so that a function of the host's own by one of these
- * names neither collides with them nor takes the place of nuldwich_check or nuldwich_judge. An archive that has such a function stands before libnuldwich.a where
- * the program is linked.
+ * nuldwich_check and nuldwich_judge under the names that the office's papers have. They are weak symbols, so that a function of the host's own by one of these names
+ * neither collides with them nor takes the place of nuldwich_check or nuldwich_judge. A source that has such a function defines NULDWICH_NO_SHORT_NAMES before it
+ * includes this header. An archive that has one stands before libnuldwich.a where the program is linked.
  */
-#ifdef NULDWICH_SHORT_NAMES
+#ifndef NULDWICH_NO_SHORT_NAMES
 nuldwich_reply check(const uint8_t *ticket, size_t ticket_len, uint8_t *answer, size_t answer_len);
 nuldwich_judgement judge(const uint8_t *question, size_t question_len, const uint8_t *answer, size_t answer_len);
 #endif

@@ -30,9 +30,9 @@ cases() {
 while read -r name count; do found[$name]=$count; done < <(
     vectors
     echo "buffers $(grep -c '	' tests/vectors/base/buffers.tsv)"
-    echo "starred $(cases starred starred-hold)"
-    echo "equations $(cases equationCases equations-hold)"
-    echo "extended $(cases extendedCases extended-hold)"
+    echo "starred $(cases starred starred_hold)"
+    echo "equations $(cases equation_cases equations_hold)"
+    echo "extended $(cases extended_cases extended_hold)"
     echo "cores $(grep -c ' = refl$' crates/calculus/proofs/CoreCases.antt)"
     echo "normal-forms $(grep -c ' = refl$' crates/calculus/proofs/SameCases.antt)"
     echo "pinned $(grep -o 'refl, ' crates/pinned/proofs/Cases.antt | wc -l)"

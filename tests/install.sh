@@ -102,9 +102,6 @@ answers_read() {
 # A host with a check and a judge of its own.
 own_names() { built own "$@" && "$folder/own"; }
 
-# A host that calls by the short names does not link with the shared library.
-short_names_absent() { ! built short flags tests/host/header.c -- gcc -std=c11 -DSHORT 2>"$folder/log" && grep -q 'undefined reference to .check' "$folder/log"; }
-
 # The entries that the header declares, and those that the shared library exports.
 declared() {
     echo '#include "nuldwich.h"' | gcc -E -P -I"$prefix/include" - | tr '\n' ' ' | sed -E ':body; s/\{[^{}]*\}//g; t body' |
@@ -113,9 +110,10 @@ declared() {
 exported() { nm -D --defined-only "$prefix/lib/libnuldwich.so" | awk '$2 == "T" { sub(/@.*/, "", $3); print $3 }' | sort; }
 exports_hold() { [ -n "$(declared)" ] && diff <(declared) <(exported); }
 
-# Symbols of the archive by type: the short names are weak, and no other one is there without the prefix.
+# Symbols by type: the short names are weak in both libraries, and in the archive no other one is there without the prefix.
 weak_names_hold() {
-    [ "$(nm "$prefix/lib/libnuldwich.a" | awk '$2 == "W" { print $3 }' | sort | xargs)" = "check judge" ] &&
+    [ "$(nm -D --defined-only "$prefix/lib/libnuldwich.so" | awk '$2 == "W" { sub(/@.*/, "", $3); print $3 }' | sort | xargs)" = "check judge" ] &&
+        [ "$(nm "$prefix/lib/libnuldwich.a" | awk '$2 == "W" { print $3 }' | sort | xargs)" = "check judge" ] &&
         [ -z "$(nm "$prefix/lib/libnuldwich.a" | awk '$2 ~ /[A-TV-Z]/ && $2 != "W" && $3 !~ /^nuldwich_/')" ]
 }
 
@@ -159,12 +157,11 @@ for library in flags archive_flags; do
         try "own names in two files in $standard, $library" own_names $library tests/host/own_names.c tests/host/own_functions.c -- g++ -std=$standard -DAPART -x c++
     done
 done
-try "the header does not hold with the archive" header_holds archive_flags tests/host/header.c -- gcc -std=c11 -DSHORT
+try "the header does not hold with the archive" header_holds archive_flags tests/host/header.c -- gcc -std=c11
 try "the header does not hold with the shared library" header_holds flags tests/host/header.c -- gcc -std=c11
 try "the reader of answers" answers_read
-try "the shared library has short names" short_names_absent
 try "the shared library exports other names than the header declares" exports_hold
-try "the archive has other names, or strong short ones" weak_names_hold
+try "a library has other names, or strong short ones" weak_names_hold
 try "the shared library's name" soname_holds
 try "a header of another major version links" other_major_fails
 try "the program" program_says

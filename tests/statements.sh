@@ -33,14 +33,14 @@ value() {
 values() {
     while read -r file type; do
         printf '%s %s\n' "$file" "$type"
-        grep -qE "^use Rattle·[a-z]+·specs\.specs\.[A-Z][A-Za-z]*\.\{(.*, )?$type(,.*)?\}\$" "$file" || echo "$file does not import $type from the specs of its crate"
-        grep -qE "^pub [a-z-]+ :.*(^|[^A-Za-z-])$type( |\$)" "$file" || grep -qE "^    → $type " "$file" || echo "$file has no value of $type"
+        grep -qE "^use Rattle\.$(cut -d / -f 2 <<<"$file")\.specs\.[A-Z][A-Za-z]*\.\{(.*, )?$type(,.*)?\}\$" "$file" || echo "$file does not import $type from the specs of its crate"
+        grep -qE "^pub [a-z_]+ :.*(^|[^A-Za-z_])$type( |\$)" "$file" || grep -qE "^    → $type " "$file" || echo "$file has no value of $type"
     done < tests/values.txt
 }
 
 expect "the kit" "$(cat .ci/kit)" "$(rt version)"
 expect "$specs: the record Demands" "$(cat tests/statements.txt)" "$(fields)"
-expect "$proofs: the value of Demands" "use Rattle·format·specs.specs.Demands.{Demands}
+expect "$proofs: the value of Demands" "use Rattle.format.specs.Demands.{Demands}
 pub demands : Demands" "$(value)"
 expect "the agreements, what checking hands out, and the cases that pin" "$(cat tests/values.txt)" "$(values)"
 

@@ -5,7 +5,7 @@
     python3 tools/believe.py --check    # fails where docs/BELIEVE.md is not current
 
 A definition is its signature and clauses, a data type or a record, without comments and blank lines. It reaches what its text names, by the `use` lines of
-its file. A notion that a theorem of the page puts into words (WORDED) is not looked into, since the theorem's words are counted; TH-1 looks into all of them."""
+its file. A notion that a theorem of the page puts into words (WORDED) is not looked into, since the theorem's words are counted; Th1 looks into all of them."""
 import pathlib
 import re
 import sys
@@ -14,7 +14,7 @@ from antt import MODIFIERS, tokens_of
 
 ROOT = pathlib.Path(__file__).resolve().parent.parent
 PAGE = ROOT / "docs/BELIEVE.md"
-USE = re.compile(r"use Rattle·([a-z]+)(?:·specs)?\.specs\.([\w.]+?)(?:\.\{([^}]*)\}| as (\w+))$")
+USE = re.compile(r"use Rattle\.([a-z_]+)\.specs\.([\w.]+?)(?:\.\{([^}]*)\}| as (\w+))$")
 BINDERS = re.compile(r"[({]\s*([^:(){}=]+?)\s+:\s")
 LAMBDA = re.compile(r"λ ([^.]*?)\. ")
 LET = re.compile(r"\blet ([^=]*?) = ")
@@ -22,21 +22,21 @@ ARM = re.compile(r"[|\[] ([^|\[]*?) ↦")
 FIELD = re.compile(r"\s+pub (\S+) :")
 # Computed notions, and the theorems of the page that say in words what they give.
 WORDED = {
-    ("format", "Checking", "verdict"): "TH-1-small, TH-1-long, TH-form, TH-2, TH-2-covers, TH-4, TH-5, TH-6, TH-6-covers, TH-refusals; not which of 3 to 7, and at which record",
-    ("format", "Judging", "submission"): "TH-asked, TH-3, TH-3-answers, TH-3-unformed, TH-3-outside; not which of 2 to 7 and 10 a question gets, and at which record",
-    ("format", "Needs", "needed"): "TH-L2-reported, TH-L2-met, TH-L2-unclosed, TH-L2-numbers; not which of 2 to 7, and at which record",
-    ("format", "Sameness", "sameness"): "TH-L6-sets, TH-L6-different, TH-L6-refused",
-    ("format", "ProperForm", "ProperNoSolution"): "TH-form",
-    ("format", "ProperForm", "ProperStrings"): "TH-form",
-    ("format", "ProperForm", "stepsWithChild"): "TH-form",
-    ("format", "ProperForm", "steps"): "TH-form",
-    ("format", "Question", "questionOf"): "TH-put",
-    ("format", "Demands", "Asks"): "TH-asked",
+    ("format", "Checking", "verdict"): "Th1Small, Th1Long, ThForm, Th2, Th2Covers, Th4, Th5, Th6, Th6Covers, ThRefusals; not which of 3 to 7, and at which record",
+    ("format", "Judging", "submission"): "ThAsked, Th3, Th3Answers, Th3Unformed, Th3Outside; not which of 2 to 7 and 10 a question gets, and at which record",
+    ("format", "Needs", "needed"): "ThL2Reported, ThL2Met, ThL2Unclosed, ThL2Numbers; not which of 2 to 7, and at which record",
+    ("format", "Sameness", "sameness"): "ThL6Sets, ThL6Different, ThL6Refused",
+    ("format", "ProperForm", "ProperNoSolution"): "ThForm",
+    ("format", "ProperForm", "ProperStrings"): "ThForm",
+    ("format", "ProperForm", "steps_with_child"): "ThForm",
+    ("format", "ProperForm", "steps"): "ThForm",
+    ("format", "Question", "question_of"): "ThPut",
+    ("format", "Demands", "Asks"): "ThAsked",
 }
 # What the contracts of the public operations and the agreements of words and tests begin from, besides the page.
 PROMISED = [
-    ("checking", "Outcomes", "Promised"), ("checking", "Theory", "Theory"), ("judging", "Judgements", "Finds"), ("needs", "Outcomes", "needOf"),
-    ("sameness", "Asked", "samenessOf"), ("lines", "Reports", "Reports"), ("calculus", "Agreements", "Agreements"), ("format", "Agreements", "Agreements"),
+    ("checking", "Outcomes", "Promised"), ("checking", "Theory", "Theory"), ("judging", "Judgements", "Finds"), ("needs", "Outcomes", "need_of"),
+    ("sameness", "Asked", "sameness_of"), ("lines", "Reports", "Reports"), ("calculus", "Agreements", "Agreements"), ("format", "Agreements", "Agreements"),
 ]
 
 
@@ -89,7 +89,7 @@ class File:
     def bring_in(self, text):
         found = USE.match(text)
         if not found:
-            if text.startswith("use Rattle") and ".declared." not in text and " as " not in text:
+            if text.startswith("use Rattle") and not text.startswith("use Rattle.std.") and ".declared." not in text and " as " not in text:
                 sys.exit(f"{self.crate}/specs/{self.module}: not understood: {text}")
             return
         crate, module, names, alias = found.groups()
@@ -207,15 +207,15 @@ def groups(specs):
     page = specs.files[("format", "Demands")]
     fields = [line.split(" : ")[1].strip() for line in page.names["Demands"].lines[1:]]
     statements = [page.names[name] for name in fields]
-    base = [d for d in statements if not d.name.startswith("TH-L")]
+    base = [d for d in statements if not d.name.startswith("ThL")]
     no = [page.names["PutsQuestion"], page.names["NoAssignment"]]
     promised = [specs.find(*key) for key in PROMISED] + specs.files[("nuldwich", "Replies")].definitions
     return fields, [
         ("an accepted no is true: the question that the bytes begin with, and that no assignment meets it", no, False),
-        ("demands 1 to 3 of document 01: every statement but TH-1 and those of 02", base, False),
-        ("every statement of the page but TH-1", statements, False),
-        ("TH-1, with all that is computed", [page.names["TH-1"]], True),
-        ("all of it, with what is computed, the promises of all public operations and the agreements", statements + [page.names["TH-1"]] + promised, True),
+        ("demands 1 to 3 of document 01: every statement but Th1 and those of 02", base, False),
+        ("every statement of the page but Th1", statements, False),
+        ("Th1, with all that is computed", [page.names["Th1"]], True),
+        ("all of it, with what is computed, the promises of all public operations and the agreements", statements + [page.names["Th1"]] + promised, True),
     ]
 
 
@@ -257,7 +257,7 @@ A reader believes definitions and statements; that the theorems hold of these de
 that the demands' statements (format/specs/Demands) reach; `python3 tools/believe.py` writes it, and the gate fails where it is not current. A line is one of a
 definition, without comments and blank lines.
 
-A computed notion of which theorems of the page say in words what it gives is not looked into, except for TH-1, which is an equation with what is computed: so
+A computed notion of which theorems of the page say in words what it gives is not looked into, except for Th1, which is an equation with what is computed: so
 which of the refusals 3 to 7 is given, and at which record, rests on reading the definitions of the format ([DECISIONS.md](DECISIONS.md), 168).
 
 Not counted, and believed besides: the library's numbers, lists and integers; the types that the code declares, which contracts name; the prover and the compiler

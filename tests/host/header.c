@@ -1,13 +1,8 @@
 /* Holds what include/nuldwich.h says of the library against it: the version, the words for refusals, null pointers, on the tickets named as arguments the short
    names, the constraints that took part, what judging shows, what nuldwich_need returns beside checking, what nuldwich_same returns beside judging and of questions
-   that overlap, and the stack that a call uses, and who takes kind 11. With the shared library, which has no short names, it is built without SHORT.
-   The last line is 'N passed, M failed'. */
+   that overlap, and the stack that a call uses, and who takes kind 11. The last line is 'N passed, M failed'. */
 
 #define _XOPEN_SOURCE 700
-
-#ifdef SHORT
-#define NULDWICH_SHORT_NAMES
-#endif
 
 #include <inttypes.h>
 #include <stdio.h>
@@ -151,7 +146,6 @@ static void read_ticket(const char *path) {
 
 /* The short names give what the others give, on every ticket, with its answer too. */
 static void hold_short_names(char **paths) {
-#ifdef SHORT
     static uint8_t written[NULDWICH_ANSWER_BYTES];
     int good = 1;
     for (; *paths != NULL; paths++) {
@@ -165,9 +159,6 @@ static void hold_short_names(char **paths) {
         good &= memcmp(&judged, &other_name, sizeof judged) == 0;
     }
     count(good, "check or judge returns another thing than nuldwich_check or nuldwich_judge");
-#else
-    (void)paths;
-#endif
 }
 
 /* The constraints of a ticket all of whose records are whole. */

@@ -1,6 +1,8 @@
 /* A host that has a check and a judge of its own, in this file or, where APART is defined, in own_functions.c: nuldwich_check and nuldwich_judge are the library's all the
    same, and its own functions its own. The status is 0 where that holds. */
 
+#define NULDWICH_NO_SHORT_NAMES
+
 #include <stddef.h>
 
 #include "nuldwich.h"

@@ -80,7 +80,7 @@ mod linked {
     }
 
     extern "C" {
-        #[link_name = "nuldwich_check"]
+        #[link_name = "check"]
         fn c_check(ticket: *const u8, ticket_len: usize, answer: *mut u8, answer_len: usize) -> Replied;
         #[link_name = "nuldwich_check_in"]
         fn c_check_in(
@@ -91,7 +91,7 @@ mod linked {
             answer: *mut u8,
             answer_len: usize,
         ) -> Replied;
-        #[link_name = "nuldwich_judge"]
+        #[link_name = "judge"]
         fn c_judge(question: *const u8, question_len: usize, answer: *const u8, answer_len: usize) -> Judged;
         #[link_name = "nuldwich_need"]
         fn c_need(ticket: *const u8, ticket_len: usize) -> Needed;
