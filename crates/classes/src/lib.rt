@@ -1,5 +1,6 @@
 // Classes of variables and literals: labels of the 32 nodes, from the rows of a branch.
 #![tactic(auto)]
+
 ghost use Rattle.std.specs.Prelude.{◌≡◌, cond, [], ◌∷◌, ◌*◌, ◌≤◌, ◌<◌, length, eqb};
 ghost use Rattle.lists.specs.Lists.{any_below};
 ghost use Rattle.calculus.specs.Limits.{variable_limit, fact_limit};
