@@ -171,14 +171,14 @@ pub enum Judgement {
     Unmet(usize),
 }
 
-#[derive(Drop)]
+#[derive(Clone, Copy)]
 pub enum Side {
     Question,
     Answer,
 }
 
 // The part of the question or of the answer from a position up to another.
-#[derive(Drop)]
+#[derive(Clone, Copy)]
 pub struct Shown {
     pub side: Side,
     pub from: usize,
