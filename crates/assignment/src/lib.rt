@@ -1,5 +1,6 @@
 // The assignment that an answer holds, read for judging: the answer's form, its ranges, and the columns' values.
 #![tactic(auto)]
+
 ghost use Rattle.std.specs.Prelude.{◌≡◌, true, ◌+◌, ◌≤◌, ◌<◌, length, get_or, pos};
 ghost use Rattle.calculus.specs.Limits.{variable_limit};
 ghost use Rattle.calculus.specs.Facts.{code_of, blank};
