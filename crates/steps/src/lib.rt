@@ -1,6 +1,7 @@
 // The form of a step's body: "6 step: u16 rule, u16 child, operands". Its length by its rule, the ranges of its fields, and the number of
 // its rule's children. A body is its position and its size.
 #![tactic(auto)]
+
 ghost use Rattle.std.specs.Prelude.{◌≡◌, true, List, ℕ, ◌+◌, ◌*◌, ◌-◌, ◌<◌, ◌≤◌, length, get_or};
 ghost use Rattle.calculus.specs.Limits.{variable_limit};
 ghost use Rattle.calculus.specs.Alphabet.{character_count};
