@@ -1,5 +1,6 @@
 // Rule 1, Sum: the facts named, each times its multiplier, added up and divided: a ≥ fact, or an equation.
 #![tactic(auto)]
+
 ghost use Rattle.std.specs.Prelude.{◌≡◌, true, ◌+◌, ◌*◌, ◌≤◌, length, get_or, drop, pos, nat_abs, ◌≤ℤ◌};
 ghost use Rattle.calculus.specs.Limits.{number_limit, summand_limit};
 ghost use Rattle.integers.specs.Division.{floor_div};

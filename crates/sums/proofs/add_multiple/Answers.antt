@@ -1,0 +1,89 @@
+use Prim.Native.Nat.{◌≤◌}
+use lib.IntN.{◌*ℤ◌, ◌+ℤ◌, nat_abs, pos, ℤ}
+use lib.ListN.{get_or, length-set}
+use mathlib.Core.Path.{◌∙◌, ◌≡◌, ap, refl, subst, sym}
+use mir.Facts.{to_z-of_z}
+use mir.Syntax.{w64}
+use mir.Val.{SFits, of_z, to_z}
+use native.Mathlib.Omega.{arith}
+use Rattle.lists.proofs.Filled.{filled_all, filled_more, kept_at, kept_more}
+use Rattle.rows.proofs.Small.{behind_tag, small_fits}
+use Rattle.rows.proofs.Values.{product_fits, step_fits, step_is}
+use Rattle.sums.proofs.Totals.{added_first, added_number, length_added}
+use Rattle.sums.specs.Sums.{added}
+use Rattle.sums.proofs.add_multiple.Goals as goal
+use Rattle.sums.proofs.add_multiple.Goals.{After-x-1}
+
+-- at the step: the sum so far, the multiplier and the number
+module _ (c : After-x-1) where
+  abbrev z : ℤ
+  z = get_or c.loop-j.sum c.loop-j.j (pos 0)
+
+  abbrev m : ℤ
+  m = c.args.multiplier
+
+  abbrev x : ℤ
+  x = get_or c.args.row.now c.loop-j.j (pos 0)
+
+  was : z ≡ get_or c.args.sum.now c.loop-j.j (pos 0)
+  was =
+      kept_at c.loop-j.sum c.args.sum.now c.loop-j.j (pos 0)
+      c.loop-j.invariant.4
+
+  hz : nat_abs z ≤ 7000000000000000000
+  hz = subst (λ (y : ℤ). nat_abs y ≤ 7000000000000000000) (sym was) (c.requires.sum_len.1 c.loop-j.j)
+
+  hm : nat_abs m ≤ 1000000000
+  hm = c.requires.multiplier_bound
+
+  hx : nat_abs x ≤ 1000000000
+  hx =
+      behind_tag c.args.row.now c.loop-j.j c.requires.row_len.1
+      (omega arith)
+
+  fz : SFits w64 z
+  fz = let h = hz in small_fits z (omega arith)
+
+  fx : SFits w64 x
+  fx = let h = hx in small_fits x (omega arith)
+
+pub loop-j-init : goal.loop-j-init
+loop-j-init c =
+    let n = c.requires.sum_len.0 in
+    (omega arith, omega arith, n, added_first c.args.sum.now _ c.args.row.now n, refl)
+
+pub overflow_mul-sum : goal.overflow_mul-sum
+overflow_mul-sum c = product_fits (z c) (m c) (x c) _ _ _ (hz c) (hm c) (hx c) c.ranges.multiplier (fx c) (omega arith)
+
+pub overflow_add-sum : goal.overflow_add-sum
+overflow_add-sum c =
+    rw (to_z-of_z (fz c)) (step_fits (z c) (m c) (x c) _ _ _ (hz c) (hm c) (hx c) c.ranges.multiplier (fx c) (omega arith))
+
+pub loop-j-preserved : goal.loop-j-preserved
+loop-j-preserved c =
+    let l = c.loop-j in
+    let n = c.requires.sum_len.0 in
+    let k = length_added c.args.sum.now (to_z w64 (of_z w64 c.args.multiplier)) c.args.row.now n c.requires.row_len.0 in
+    let new = ap (λ (y : ℤ). to_z w64 (of_z w64 (y +ℤ to_z w64 (of_z w64 (to_z w64 (of_z w64 (m c)) *ℤ to_z w64 (of_z w64 (x c))))))) (to_z-of_z (fz c))
+    ∙ step_is (z c) (m c) (x c) _ _ _ (hz c) (hm c) (hx c) c.ranges.multiplier (fx c) (omega arith) in (
+      omega arith,
+      omega arith,
+      simp length-set l.invariant.2,
+      filled_more l.sum _ l.j _ (pos 0) (omega arith) (omega arith) l.invariant.3
+          (new
+          ∙ ap (λ (y : ℤ). y +ℤ m c *ℤ x c) (was c)
+          ∙ ap (λ (y : ℤ). get_or c.args.sum.now l.j (pos 0) +ℤ y *ℤ x c) (sym (to_z-of_z c.ranges.multiplier))
+          ∙ sym (added_number c.args.sum.now (to_z w64 (of_z w64 c.args.multiplier)) c.args.row.now l.j n (omega arith))),
+      kept_more l.sum c.args.sum.now l.j _ l.invariant.4,
+    )
+
+pub shape_of-sum : goal.shape_of-sum
+shape_of-sum c = c.loop-j.invariant.2 ∙ sym c.requires.sum_len.0
+
+pub returns : goal.returns
+returns c =
+    let l = c.loop-j in
+    let n = c.requires.sum_len.0 in
+    let k = length_added c.args.sum.now (to_z w64 (of_z w64 c.args.multiplier)) c.args.row.now n c.requires.row_len.0 in
+    filled_all l.sum _ l.j (omega arith) (omega arith) l.invariant.3
+    ∙ ap (λ (y : ℤ). added c.args.sum.now y c.args.row.now) (to_z-of_z c.ranges.multiplier)
