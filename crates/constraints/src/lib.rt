@@ -1,5 +1,6 @@
 // The rows of facts that are written in the ticket: constraints of the question, and the form of a Branch.
 #![tactic(auto)]
+
 ghost use Rattle.std.specs.Prelude.{◌≡◌, true, ◌∷◌, ◌+◌, ◌*◌, ◌≤◌, ◌<◌, length, pos, nat_abs};
 ghost use Rattle.calculus.specs.Limits.{variable_limit, literal_limit, column_limit, fact_limit, work_numbers};
 ghost use Rattle.calculus.specs.LinearForms.{zeros, scale, below};
