@@ -1,6 +1,7 @@
 // The leaf: whether its model settles it (document 01: "settled"), and whether a length passes 64. A leaf is held as its question's numbers and the labels of its
 // nodes; what does not read the literals is said of the question by its numbers alone.
 #![tactic(auto)]
+
 ghost use Rattle.std.specs.Prelude.{◌≡◌, true, false, cond, ◌&&◌, ◌+◌, ◌*◌, ◌≤◌, ◌<◌, length, eqb, nat_abs};
 ghost use Rattle.lists.specs.Lists.{all_below};
 ghost use Rattle.calculus.specs.Limits.{alphabet_limit, variable_limit, fact_limit};

@@ -1,0 +1,44 @@
+use Prim.Native.Nat.{ℕ}
+use mathlib.Core.Bool.{Bool, ◌&&◌, not}
+use mathlib.Core.List.{List}
+use mathlib.Core.Path.{◌∙◌, ◌≡◌, ap, sym}
+use Rattle.lists.specs.Lists.{all_below}
+use Rattle.calculus.specs.Classes.{conflict, labels}
+use Rattle.leaf.proofs.Pairs.{earlier_all}
+use Rattle.leaf.proofs.Laws.{conflict_is}
+use Rattle.leaf.proofs.Settling.{by_values, settled_is}
+use Rattle.question.specs.Posed.{asked}
+use Rattle.rows.specs.Rows.{branch_of}
+use Rattle.leaf.proofs.settled.Goals as goal
+use Rattle.leaf.proofs.settled.Goals.{After-conflict}
+
+-- S-Conf's test
+conflict-test : (c : After-conflict)
+    →
+    let args = c.args in
+    c.conflict.result
+    ≡ conflict (asked args.ticket.now args.s)
+    (branch_of args.work.now args.count)
+conflict-test c =
+    c.conflict.ensures
+    ∙ conflict_is c.args.ticket.now c.args.s c.args.labels.now (branch_of c.args.work.now c.args.count) c.requires.labels_value
+
+pub returns-then-conflict : goal.returns-then-conflict
+returns-then-conflict c =
+    let s = c.args in
+    let u = asked s.ticket.now s.s in
+    let b = branch_of s.work.now s.count in
+    sym (settled_is u b s.model.now
+    ∙ ap (λ (t : Bool). not t && all_below u.p (by_values u (labels b) s.model.now)) (sym (conflict-test (goal.at.returns-then-conflict c).After-conflict) ∙ c.if-conflict.true))
+
+pub returns : goal.returns
+unfolding asked
+returns c =
+    let u = asked c.args.ticket.now c.args.s in
+    let m = c.args.model.now in
+    let b = branch_of c.args.work.now c.args.count in
+    c.every_fits.ensures
+    ∙ earlier_all u c.args.labels.now m
+    ∙ ap (λ (ls : List ℕ). all_below u.p (by_values u ls m)) c.requires.labels_value
+    ∙ sym (settled_is u b m
+    ∙ ap (λ (t : Bool). not t && all_below u.p (by_values u (labels b) m)) (sym (conflict-test (goal.at.returns c).After-conflict) ∙ c.if-conflict.false))

@@ -1,0 +1,21 @@
+use mir.Syntax.{w64}
+use borrow.Author.Rules.{rules}
+use lib.IntN.{pos}
+use lib.ListN.{get_or}
+use mathlib.Core.Path.{◌∙◌, ap}
+use mir.Facts.{to_z-of_z}
+use native.Mathlib.Omega.{arith}
+use Prim.Native.Nat.{ℕ}
+use Rattle.leaf.proofs.Laws.{column_there, column_value}
+use Rattle.leaf.proofs.value_of.Goals as goal
+
+pub bounds-model-at : goal.bounds-model-at
+bounds-model-at c =
+    omega (arith, c.column_of-at.ensures.0, column_there c.args.s c.args.function c.args.x c.requires.1, c.requires.0.columns)
+
+pub returns : goal.returns
+returns c =
+    let s = c.args in
+    to_z-of_z {w = w64} (record { sfits = search rules })
+    ∙ ap (λ (i : ℕ). get_or s.model.now i (pos 0)) c.column_of-at.ensures.0
+    ∙ column_value s.s s.function s.x s.model.now

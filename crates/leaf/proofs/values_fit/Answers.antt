@@ -1,0 +1,25 @@
+use mathlib.Core.Bool.{Bool, ◌&&◌}
+use mathlib.Core.Path.{◌∙◌, ap, sym}
+use Rattle.lists.specs.Lists.{all_below}
+use Rattle.leaf.proofs.Laws.{pairs_any}
+use Rattle.question.specs.Posed.{asked}
+use Rattle.leaf.specs.Values.{pair_fits}
+use Rattle.leaf.proofs.values_fit.Goals as goal
+
+pub returns-then-not-var_fits : goal.returns-then-not-var_fits
+unfolding asked
+returns-then-not-var_fits c =
+    let s = c.args in
+    let u = asked s.ticket.now s.s in
+    sym (ap (λ (t : Bool). t && all_below s.x (pair_fits u s.labels.now s.model.now s.x))
+    (sym c.var_fits.ensures ∙ c.if-not-var_fits.true))
+
+pub returns : goal.returns
+unfolding asked
+returns c =
+    let s = c.args in
+    let u = asked s.ticket.now s.s in
+    c.pairs_fit.ensures
+    ∙ pairs_any s.ticket.now s.s s.labels.now s.model.now s.x
+    ∙ sym (ap (λ (t : Bool). t && all_below s.x (pair_fits u s.labels.now s.model.now s.x))
+    (sym c.var_fits.ensures ∙ c.if-not-var_fits.false))
