@@ -18,6 +18,10 @@ WORD = r"[^\s(){}\[\];,.\"`@λ¬|\\]+"
 HEAD = re.compile(r"^(\s*)((?:(?:abbrev|unfoldable|pub|data|record|opaque)\s+)*)(" + WORD + r")(?=\s+[:({]|\s*:\s)")
 # Names with dashes that get another name than their own, since a word of a definition has it.
 CHOSEN = {"in-range": "is_in_range", "of-answer": "of_the_answer", "work-after": "work_is", "answer-after": "answer_is"}
+# Names that `use .. as ..` gives, and one that port.py takes for the logic's.
+MORE = {"SepProp": "s_prop", "ruleAt": "rule_at", "precedesTest": "precedes_test"}
+# A line that declares several constructors.
+GROUP = re.compile(r"^\s+((?:[a-z]\w* )+[a-z]\w*) : \S.*$")
 NOT_NAMES = {"use", "let", "in", "where", "module", "open", "=", "unfolding", ":", "→", "--", "|"}
 
 
@@ -45,6 +49,9 @@ def declared(root):
         for line in open(path, encoding="utf-8"):
             if line.lstrip().startswith("--"):
                 continue
+            group = GROUP.match(line.rstrip())
+            if group:
+                names |= {w for w in group.group(1).split() if w not in NOT_NAMES and w != "pub"}
             m = HEAD.match(line)
             if m and m.group(3) not in NOT_NAMES:
                 names.add(m.group(3))
@@ -57,7 +64,7 @@ def main():
     words = [w for w in sys.argv[1:] if w != "--say"]
     root = words[0] if words else "."
     names, inner = declared(root)
-    change = {n: turned(n) for n in names if turned(n) != n}
+    change = MORE | {n: turned(n) for n in names if turned(n) != n}
     functions = set()
     for path in glob.glob(root + "/crates/*/src/**/*.rt", recursive=True):
         functions |= set(re.findall(r"\bfn (\w+)", open(path, encoding="utf-8").read()))

@@ -19,7 +19,7 @@ use Rattle.calculus.specs.Strings.{eq_string}
 use Rattle.calculus.specs.Meaning.{Assignment, str}
 use Rattle.calculus.specs.Extended.{upper_character, lower_character, upper, lower}
 use Rattle.calculus.specs.Extended.{zero_digit, is_digit, numeric, numeral_from, numeral, to_int, decimal_within, decimal, from_int}
-use Rattle.calculus.specs.Extended.{Precedes, equal, prefix, smaller, precedes, Extended, isUpper, isLower, is_value, isDecimal, inOrder}
+use Rattle.calculus.specs.Extended.{Precedes, equal, prefix, smaller, precedes, Extended, is_upper, is_lower, is_value, is_decimal, in_order}
 use Rattle.calculus.specs.Extended.{int, MeetsExtended, meets_extended, basic, extended, constraints_of}
 use Rattle.calculus.proofs.LinearForms.{eqℤ→, →eqℤ}
 use Rattle.calculus.proofs.Words.{eq_string→, →eq_string}
@@ -130,18 +130,18 @@ precedes_both s t p q = precedes_same s t (→precedes s t p) (→precedes t s q
 -- ---- the test of an extended constraint
 
 pub extended→ : (a : Assignment) (e : Extended) → meets_extended a e ≡ true → MeetsExtended a e
-extended→ a (isUpper x y) h = eq_string→ (str a x) (upper (str a y)) (true→ h)
-extended→ a (isLower x y) h = eq_string→ (str a x) (lower (str a y)) (true→ h)
+extended→ a (is_upper x y) h = eq_string→ (str a x) (upper (str a y)) (true→ h)
+extended→ a (is_lower x y) h = eq_string→ (str a x) (lower (str a y)) (true→ h)
 extended→ a (is_value x y) h = eqℤ→ (int a x) (to_int (str a y)) (true→ h)
-extended→ a (isDecimal x y) h = eq_string→ (str a x) (from_int (int a y)) (true→ h)
-extended→ a (inOrder x y) h = precedes→ (str a x) (str a y) h
+extended→ a (is_decimal x y) h = eq_string→ (str a x) (from_int (int a y)) (true→ h)
+extended→ a (in_order x y) h = precedes→ (str a x) (str a y) h
 
 pub →extended : (a : Assignment) (e : Extended) → MeetsExtended a e → meets_extended a e ≡ true
-→extended a (isUpper x y) h = →true (eq_string (str a x) (upper (str a y))) (→eq_string h)
-→extended a (isLower x y) h = →true (eq_string (str a x) (lower (str a y))) (→eq_string h)
+→extended a (is_upper x y) h = →true (eq_string (str a x) (upper (str a y))) (→eq_string h)
+→extended a (is_lower x y) h = →true (eq_string (str a x) (lower (str a y))) (→eq_string h)
 →extended a (is_value x y) h = →true (eqℤ (int a x) (to_int (str a y))) (→eqℤ h)
-→extended a (isDecimal x y) h = →true (eq_string (str a x) (from_int (int a y))) (→eq_string h)
-→extended a (inOrder x y) h = →precedes (str a x) (str a y) h
+→extended a (is_decimal x y) h = →true (eq_string (str a x) (from_int (int a y))) (→eq_string h)
+→extended a (in_order x y) h = →precedes (str a x) (str a y) h
 
 -- ---- numeric strings
 

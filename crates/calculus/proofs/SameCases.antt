@@ -6,7 +6,7 @@ use mathlib.Core.List.{List, [], ◌∷◌}
 use lib.IntN.{ℤ, pos, negsuc}
 use Rattle.lists.specs.Lists.{count}
 use Rattle.calculus.specs.Facts.{Question, Fact, same, not_same, is_literal, arithmetic, ge, eq, ne}
-use Rattle.calculus.specs.Extended.{isUpper, inOrder, basic, extended}
+use Rattle.calculus.specs.Extended.{is_upper, in_order, basic, extended}
 use Rattle.calculus.specs.NormalForms.{gcd_within, gcd, divisor_of, reduced, first_nonzero, with_positive_lead, normal, alike, agrees_by, eq_heads, same_by, same_sets}
 
 -- ---- normal forms
@@ -92,15 +92,15 @@ relations_apart : alike one other (basic (arithmetic ge (form (pos 0) (pos 1) (p
 unfolding alike
 relations_apart = refl
 
-kinds_apart : alike one other (basic (same 0 1)) (extended (isUpper 0 1)) ≡ false
+kinds_apart : alike one other (basic (same 0 1)) (extended (is_upper 0 1)) ≡ false
 unfolding alike
 kinds_apart = refl
 
-order_has_sides : alike one other (extended (inOrder 0 1)) (extended (inOrder 1 0)) ≡ false
+order_has_sides : alike one other (extended (in_order 0 1)) (extended (in_order 1 0)) ≡ false
 unfolding alike
 order_has_sides = refl
 
-repeats_aside : same_sets (asked [] (same 0 1 ∷ same 1 0 ∷ [])) (isUpper 0 1 ∷ []) (asked ((9 ∷ []) ∷ []) (same 1 0 ∷ [])) (isUpper 0 1 ∷ isUpper 0 1 ∷ []) ≡ true
+repeats_aside : same_sets (asked [] (same 0 1 ∷ same 1 0 ∷ [])) (is_upper 0 1 ∷ []) (asked ((9 ∷ []) ∷ []) (same 1 0 ∷ [])) (is_upper 0 1 ∷ is_upper 0 1 ∷ []) ≡ true
 unfolding same_by eq_heads agrees_by count alike normal
 repeats_aside = refl
 

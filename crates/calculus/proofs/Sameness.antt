@@ -14,7 +14,7 @@ use Rattle.calculus.specs.Logic.{Iff}
 use Rattle.calculus.specs.Facts.{Question, ge, eq, ne, Holds, same, not_same, is_literal, arithmetic}
 use Rattle.calculus.specs.Alphabet.{Over}
 use Rattle.calculus.specs.Meaning.{Assignment, str, IsAssignment, value}
-use Rattle.calculus.specs.Extended.{Extended, isUpper, isLower, is_value, isDecimal, inOrder, MeetsExtended}
+use Rattle.calculus.specs.Extended.{Extended, is_upper, is_lower, is_value, is_decimal, in_order, MeetsExtended}
 use Rattle.calculus.specs.Extended.{Constraint, basic, extended, constraints_of, MeetsConstraint}
 use Rattle.calculus.specs.NormalForms.{normal_constraint, normals, constraint_tag, constraint_operands, constraint_form, Alike, alike}
 use Rattle.calculus.specs.NormalForms.{occurrences, agrees_by, eq_heads, in_both, same_by, same_sets, EachIn, SameSets}
@@ -29,11 +29,11 @@ abbrev SaysOf : Assignment → ℕ → ℕ → ℕ → List ℕ → Type 0
 SaysOf a zero x y s = str a x ≡ str a y
 SaysOf a (suc zero) x y s = str a x ≢ str a y
 SaysOf a (suc (suc zero)) x y s = str a x ≡ s
-SaysOf a (suc (suc (suc zero))) x y s = MeetsExtended a (isUpper x y)
-SaysOf a (suc (suc (suc (suc zero)))) x y s = MeetsExtended a (isLower x y)
+SaysOf a (suc (suc (suc zero))) x y s = MeetsExtended a (is_upper x y)
+SaysOf a (suc (suc (suc (suc zero)))) x y s = MeetsExtended a (is_lower x y)
 SaysOf a (suc (suc (suc (suc (suc zero))))) x y s = MeetsExtended a (is_value x y)
-SaysOf a (suc (suc (suc (suc (suc (suc zero)))))) x y s = MeetsExtended a (isDecimal x y)
-SaysOf a (suc (suc (suc (suc (suc (suc (suc n))))))) x y s = MeetsExtended a (inOrder x y)
+SaysOf a (suc (suc (suc (suc (suc (suc zero)))))) x y s = MeetsExtended a (is_decimal x y)
+SaysOf a (suc (suc (suc (suc (suc (suc (suc n))))))) x y s = MeetsExtended a (in_order x y)
 
 abbrev Says : Assignment → ℕ → List ℕ → List ℤ → Type 0
 Says a zero xs e = Holds ge (value a e)
@@ -48,11 +48,11 @@ says u a (basic (is_literal x l)) = refl
 says u a (basic (arithmetic ge e)) = refl
 says u a (basic (arithmetic eq e)) = refl
 says u a (basic (arithmetic ne e)) = refl
-says u a (extended (isUpper x y)) = refl
-says u a (extended (isLower x y)) = refl
+says u a (extended (is_upper x y)) = refl
+says u a (extended (is_lower x y)) = refl
 says u a (extended (is_value x y)) = refl
-says u a (extended (isDecimal x y)) = refl
-says u a (extended (inOrder x y)) = refl
+says u a (extended (is_decimal x y)) = refl
+says u a (extended (in_order x y)) = refl
 
 alike_met : (u v : Question) (a : Assignment) (c d : Constraint) → Alike u v c d → MeetsConstraint u a c → MeetsConstraint v a d
 alike_met u v a c d h m = subst (λ X. X) (says u a c ∙ there ∙ sym (says v a d)) m

@@ -84,33 +84,33 @@ precedes (c ∷ s) (d ∷ t) = ltb c d || (eqb c d && precedes s t)
 -- string x is string y in upper case, in lower case; integer x is string y read in decimal; string x is integer y in decimal; string x is equal to or before
 -- string y
 pub data Extended : Type 0 where
-  isUpper isLower is_value isDecimal inOrder : ℕ → ℕ → Extended
+  is_upper is_lower is_value is_decimal in_order : ℕ → ℕ → Extended
 
 -- its operands are variables of the question
 abbrev pub Names : Question → Extended → Type 0
-Names u (isUpper x y) = (x < u.p) × (y < u.p)
-Names u (isLower x y) = (x < u.p) × (y < u.p)
+Names u (is_upper x y) = (x < u.p) × (y < u.p)
+Names u (is_lower x y) = (x < u.p) × (y < u.p)
 Names u (is_value x y) = (x < u.q) × (y < u.p)
-Names u (isDecimal x y) = (x < u.p) × (y < u.q)
-Names u (inOrder x y) = (x < u.p) × (y < u.p)
+Names u (is_decimal x y) = (x < u.p) × (y < u.q)
+Names u (in_order x y) = (x < u.p) × (y < u.p)
 
 abbrev pub int : Assignment → ℕ → ℤ
 int a x = get_or a.ints x (pos 0)
 
 abbrev pub MeetsExtended : Assignment → Extended → Type 0
-MeetsExtended a (isUpper x y) = str a x ≡ upper (str a y)
-MeetsExtended a (isLower x y) = str a x ≡ lower (str a y)
+MeetsExtended a (is_upper x y) = str a x ≡ upper (str a y)
+MeetsExtended a (is_lower x y) = str a x ≡ lower (str a y)
 MeetsExtended a (is_value x y) = int a x ≡ to_int (str a y)
-MeetsExtended a (isDecimal x y) = str a x ≡ from_int (int a y)
-MeetsExtended a (inOrder x y) = Precedes (str a x) (str a y)
+MeetsExtended a (is_decimal x y) = str a x ≡ from_int (int a y)
+MeetsExtended a (in_order x y) = Precedes (str a x) (str a y)
 
 -- the same as a test
 abbrev pub meets_extended : Assignment → Extended → Bool
-meets_extended a (isUpper x y) = eq_string (str a x) (upper (str a y))
-meets_extended a (isLower x y) = eq_string (str a x) (lower (str a y))
+meets_extended a (is_upper x y) = eq_string (str a x) (upper (str a y))
+meets_extended a (is_lower x y) = eq_string (str a x) (lower (str a y))
 meets_extended a (is_value x y) = eqℤ (int a x) (to_int (str a y))
-meets_extended a (isDecimal x y) = eq_string (str a x) (from_int (int a y))
-meets_extended a (inOrder x y) = precedes (str a x) (str a y)
+meets_extended a (is_decimal x y) = eq_string (str a x) (from_int (int a y))
+meets_extended a (in_order x y) = precedes (str a x) (str a y)
 
 -- ---- all constraints that judging numbers
 

@@ -4,7 +4,7 @@ use Rattle.std.specs.Int.Signed.{non_neg}
 use Rattle.lists.specs.Lists.{All, Any, all, count, eq_list}
 use Rattle.calculus.specs.LinearForms.{scale, is_zero, eq_integers, floor_div_all}
 use Rattle.calculus.specs.Facts.{Question, Relation, ge, eq, ne, Fact, same, not_same, is_literal, arithmetic, fact_tag, literal}
-use Rattle.calculus.specs.Extended.{Extended, isUpper, isLower, is_value, isDecimal, inOrder, Constraint, basic, extended, constraints_of}
+use Rattle.calculus.specs.Extended.{Extended, is_upper, is_lower, is_value, is_decimal, in_order, Constraint, basic, extended, constraints_of}
 
 -- ---- "the greatest common divisor of its coefficients and constant"
 
@@ -94,11 +94,11 @@ normals u es = map normal_constraint (constraints_of u es)
 
 -- the "u16 function" of kind 11: 0 to 4, in their order in 02, L3
 abbrev pub function_number : Extended → ℕ
-function_number (isUpper x y) = 0
-function_number (isLower x y) = 1
+function_number (is_upper x y) = 0
+function_number (is_lower x y) = 1
 function_number (is_value x y) = 2
-function_number (isDecimal x y) = 3
-function_number (inOrder x y) = 4
+function_number (is_decimal x y) = 3
+function_number (in_order x y) = 4
 
 -- facts have 0 to 5, and functions follow from 6 on, so that a fact is never like an extended constraint
 abbrev pub constraint_tag : Constraint → ℕ
@@ -114,11 +114,11 @@ operands_of u (arithmetic r e) = []
 
 -- "Kind 11 compares field by field": "u16 a, u16 b"
 abbrev pub fields_of : Extended → List ℕ
-fields_of (isUpper x y) = x ∷ y ∷ []
-fields_of (isLower x y) = x ∷ y ∷ []
+fields_of (is_upper x y) = x ∷ y ∷ []
+fields_of (is_lower x y) = x ∷ y ∷ []
 fields_of (is_value x y) = x ∷ y ∷ []
-fields_of (isDecimal x y) = x ∷ y ∷ []
-fields_of (inOrder x y) = x ∷ y ∷ []
+fields_of (is_decimal x y) = x ∷ y ∷ []
+fields_of (in_order x y) = x ∷ y ∷ []
 
 abbrev pub constraint_operands : Question → Constraint → List ℕ
 constraint_operands u (basic f) = operands_of u f

@@ -8,7 +8,7 @@ use lib.ListN.{length}
 use lib.IntN.{ℤ}
 use Rattle.calculus.specs.Facts.{Branch}
 use Rattle.format.specs.Records.{size, next}
-use Rattle.format.specs.StepForms.{rule as ruleAt}
+use Rattle.format.specs.StepForms.{rule as rule_at}
 use Rattle.format.specs.Checking as format
 use Rattle.format.specs.Checking.{checker, accepted, outcome_of}
 use Rattle.format.proofs.StepTurns.{turn_none}
@@ -70,7 +70,7 @@ module _ (b : List ℕ) (s : Progress) (at : ℕ) where
       pub formed_there : Formed b (asked b s) (at + 6) m
       formed_there = its_form (checker (asked b s)) b s [] [] at claim k m w e z
 
-      pub step_there : (r : Rule) → rule_named r ≡ ruleAt b (at + 6) → NextAt claim b s at (Step r m)
+      pub step_there : (r : Rule) → rule_named r ≡ rule_at b (at + 6) → NextAt claim b s at (Step r m)
       unfolding NextAt
       step_there r named = record {
         sized = w.1;

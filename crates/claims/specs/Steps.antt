@@ -4,7 +4,7 @@ use Rattle.calculus.specs.Facts.{Fact, Branch}
 use Rattle.calculus.specs.Walk.{Waiting}
 use Rattle.calculus.specs.Cores.{Rested, rooted_from}
 use Rattle.format.specs.Records.{size as size_of, kind, next}
-use Rattle.format.specs.StepForms.{rule as ruleAt}
+use Rattle.format.specs.StepForms.{rule as rule_at}
 use Rattle.format.specs.Reading.{fault}
 use Rattle.format.specs.Checking.{checker, Refused}
 use Rattle.delimiters.specs.declared.Claim.{Claim}
@@ -68,7 +68,7 @@ pub record StepAt (claim : Claim) (b : List ℕ) (s : Progress) (at : ℕ) (rule
   pub sized : m ≡ size_of b at
   pub whole : next b at ≤ length b
   pub step : kind b at ≡ 6
-  pub named : rule_named rule ≡ ruleAt b (at + 6)
+  pub named : rule_named rule ≡ rule_at b (at + 6)
   pub formed : Formed b (asked b s) (at + 6) m
   pub field : field_fits claim b s.n (at + 6) m ≡ true
   pub tried : (w : List ℤ) (count : ℕ) (ss : List (Waiting Branch (List Fact)))

@@ -8,7 +8,7 @@ use lib.Dec.{leb, eqb}
 use borrow.Author.Tests.{leb-true}
 use Rattle.lists.proofs.Tests.{and_both}
 use Rattle.format.specs.Fields.{u16, u32}
-use Rattle.format.specs.StepForms.{sum, SepProp, form_for, fits_form, rule, sum_pairs, multipliers_within, operands_in_range}
+use Rattle.format.specs.StepForms.{sum, s_prop, form_for, fits_form, rule, sum_pairs, multipliers_within, operands_in_range}
 use Rattle.format.proofs.Decoded.{below→}
 use Rattle.question.specs.declared.Progress.{Progress}
 use Rattle.steps.specs.Ready.{Ready}
@@ -39,9 +39,9 @@ sum_body b body m p c f h =
 -- S-Prop: "function (0 len, 1 code), different variables x, y"
 pub s_prop_variables : {b : List ℕ} {s : Progress} {body m : ℕ} {w : List ℤ} {count : ℕ}
     → Ready b s body m w count
-    → SepProp ≡ rule b body
+    → s_prop ≡ rule b body
     → (u16 b (body + 6) < s.p) × (u16 b (body + 8) < s.p)
 unfolding operands_in_range
 s_prop_variables {b} {s} {body} h e =
-    let (x, (y, _)) = below→ s.p (u16 b (body + 6) ∷ u16 b (body + 8) ∷ []) (and_both (leb (u16 b (body + 4)) 1) _ (ranged h SepProp e)).1 in
+    let (x, (y, _)) = below→ s.p (u16 b (body + 6) ∷ u16 b (body + 8) ∷ []) (and_both (leb (u16 b (body + 4)) 1) _ (ranged h s_prop e)).1 in
     (x, y)

@@ -5,7 +5,7 @@ ghost use Rattle.calculus.specs.Limits.{variable_limit, fact_limit, work_numbers
 ghost use Rattle.calculus.specs.Rules.{distinct};
 ghost use Rattle.calculus.specs.Cores.{Set, only, Rested, set_at, named_sets, lengths_set, neighbour_sets};
 ghost use Rattle.format.specs.Fields.{u16, u16s, pairs_at};
-ghost use Rattle.format.specs.StepForms.{are_variables, rule as ruleAt};
+ghost use Rattle.format.specs.StepForms.{are_variables, rule as rule_at};
 ghost use Rattle.question.specs.Posed.{numbered};
 ghost use Rattle.rows.specs.Rows.{row_length, fact_of};
 ghost use Rattle.rows.specs.Work.{Fine};
@@ -257,7 +257,7 @@ pub fn step_set(
     sets: &[u64],
     unions: Unions,
 ) -> Words
-    requires { Ready ticket.now s body size work.now count × (rule_named rule ≡ ruleAt ticket.now body) × Roomy sets.now }
+    requires { Ready ticket.now s body size work.now count × (rule_named rule ≡ rule_at ticket.now body) × Roomy sets.now }
     ensures { RestsOn rule ticket.now s body size work.now count sets.now unions result }
 {
     let at = body + OPERANDS;

@@ -7,7 +7,7 @@ ghost use Rattle.lists.specs.Lists.{all};
 ghost use Rattle.calculus.specs.Limits.{value_limit};
 ghost use Rattle.calculus.specs.LinearForms.{eqℤ};
 ghost use Rattle.calculus.specs.Strings.{eq_string};
-ghost use Rattle.calculus.specs.Extended.{upper_character, lower_character, upper, lower, is_digit, numeric, numeral, to_int, from_int, precedes as precedesTest};
+ghost use Rattle.calculus.specs.Extended.{upper_character, lower_character, upper, lower, is_digit, numeric, numeral, to_int, from_int, precedes as precedes_test};
 ghost use Rattle.format.specs.Fields.{u32s};
 ghost use Rattle.format.specs.Records.{next};
 ghost use Rattle.format.specs.Places.{text_at};
@@ -200,7 +200,7 @@ pub fn written_as(v: &[u8], x: usize, z: i64) -> bool
 // "string a is equal to or before string b by code points"
 pub fn precedes(v: &[u8], x: usize, y: usize) -> bool
     requires { (next v.now x ≤ length v.now) × (next v.now y ≤ length v.now) }
-    ensures { result ≡ precedesTest (text_at v.now x) (text_at v.now y) }
+    ensures { result ≡ precedes_test (text_at v.now x) (text_at v.now y) }
 {
     let mut m = u32_at(v, x) / 4;
     let mut k = u32_at(v, y) / 4;

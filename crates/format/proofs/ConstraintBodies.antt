@@ -11,7 +11,7 @@ use lib.IntN.{ℤ}
 use Rattle.lists.proofs.Tests.{→and_both}
 use Rattle.calculus.specs.Limits.{column_limit}
 use Rattle.calculus.specs.Facts.{Question, Fact, same, not_same, is_literal, arithmetic, Relation, ge, eq, ne, column_count}
-use Rattle.calculus.specs.Extended.{Extended, isUpper, isLower, is_value, isDecimal, inOrder, Names}
+use Rattle.calculus.specs.Extended.{Extended, is_upper, is_lower, is_value, is_decimal, in_order, Names}
 use Rattle.calculus.specs.NormalForms.{function_number, fields_of}
 use Rattle.format.specs.Fields.{bytes_of, u16, u16s, IsU16}
 use Rattle.format.specs.Records.{need}
@@ -204,42 +204,42 @@ extended_body e = three_body (function_number e) (first_of e) (second_of e)
 
 pub extended_bytes : (e : Extended) → extended_record e ≡ record_bytes extended_kind (extended_body e)
 unfolding extended_record
-extended_bytes (isUpper x y) = refl
-extended_bytes (isLower x y) = refl
+extended_bytes (is_upper x y) = refl
+extended_bytes (is_lower x y) = refl
 extended_bytes (is_value x y) = refl
-extended_bytes (isDecimal x y) = refl
-extended_bytes (inOrder x y) = refl
+extended_bytes (is_decimal x y) = refl
+extended_bytes (in_order x y) = refl
 
 extended_is : (e : Extended) → extended_by (function_number e) (first_of e) (second_of e) ≡ e
-extended_is (isUpper x y) = refl
-extended_is (isLower x y) = refl
+extended_is (is_upper x y) = refl
+extended_is (is_lower x y) = refl
 extended_is (is_value x y) = refl
-extended_is (isDecimal x y) = refl
-extended_is (inOrder x y) = refl
+extended_is (is_decimal x y) = refl
+extended_is (in_order x y) = refl
 
 both_below : (p q x y : ℕ) → x < p → y < q → (ltb x p && ltb y q) ≡ true
 both_below p q x y h k = →and_both (ltb x p) (ltb y q) (lt-ltb x p h) (lt-ltb y q k)
 
 extended_range_law : (u : Question) (e : Extended) → Names u e → extended_range u.p u.q (function_number e) (first_of e) (second_of e) ≡ true
-extended_range_law u (isUpper x y) (h, k) = both_below u.p u.p x y h k
-extended_range_law u (isLower x y) (h, k) = both_below u.p u.p x y h k
+extended_range_law u (is_upper x y) (h, k) = both_below u.p u.p x y h k
+extended_range_law u (is_lower x y) (h, k) = both_below u.p u.p x y h k
 extended_range_law u (is_value x y) (h, k) = both_below u.q u.p x y h k
-extended_range_law u (isDecimal x y) (h, k) = both_below u.p u.q x y h k
-extended_range_law u (inOrder x y) (h, k) = both_below u.p u.p x y h k
+extended_range_law u (is_decimal x y) (h, k) = both_below u.p u.q x y h k
+extended_range_law u (in_order x y) (h, k) = both_below u.p u.p x y h k
 
 function_few : (e : Extended) → function_number e ≤ 4
-function_few (isUpper x y) = omega arith
-function_few (isLower x y) = omega arith
+function_few (is_upper x y) = omega arith
+function_few (is_lower x y) = omega arith
 function_few (is_value x y) = omega arith
-function_few (isDecimal x y) = omega arith
-function_few (inOrder x y) = omega arith
+function_few (is_decimal x y) = omega arith
+function_few (in_order x y) = omega arith
 
 names_few : (u : Question) → Counts u → (e : Extended) → Names u e → IsU16 (first_of e) × IsU16 (second_of e)
-names_few u c (isUpper x y) (h, k) = (omega (arith, c.strings), omega (arith, c.strings))
-names_few u c (isLower x y) (h, k) = (omega (arith, c.strings), omega (arith, c.strings))
+names_few u c (is_upper x y) (h, k) = (omega (arith, c.strings), omega (arith, c.strings))
+names_few u c (is_lower x y) (h, k) = (omega (arith, c.strings), omega (arith, c.strings))
 names_few u c (is_value x y) (h, k) = (omega (arith, c.integers), omega (arith, c.strings))
-names_few u c (isDecimal x y) (h, k) = (omega (arith, c.strings), omega (arith, c.integers))
-names_few u c (inOrder x y) (h, k) = (omega (arith, c.strings), omega (arith, c.strings))
+names_few u c (is_decimal x y) (h, k) = (omega (arith, c.strings), omega (arith, c.integers))
+names_few u c (in_order x y) (h, k) = (omega (arith, c.strings), omega (arith, c.strings))
 
 pub record ExtendedRead (b : List ℕ) (u : Question) (at : ℕ) (e : Extended) : Type 0 where
   pub six : length (extended_body e) ≡ 6

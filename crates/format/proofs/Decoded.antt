@@ -12,7 +12,7 @@ use Rattle.lists.proofs.Tests.{and_both}
 use Rattle.calculus.specs.Facts.{Question, column_count}
 use Rattle.calculus.specs.Instances.{IsStep}
 use Rattle.format.specs.Fields.{u16, u32}
-use Rattle.format.specs.StepForms.{Rule, sum, branch, apart, aConf, sConf, SepProp, lIntro, lValid, cCollapse, cValid, cInj}
+use Rattle.format.specs.StepForms.{Rule, sum, branch, apart, a_conf, s_conf, s_prop, l_intro, l_valid, c_collapse, c_valid, c_inj}
 use Rattle.format.specs.StepForms.{card, join, unknown, Form, form_for, fits_form, rule, length_fits, sum_pairs}
 use Rattle.format.specs.StepForms.{multipliers_within, pairs_in, card_variables, are_variables, operands_in_range, step_of, step_at}
 use Rattle.format.proofs.Fields.{length_u16s, length_pairs, length_form}
@@ -35,15 +35,15 @@ rule_in_range b u sum at m l e =
     )
 rule_in_range b u branch at m l e = length_form b (at + 4) (pairs_in m)
 rule_in_range b u apart at m l e = tt
-rule_in_range b u aConf at m l e = tt
-rule_in_range b u sConf at m l e = tt
-rule_in_range b u SepProp at m l e =
+rule_in_range b u a_conf at m l e = tt
+rule_in_range b u s_conf at m l e = tt
+rule_in_range b u s_prop at m l e =
     let (x, y) = below→ u.p (u16 b (at + 6) ∷ u16 b (at + 8) ∷ []) (and_both (leb (u16 b (at + 4)) 1) _ e).1 in (x, y.0)
-rule_in_range b u lIntro at m l e = (below→ u.p (u16 b (at + 4) ∷ []) e).0
-rule_in_range b u lValid at m l e = (below→ u.p (u16 b (at + 4) ∷ []) e).0
-rule_in_range b u cCollapse at m l e = (below→ u.p (u16 b (at + 4) ∷ []) e).0
-rule_in_range b u cValid at m l e = (below→ u.p (u16 b (at + 4) ∷ []) e).0
-rule_in_range b u cInj at m l e = let (x, y) = below→ u.p (u16 b (at + 4) ∷ u16 b (at + 6) ∷ []) e in (x, y.0)
+rule_in_range b u l_intro at m l e = (below→ u.p (u16 b (at + 4) ∷ []) e).0
+rule_in_range b u l_valid at m l e = (below→ u.p (u16 b (at + 4) ∷ []) e).0
+rule_in_range b u c_collapse at m l e = (below→ u.p (u16 b (at + 4) ∷ []) e).0
+rule_in_range b u c_valid at m l e = (below→ u.p (u16 b (at + 4) ∷ []) e).0
+rule_in_range b u c_inj at m l e = let (x, y) = below→ u.p (u16 b (at + 4) ∷ u16 b (at + 6) ∷ []) e in (x, y.0)
 rule_in_range b u card at m l e =
     let long : 8 ≤ m = at_least (form_for card) m l in
     (below→ u.p (card_variables b at m) e, subst (λ k. 2 ≤ k) (sym (length_u16s b (at + 4) ((m - 4) / 2))) (omega arith))

@@ -11,7 +11,7 @@ use Rattle.lists.proofs.Tests.{→true}
 use Rattle.lists.proofs.Below.{all_below→}
 use Rattle.calculus.specs.Steps.{Step, Sum, BranchOn, Apart, AConf, SConf, SProp, LIntro, LValid, CCollapse, CValid, CInj, Card, Join}
 use Rattle.format.specs.Fields.{bytes_of}
-use Rattle.format.specs.StepForms.{Rule, sum, branch, apart, aConf, sConf, SepProp, lIntro, lValid, cCollapse, cValid, cInj}
+use Rattle.format.specs.StepForms.{Rule, sum, branch, apart, a_conf, s_conf, s_prop, l_intro, l_valid, c_collapse, c_valid, c_inj}
 use Rattle.format.specs.StepForms.{card, join, unknown, rule_names, rule_of}
 use Rattle.format.specs.Written.{u16_bytes, pair_bytes, form_bytes, len_or_code, step_body, body_of}
 use Rattle.format.proofs.Encoded.{length_shorts}
@@ -22,14 +22,14 @@ abbrev pub rule_in : Step → Rule
 rule_in (Sum d ts) = sum
 rule_in (BranchOn e) = branch
 rule_in (Apart k) = apart
-rule_in (AConf k) = aConf
-rule_in SConf = sConf
-rule_in (SProp f x y) = SepProp
-rule_in (LIntro x) = lIntro
-rule_in (LValid x) = lValid
-rule_in (CCollapse x) = cCollapse
-rule_in (CValid x) = cValid
-rule_in (CInj x y) = cInj
+rule_in (AConf k) = a_conf
+rule_in SConf = s_conf
+rule_in (SProp f x y) = s_prop
+rule_in (LIntro x) = l_intro
+rule_in (LValid x) = l_valid
+rule_in (CCollapse x) = c_collapse
+rule_in (CValid x) = c_valid
+rule_in (CInj x y) = c_inj
 rule_in (Card xs) = card
 rule_in (Join j k) = join
 
@@ -38,14 +38,14 @@ number_of unknown = 0
 number_of sum = 1
 number_of branch = 2
 number_of apart = 3
-number_of aConf = 4
-number_of sConf = 5
-number_of SepProp = 6
-number_of lIntro = 7
-number_of lValid = 8
-number_of cCollapse = 9
-number_of cValid = 10
-number_of cInj = 11
+number_of a_conf = 4
+number_of s_conf = 5
+number_of s_prop = 6
+number_of l_intro = 7
+number_of l_valid = 8
+number_of c_collapse = 9
+number_of c_valid = 10
+number_of c_inj = 11
 number_of card = 12
 number_of join = 13
 
@@ -55,14 +55,14 @@ rule_numbered unknown = refl
 rule_numbered sum = refl
 rule_numbered branch = refl
 rule_numbered apart = refl
-rule_numbered aConf = refl
-rule_numbered sConf = refl
-rule_numbered SepProp = refl
-rule_numbered lIntro = refl
-rule_numbered lValid = refl
-rule_numbered cCollapse = refl
-rule_numbered cValid = refl
-rule_numbered cInj = refl
+rule_numbered a_conf = refl
+rule_numbered s_conf = refl
+rule_numbered s_prop = refl
+rule_numbered l_intro = refl
+rule_numbered l_valid = refl
+rule_numbered c_collapse = refl
+rule_numbered c_valid = refl
+rule_numbered c_inj = refl
 rule_numbered card = refl
 rule_numbered join = refl
 
@@ -80,14 +80,14 @@ number_short unknown = omega arith
 number_short sum = omega arith
 number_short branch = omega arith
 number_short apart = omega arith
-number_short aConf = omega arith
-number_short sConf = omega arith
-number_short SepProp = omega arith
-number_short lIntro = omega arith
-number_short lValid = omega arith
-number_short cCollapse = omega arith
-number_short cValid = omega arith
-number_short cInj = omega arith
+number_short a_conf = omega arith
+number_short s_conf = omega arith
+number_short s_prop = omega arith
+number_short l_intro = omega arith
+number_short l_valid = omega arith
+number_short c_collapse = omega arith
+number_short c_valid = omega arith
+number_short c_inj = omega arith
 number_short card = omega arith
 number_short join = omega arith
 

@@ -15,7 +15,7 @@ use Rattle.calculus.specs.Facts.{Question, Function, len, code, column_count}
 use Rattle.calculus.specs.Steps.{Step, Sum, BranchOn, Apart, AConf, SConf, SProp, LIntro, LValid, CCollapse, CValid, CInj, Card, Join}
 use Rattle.format.specs.Fields.{bytes_of, u16, u32, u16s, pairs_at, IsU16}
 use Rattle.format.specs.Records.{size, kind, next, whole}
-use Rattle.format.specs.StepForms.{sum, branch, sConf, SepProp}
+use Rattle.format.specs.StepForms.{sum, branch, s_conf, s_prop}
 use Rattle.format.specs.StepForms.{card, rule_of, Form, form, form_for, fits_form, rule, child_field, length_fits, pairs_in, sum_pairs}
 use Rattle.format.specs.StepForms.{multipliers_within, card_variables, function_of, are_variables, operands_in_range, step_of}
 use Rattle.format.specs.Question.{form_range, form_of}
@@ -166,7 +166,7 @@ module _ (b : List ℕ) (u : Question) (few : column_count u ≤ column_limit) (
       let second : u16 b (at + 8) ≡ y = short_at b (at + 4) vs rest 2 (at + 8) shorts s (omega arith) (omega arith) in
       record {
         short = omega (arith, size);
-        fitting = fits (form_for SepProp) m (omega (arith, size)) (omega (arith, size)) (omega (arith, size));
+        fitting = fits (form_for s_prop) m (omega (arith, size)) (omega (arith, size)) (omega (arith, size));
         is_in_range =
             ap₂ ◌&&◌ (ap (λ v. leb v 1) function ∙ le-leb (len_or_code f) 1 few-function)
             (variables_passes (u16 b (at + 6)) (u16 b (at + 8)) x y first second h k);
@@ -188,7 +188,7 @@ module _ (b : List ℕ) (u : Question) (few : column_count u ≤ column_limit) (
   operands_read (AConf k) h l s =
       let size = one_length k h l s in
       record { short = omega (arith, size); fitting = one_fits size; is_in_range = refl; reads = ap AConf (one_back k h l s) }
-  operands_read SConf h l s = record { short = omega arith; fitting = fits (form_for sConf) m (omega arith) (omega arith) (omega arith); is_in_range = refl; reads = refl }
+  operands_read SConf h l s = record { short = omega arith; fitting = fits (form_for s_conf) m (omega arith) (omega arith) (omega arith); is_in_range = refl; reads = refl }
   operands_read (SProp f x y) (h, k) l s = property_read f x y h k l s
   operands_read (LIntro x) h l s =
       let size = one_length x (variable_short x h) l s in

@@ -17,7 +17,7 @@ use Rattle.calculus.specs.Steps.{Step}
 use Rattle.format.specs.Fields.{bytes_of, u16, u32, u16s, pairs_at, pair_at, IsU16}
 use Rattle.format.specs.Records.{size, kind, next, whole}
 use Rattle.format.specs.Question.{form_of}
-use Rattle.format.specs.StepForms.{Rule, sum, branch, apart, aConf, sConf, SepProp, lIntro, lValid, cCollapse, cValid, cInj}
+use Rattle.format.specs.StepForms.{Rule, sum, branch, apart, a_conf, s_conf, s_prop, l_intro, l_valid, c_collapse, c_valid, c_inj}
 use Rattle.format.specs.StepForms.{card, join, unknown, Form, form, form_for, fits_form, rule, child_field, length_fits, pairs_in, sum_pairs}
 use Rattle.format.specs.StepForms.{multipliers_within, card_variables, function_of, are_variables, operands_in_range, step_of, step_at}
 use Rattle.format.specs.Reading.{step_with_child}
@@ -165,7 +165,7 @@ module _ (b : List ℕ) (bytes : Bytes b) (u : Question) (few : column_count u �
         written_as = w.stands ∙ ap (λ n. form_bytes g ++ drop n b) (let z : at + 4 + 4 + 6 * pairs_in m ≡ at + m = omega (arith, long) in z);
       }
 
-  property_written : fits_form (form_for SepProp) m ≡ true → operands_in_range b u.p (column_count u) SepProp at m ≡ true → OperandsWritten SepProp
+  property_written : fits_form (form_for s_prop) m ≡ true → operands_in_range b u.p (column_count u) s_prop at m ≡ true → OperandsWritten s_prop
   unfolding operands_in_range step_of OperandsInRange
   property_written l e =
       let long : m ≡ 10 = exactly 10 l in
@@ -206,26 +206,26 @@ module _ (b : List ℕ) (bytes : Bytes b) (u : Question) (few : column_count u �
   operands_written apart l e =
       let long = exactly 6 l in
       record { is_in_range = u16_below b bytes (at + 4); same_rule = refl; known = λ z. clash cc; as_long = one_long long; written_as = one_written long }
-  operands_written aConf l e =
+  operands_written a_conf l e =
       let long = exactly 6 l in
       record { is_in_range = u16_below b bytes (at + 4); same_rule = refl; known = λ z. clash cc; as_long = one_long long; written_as = one_written long }
-  operands_written sConf l e =
+  operands_written s_conf l e =
       let long = exactly 4 l in
       record { is_in_range = tt; same_rule = refl; known = λ z. clash cc; as_long = long; written_as = no_written long }
-  operands_written SepProp l e = property_written l e
-  operands_written lIntro l e =
+  operands_written s_prop l e = property_written l e
+  operands_written l_intro l e =
       let long = exactly 6 l in
       record { is_in_range = one_variable (u16 b (at + 4)) e; same_rule = refl; known = λ z. clash cc; as_long = one_long long; written_as = one_written long }
-  operands_written lValid l e =
+  operands_written l_valid l e =
       let long = exactly 6 l in
       record { is_in_range = one_variable (u16 b (at + 4)) e; same_rule = refl; known = λ z. clash cc; as_long = one_long long; written_as = one_written long }
-  operands_written cCollapse l e =
+  operands_written c_collapse l e =
       let long = exactly 6 l in
       record { is_in_range = one_variable (u16 b (at + 4)) e; same_rule = refl; known = λ z. clash cc; as_long = one_long long; written_as = one_written long }
-  operands_written cValid l e =
+  operands_written c_valid l e =
       let long = exactly 6 l in
       record { is_in_range = one_variable (u16 b (at + 4)) e; same_rule = refl; known = λ z. clash cc; as_long = one_long long; written_as = one_written long }
-  operands_written cInj l e =
+  operands_written c_inj l e =
       let long = exactly 8 l in
       record {
         is_in_range = two_variables (u16 b (at + 4)) (u16 b (at + 6)) e;

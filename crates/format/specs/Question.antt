@@ -5,7 +5,7 @@ use Rattle.calculus.specs.LinearForms.{zeros}
 use Rattle.calculus.specs.Facts.{Question, Fact, same, not_same, is_literal, arithmetic, Relation, ge, eq, ne, blank, column_count}
 use Rattle.calculus.specs.Alphabet.{all_characters}
 use Rattle.calculus.specs.Strings.{given}
-use Rattle.calculus.specs.Extended.{Extended, isUpper, isLower, is_value, isDecimal, inOrder}
+use Rattle.calculus.specs.Extended.{Extended, is_upper, is_lower, is_value, is_decimal, in_order}
 use Rattle.calculus.specs.Limits.{ticket_bytes, alphabet_limit, variable_limit, literal_limit, length_limit, column_limit, number_limit, fact_limit}
 use Rattle.format.specs.Fields.{u16, u32, i32, u32s, pairs_at, within}
 use Rattle.format.specs.Records.{size, kind, whole, records, need}
@@ -170,11 +170,11 @@ extended_fault b p q at m = three_fault (extended_range p q) b at m
 -- "0, string a is b in upper case ..; 1, string a is b in lower case; 2, integer a is b read in decimal ..; 3, string a is integer b in decimal ..; 4, string a
 -- is equal to or before string b"; any function past 4 is out of range
 abbrev pub extended_by : ℕ → ℕ → ℕ → Extended
-extended_by zero x y = isUpper x y
-extended_by (suc zero) x y = isLower x y
+extended_by zero x y = is_upper x y
+extended_by (suc zero) x y = is_lower x y
 extended_by (suc (suc zero)) x y = is_value x y
-extended_by (suc (suc (suc zero))) x y = isDecimal x y
-extended_by (suc (suc (suc (suc f)))) x y = inOrder x y
+extended_by (suc (suc (suc zero))) x y = is_decimal x y
+extended_by (suc (suc (suc (suc f)))) x y = in_order x y
 
 abbrev pub extended_of : List ℕ → ℕ → Extended
 extended_of b at = extended_by (u16 b at) (u16 b (at + 2)) (u16 b (at + 4))

@@ -10,13 +10,13 @@ use Rattle.format.specs.Question.{form_range, form_of}
 -- ---- rules by number
 
 pub data Rule : Type 0 where
-  sum branch apart aConf sConf SepProp lIntro lValid cCollapse cValid cInj card join : Rule
+  sum branch apart a_conf s_conf s_prop l_intro l_valid c_collapse c_valid c_inj card join : Rule
   -- every other number
   unknown : Rule
 
 abbrev pub rule_names : List Rule
 rule_names =
-    unknown ∷ sum ∷ branch ∷ apart ∷ aConf ∷ sConf ∷ SepProp ∷ lIntro ∷ lValid ∷ cCollapse ∷ cValid ∷ cInj ∷ card ∷ join ∷ []
+    unknown ∷ sum ∷ branch ∷ apart ∷ a_conf ∷ s_conf ∷ s_prop ∷ l_intro ∷ l_valid ∷ c_collapse ∷ c_valid ∷ c_inj ∷ card ∷ join ∷ []
 
 abbrev pub rule_of : ℕ → Rule
 rule_of k = get_or rule_names k unknown
@@ -40,17 +40,17 @@ form_for branch = form 8 6 column_limit
 -- "a fact e ≠ 0"
 form_for apart = form 6 1 0
 -- "an arithmetic fact"
-form_for aConf = form 6 1 0
+form_for a_conf = form 6 1 0
 -- "no operand"
-form_for sConf = form 4 1 0
+form_for s_conf = form 4 1 0
 -- "function (0 len, 1 code), different variables x, y"
-form_for SepProp = form 10 1 0
-form_for lIntro = form 6 1 0
-form_for lValid = form 6 1 0
-form_for cCollapse = form 6 1 0
-form_for cValid = form 6 1 0
+form_for s_prop = form 10 1 0
+form_for l_intro = form 6 1 0
+form_for l_valid = form 6 1 0
+form_for c_collapse = form 6 1 0
+form_for c_valid = form 6 1 0
 -- "different x, y"
-form_for cInj = form 8 1 0
+form_for c_inj = form 8 1 0
 -- "2 to 16 different variables"
 form_for card = form 8 2 (variable_limit - 2)
 -- two facts
@@ -103,14 +103,14 @@ unfoldable pub operands_in_range : List ℕ → ℕ → ℕ → Rule → ℕ →
 operands_in_range b p c sum at m = leb 1 (u32 b (at + 4)) && (leb (u32 b (at + 4)) 2147483647 && multipliers_within (sum_pairs b at m))
 operands_in_range b p c branch at m = form_range b c (at + 4) (pairs_in m)
 operands_in_range b p c apart at m = true
-operands_in_range b p c aConf at m = true
-operands_in_range b p c sConf at m = true
-operands_in_range b p c SepProp at m = leb (u16 b (at + 4)) 1 && are_variables p (u16 b (at + 6) ∷ u16 b (at + 8) ∷ [])
-operands_in_range b p c lIntro at m = are_variables p (u16 b (at + 4) ∷ [])
-operands_in_range b p c lValid at m = are_variables p (u16 b (at + 4) ∷ [])
-operands_in_range b p c cCollapse at m = are_variables p (u16 b (at + 4) ∷ [])
-operands_in_range b p c cValid at m = are_variables p (u16 b (at + 4) ∷ [])
-operands_in_range b p c cInj at m = are_variables p (u16 b (at + 4) ∷ u16 b (at + 6) ∷ [])
+operands_in_range b p c a_conf at m = true
+operands_in_range b p c s_conf at m = true
+operands_in_range b p c s_prop at m = leb (u16 b (at + 4)) 1 && are_variables p (u16 b (at + 6) ∷ u16 b (at + 8) ∷ [])
+operands_in_range b p c l_intro at m = are_variables p (u16 b (at + 4) ∷ [])
+operands_in_range b p c l_valid at m = are_variables p (u16 b (at + 4) ∷ [])
+operands_in_range b p c c_collapse at m = are_variables p (u16 b (at + 4) ∷ [])
+operands_in_range b p c c_valid at m = are_variables p (u16 b (at + 4) ∷ [])
+operands_in_range b p c c_inj at m = are_variables p (u16 b (at + 4) ∷ u16 b (at + 6) ∷ [])
 operands_in_range b p c card at m = are_variables p (card_variables b at m)
 operands_in_range b p c join at m = true
 operands_in_range b p c unknown at m = false
@@ -120,14 +120,14 @@ unfoldable pub step_of : List ℕ → Rule → ℕ → ℕ → Step
 step_of b sum at m = Sum (u32 b (at + 4)) (sum_pairs b at m)
 step_of b branch at m = BranchOn (form_of b (at + 4) (pairs_in m))
 step_of b apart at m = Apart (u16 b (at + 4))
-step_of b aConf at m = AConf (u16 b (at + 4))
-step_of b sConf at m = SConf
-step_of b SepProp at m = SProp (function_of (u16 b (at + 4))) (u16 b (at + 6)) (u16 b (at + 8))
-step_of b lIntro at m = LIntro (u16 b (at + 4))
-step_of b lValid at m = LValid (u16 b (at + 4))
-step_of b cCollapse at m = CCollapse (u16 b (at + 4))
-step_of b cValid at m = CValid (u16 b (at + 4))
-step_of b cInj at m = CInj (u16 b (at + 4)) (u16 b (at + 6))
+step_of b a_conf at m = AConf (u16 b (at + 4))
+step_of b s_conf at m = SConf
+step_of b s_prop at m = SProp (function_of (u16 b (at + 4))) (u16 b (at + 6)) (u16 b (at + 8))
+step_of b l_intro at m = LIntro (u16 b (at + 4))
+step_of b l_valid at m = LValid (u16 b (at + 4))
+step_of b c_collapse at m = CCollapse (u16 b (at + 4))
+step_of b c_valid at m = CValid (u16 b (at + 4))
+step_of b c_inj at m = CInj (u16 b (at + 4)) (u16 b (at + 6))
 step_of b card at m = Card (card_variables b at m)
 step_of b join at m = Join (u16 b (at + 4)) (u16 b (at + 6))
 step_of b unknown at m = SConf

@@ -17,7 +17,7 @@ use Rattle.calculus.specs.Facts.{Fact, is_literal, arithmetic, ge}
 use Rattle.calculus.specs.Children.{l_valid_children, c_valid_children, c_inj_children, pair_children_with, pair_children}
 use Rattle.calculus.specs.Rules.{least_power, last_child}
 use Rattle.format.specs.Fields.{u16, u16s, within, all_within}
-use Rattle.format.specs.StepForms.{lValid, cValid, cInj, card, rule}
+use Rattle.format.specs.StepForms.{l_valid, c_valid, c_inj, card, rule}
 use Rattle.format.specs.Checking.{fits, or_none, child_in, fact_within, facts_within, children_within}
 use Rattle.rows.proofs.Small.{within_single, within_difference}
 use Rattle.rows.proofs.Forms.{above_form, below_form, above_column, minus_number, columns_difference}
@@ -151,21 +151,21 @@ module _ {b : List ℕ} {s : Progress} {body m : ℕ} {w : List ℤ} {count : �
       → children_within (or_none (given h)) ≡ true
   of cs e t = ap (λ (o : Option (List (List Fact))). children_within (or_none o)) e ∙ t
 
-  l_valid_small : lValid ≡ rule b body → children_within (or_none (given h)) ≡ true
+  l_valid_small : l_valid ≡ rule b body → children_within (or_none (given h)) ≡ true
   l_valid_small e =
       let few = h.posed.stands.few_strings in
       let fewer = h.posed.stands.few_integers in
       let l : u16 b (body + 4) < s.p = (l_valid_variable h e).1 in
       of _ (l_valid_child h e) (l_valid_within s (u16 b (body + 4)) (omega arith))
 
-  c_valid_small : cValid ≡ rule b body → children_within (or_none (given h)) ≡ true
+  c_valid_small : c_valid ≡ rule b body → children_within (or_none (given h)) ≡ true
   c_valid_small e =
       let few = h.posed.stands.few_strings in
       let fewer = h.posed.stands.few_integers in
       let l : u16 b (body + 4) < s.p = (c_valid_variable h e).1 in
       of _ (c_valid_child h e) (c_valid_within s (u16 b (body + 4)) (omega arith) (omega arith) h.posed.stands.few_characters)
 
-  c_inj_small : cInj ≡ rule b body → children_within (or_none (given h)) ≡ true
+  c_inj_small : c_inj ≡ rule b body → children_within (or_none (given h)) ≡ true
   c_inj_small e =
       let few = h.posed.stands.few_strings in
       let fewer = h.posed.stands.few_integers in

@@ -17,7 +17,7 @@ use Rattle.calculus.specs.Rules.{guard, distinct, neighbours, same_length, last_
 use Rattle.format.specs.Fields.{u16, u16s, i32, pairs_at, within}
 use Rattle.format.specs.Question.{rising, form_range, form_of}
 use Rattle.format.specs.Checking.{fits}
-use Rattle.format.specs.StepForms.{Rule, branch, apart, lValid, cValid, cInj, card, rule, operands_in_range, step_of}
+use Rattle.format.specs.StepForms.{Rule, branch, apart, l_valid, c_valid, c_inj, card, rule, operands_in_range, step_of}
 use Rattle.format.proofs.Decoded.{below→}
 use Rattle.constraints.proofs.Ranges.{form_rises}
 use Rattle.question.specs.declared.Progress.{Progress}
@@ -79,12 +79,12 @@ module _ {b : List ℕ} {s : Progress} {body m : ℕ} {w : List ℤ} {count : �
       let whole = h.formed.within in omega arith
 
   -- C-Inj: the variables
-  pub c_inj_operands : cInj ≡ rule b body → (body + 6 + 2 ≤ length b) × (u16 b (body + 4) < s.p) × (u16 b (body + 6) < s.p)
+  pub c_inj_operands : c_inj ≡ rule b body → (body + 6 + 2 ≤ length b) × (u16 b (body + 4) < s.p) × (u16 b (body + 6) < s.p)
   unfolding operands_in_range
   c_inj_operands e =
-      let l : 8 ≤ m = long h cInj e in
+      let l : 8 ≤ m = long h c_inj e in
       let whole = h.formed.within in
-      let (x, (y, _)) = below→ s.p (u16 b (body + 4) ∷ u16 b (body + 6) ∷ []) (ranged h cInj e) in
+      let (x, (y, _)) = below→ s.p (u16 b (body + 4) ∷ u16 b (body + 6) ∷ []) (ranged h c_inj e) in
       (omega arith, x, y)
 
   -- ---- the children of each rule, where the step fits
@@ -96,13 +96,13 @@ module _ {b : List ℕ} {s : Progress} {body m : ℕ} {w : List ℤ} {count : �
   unfolding step_of asked
   branch_child e = by branch e
 
-  pub l_valid_child : lValid ≡ rule b body → given h ≡ some (l_valid_children (numbered s) (u16 b (body + 4)))
+  pub l_valid_child : l_valid ≡ rule b body → given h ≡ some (l_valid_children (numbered s) (u16 b (body + 4)))
   unfolding step_of asked
-  l_valid_child e = by lValid e
+  l_valid_child e = by l_valid e
 
-  pub c_valid_child : cValid ≡ rule b body → given h ≡ some (c_valid_children (numbered s) (u16 b (body + 4)))
+  pub c_valid_child : c_valid ≡ rule b body → given h ≡ some (c_valid_children (numbered s) (u16 b (body + 4)))
   unfolding step_of asked
-  c_valid_child e = by cValid e
+  c_valid_child e = by c_valid e
 
   module _ (f : fits (given h) ≡ true) where
     fits_by_rule : (r : Rule) → r ≡ rule b body → fits (children (asked b s) (before h) (step_of b r body m)) ≡ true
@@ -116,20 +116,20 @@ module _ {b : List ℕ} {s : Progress} {body m : ℕ} {w : List ℤ} {count : �
     unfolding step_of asked
     apart_child e = by apart e ∙ parted_is w count (u16 b (body + 4)) (apart_fact e).0 (apart_fact e).1
 
-    differ : cInj ≡ rule b body
+    differ : c_inj ≡ rule b body
         → fits (guard (not (eqb (u16 b (body + 4)) (u16 b (body + 6)))) (c_inj_children (numbered s) (u16 b (body + 4)) (u16 b (body + 6)))) ≡ true
     unfolding step_of asked
-    differ e = fits_by_rule cInj e
+    differ e = fits_by_rule c_inj e
 
-    pub c_inj_differ : cInj ≡ rule b body → u16 b (body + 4) ≡ u16 b (body + 6) → ⊥
+    pub c_inj_differ : c_inj ≡ rule b body → u16 b (body + 4) ≡ u16 b (body + 6) → ⊥
     c_inj_differ e =
         eqb-false (u16 b (body + 4)) (u16 b (body + 6)) (not-true _
         (sym (guard_fits (not (eqb (u16 b (body + 4)) (u16 b (body + 6)))) (c_inj_children (numbered s) (u16 b (body + 4)) (u16 b (body + 6)))) ∙ differ e))
 
-    pub c_inj_child : cInj ≡ rule b body → given h ≡ some (c_inj_children (numbered s) (u16 b (body + 4)) (u16 b (body + 6)))
+    pub c_inj_child : c_inj ≡ rule b body → given h ≡ some (c_inj_children (numbered s) (u16 b (body + 4)) (u16 b (body + 6)))
     unfolding step_of asked
     c_inj_child e =
-        by cInj e ∙ guard_given (not (eqb (u16 b (body + 4)) (u16 b (body + 6)))) (c_inj_children (numbered s) (u16 b (body + 4)) (u16 b (body + 6))) (differ e)
+        by c_inj e ∙ guard_given (not (eqb (u16 b (body + 4)) (u16 b (body + 6)))) (c_inj_children (numbered s) (u16 b (body + 4)) (u16 b (body + 6))) (differ e)
 
     pub card_child : card ≡ rule b body
         → given h ≡ some (pair_children (u16s b (body + 4) ((m - 4) / 2)) (last_child (numbered s) (u16 b (body + 4)) ((m - 4) / 2)))

@@ -10,7 +10,7 @@ use lib.IntN.{ℤ}
 use Rattle.calculus.specs.Facts.{Fact, Branch}
 use Rattle.calculus.specs.Steps.{shape}
 use Rattle.format.specs.Fields.{u16}
-use Rattle.format.specs.StepForms.{Rule, lIntro, lValid, cCollapse, cValid, unknown, form_for, fits_form, rule, are_variables, operands_in_range, step_of, step_at}
+use Rattle.format.specs.StepForms.{Rule, l_intro, l_valid, c_collapse, c_valid, unknown, form_for, fits_form, rule, are_variables, operands_in_range, step_of, step_at}
 use Rattle.format.proofs.Faults.{not_both}
 use Rattle.format.proofs.Decoded.{at_least, below→}
 use Rattle.question.specs.declared.Progress.{Progress}
@@ -54,21 +54,21 @@ module _ {b : List ℕ} {s : Progress} {body m : ℕ} {w : List ℤ} {count : �
   one_variable : 6 ≤ m → are_variables s.p (u16 b (body + 4) ∷ []) ≡ true → Variable
   one_variable l e = let within = h.formed.within in (omega arith, (below→ s.p (u16 b (body + 4) ∷ []) e).0)
 
-  pub l_intro_variable : lIntro ≡ rule b body → Variable
+  pub l_intro_variable : l_intro ≡ rule b body → Variable
   unfolding operands_in_range
-  l_intro_variable e = one_variable (long lIntro e) (ranged lIntro e)
+  l_intro_variable e = one_variable (long l_intro e) (ranged l_intro e)
 
-  pub l_valid_variable : lValid ≡ rule b body → Variable
+  pub l_valid_variable : l_valid ≡ rule b body → Variable
   unfolding operands_in_range
-  l_valid_variable e = one_variable (long lValid e) (ranged lValid e)
+  l_valid_variable e = one_variable (long l_valid e) (ranged l_valid e)
 
-  pub c_collapse_variable : cCollapse ≡ rule b body → Variable
+  pub c_collapse_variable : c_collapse ≡ rule b body → Variable
   unfolding operands_in_range
-  c_collapse_variable e = one_variable (long cCollapse e) (ranged cCollapse e)
+  c_collapse_variable e = one_variable (long c_collapse e) (ranged c_collapse e)
 
-  pub c_valid_variable : cValid ≡ rule b body → Variable
+  pub c_valid_variable : c_valid ≡ rule b body → Variable
   unfolding operands_in_range
-  c_valid_variable e = one_variable (long cValid e) (ranged cValid e)
+  c_valid_variable e = one_variable (long c_valid e) (ranged c_valid e)
 
   -- an unknown rule's operands are out of range
   pub not_unknown : unknown ≡ rule b body → ⊥

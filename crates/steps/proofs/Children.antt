@@ -13,7 +13,7 @@ use Rattle.lists.proofs.Lists.{down}
 use Rattle.calculus.specs.Alphabet.{character_count}
 use Rattle.calculus.proofs.Alphabet.{ranges_are}
 use Rattle.calculus.specs.Steps.{pair_count, last_count, shape}
-use Rattle.format.specs.StepForms.{Rule, sum, branch, apart, aConf, sConf, SepProp, lIntro, lValid, cCollapse, cValid, cInj, card}
+use Rattle.format.specs.StepForms.{Rule, sum, branch, apart, a_conf, s_conf, s_prop, l_intro, l_valid, c_collapse, c_valid, c_inj, card}
 use Rattle.format.specs.StepForms.{join, unknown, form_for, fits_form, rule, length_fits, card_variables, step_of, step_at, is_child}
 use Rattle.format.proofs.Fields.{length_u16s}
 use Rattle.format.proofs.Faults.{not_both}
@@ -66,7 +66,7 @@ card_count b n body m =
     ∙ ap (λ k. pair_count k + last_count (character_count n)) (length_u16s b (body + 4) ((m - 4) / 2))
 
 -- C-Valid's first child adds two facts, its second three
-pub c_valid_shape : (b : List ℕ) (n body m : ℕ) → shape n (step_of b cValid body m) ≡ 2 ∷ 3 ∷ []
+pub c_valid_shape : (b : List ℕ) (n body m : ℕ) → shape n (step_of b c_valid body m) ≡ 2 ∷ 3 ∷ []
 unfolding shape step_of
 c_valid_shape b n body m = ap (λ (rs : List (ℕ × ℕ)). 2 ∷ map (λ r. 3) rs) (ranges_are n)
 
@@ -91,14 +91,14 @@ module _ (b : List ℕ) (n body m : ℕ) where
   few_by sum f = omega arith
   few_by branch f = omega arith
   few_by apart f = omega arith
-  few_by aConf f = omega arith
-  few_by sConf f = omega arith
-  few_by SepProp f = omega arith
-  few_by lIntro f = omega arith
-  few_by lValid f = omega arith
-  few_by cCollapse f = omega arith
-  few_by cValid f = let two = ap length (c_valid_shape b n body m) in omega arith
-  few_by cInj f = omega arith
+  few_by a_conf f = omega arith
+  few_by s_conf f = omega arith
+  few_by s_prop f = omega arith
+  few_by l_intro f = omega arith
+  few_by l_valid f = omega arith
+  few_by c_collapse f = omega arith
+  few_by c_valid f = let two = ap length (c_valid_shape b n body m) in omega arith
+  few_by c_inj f = omega arith
   few_by card f = card_few b n body m f
   few_by join f = omega arith
   few_by unknown f = omega arith
@@ -124,14 +124,14 @@ module _ (b : List ℕ) (n body m : ℕ) where
   one_each_law sum e = (refl, tt)
   one_each_law branch e = (refl, (refl, tt))
   one_each_law apart e = (refl, (refl, tt))
-  one_each_law aConf e = tt
-  one_each_law sConf e = tt
-  one_each_law SepProp e = (refl, tt)
-  one_each_law lIntro e = (refl, tt)
-  one_each_law lValid e = (refl, (refl, tt))
-  one_each_law cCollapse e = (refl, tt)
-  one_each_law cValid e = absurd (not_both false e refl)
-  one_each_law cInj e = (refl, (refl, (refl, tt)))
+  one_each_law a_conf e = tt
+  one_each_law s_conf e = tt
+  one_each_law s_prop e = (refl, tt)
+  one_each_law l_intro e = (refl, tt)
+  one_each_law l_valid e = (refl, (refl, tt))
+  one_each_law c_collapse e = (refl, tt)
+  one_each_law c_valid e = absurd (not_both false e refl)
+  one_each_law c_inj e = (refl, (refl, (refl, tt)))
   one_each_law card e = ones (pair_count (length (card_variables b body m)) + last_count (character_count n))
   one_each_law join e = (refl, tt)
   one_each_law unknown e = tt
@@ -140,10 +140,10 @@ module _ (b : List ℕ) (n body m : ℕ) where
     pub adds_one : one_each r ≡ true → 1 ≤ k → k ≤ length (shape n (step_of b r body m)) → 1 ≡ get_or (shape n (step_of b r body m)) (k - 1) 0
     adds_one e l h = one_at (shape n (step_of b r body m)) (k - 1) (one_each_law r e) (omega arith)
 
-    pub adds_two : r ≡ cValid → k ≡ 1 → 2 ≡ get_or (shape n (step_of b r body m)) (k - 1) 0
+    pub adds_two : r ≡ c_valid → k ≡ 1 → 2 ≡ get_or (shape n (step_of b r body m)) (k - 1) 0
     adds_two f g = rw (f, c_valid_shape b n body m, g)
 
-    pub adds_three : r ≡ cValid → (k ≡ 1 → ⊥) → 1 ≤ k → k ≤ length (shape n (step_of b r body m)) → 3 ≡ get_or (shape n (step_of b r body m)) (k - 1) 0
+    pub adds_three : r ≡ c_valid → (k ≡ 1 → ⊥) → 1 ≤ k → k ≤ length (shape n (step_of b r body m)) → 3 ≡ get_or (shape n (step_of b r body m)) (k - 1) 0
     adds_three f g l h =
         let two : k ≤ 2 = rw (f, c_valid_shape b n body m) at h in
         let second : k ≡ 2 = omega arith in

@@ -9,7 +9,7 @@ use lib.Dec.{leb}
 use borrow.Author.Tests.{leb-true}
 use Rattle.lists.proofs.Tests.{and_both}
 use Rattle.calculus.specs.Steps.{shape, pair_count}
-use Rattle.format.specs.StepForms.{Rule, sum, branch, apart, aConf, sConf, SepProp, lIntro, lValid, cCollapse, cValid, cInj}
+use Rattle.format.specs.StepForms.{Rule, sum, branch, apart, a_conf, s_conf, s_prop, l_intro, l_valid, c_collapse, c_valid, c_inj}
 use Rattle.format.specs.StepForms.{card, join, unknown, form_for, fits_form, rule, length_fits, step_of, step_at, is_child}
 use Rattle.format.proofs.Faults.{clash}
 use Rattle.format.proofs.Decoded.{at_least}
@@ -23,14 +23,14 @@ pub six_bytes : (r : Rule) → conclusions_of r ≡ One → 6 ≤ (form_for r).l
 six_bytes sum e = omega arith
 six_bytes branch e = clash cc
 six_bytes apart e = clash cc
-six_bytes aConf e = clash cc
-six_bytes sConf e = clash cc
-six_bytes SepProp e = omega arith
-six_bytes lIntro e = omega arith
-six_bytes lValid e = clash cc
-six_bytes cCollapse e = omega arith
-six_bytes cValid e = clash cc
-six_bytes cInj e = clash cc
+six_bytes a_conf e = clash cc
+six_bytes s_conf e = clash cc
+six_bytes s_prop e = omega arith
+six_bytes l_intro e = omega arith
+six_bytes l_valid e = clash cc
+six_bytes c_collapse e = omega arith
+six_bytes c_valid e = clash cc
+six_bytes c_inj e = clash cc
 six_bytes card e = clash cc
 six_bytes join e = omega arith
 six_bytes unknown e = clash cc
@@ -53,14 +53,14 @@ module _ (b : List ℕ) (n body m : ℕ) where
   by_rule sum f = refl
   by_rule branch f = omega arith
   by_rule apart f = omega arith
-  by_rule aConf f = refl
-  by_rule sConf f = refl
-  by_rule SepProp f = refl
-  by_rule lIntro f = refl
-  by_rule lValid f = omega arith
-  by_rule cCollapse f = refl
-  by_rule cValid f = omega arith
-  by_rule cInj f = omega arith
+  by_rule a_conf f = refl
+  by_rule s_conf f = refl
+  by_rule s_prop f = refl
+  by_rule l_intro f = refl
+  by_rule l_valid f = omega arith
+  by_rule c_collapse f = refl
+  by_rule c_valid f = omega arith
+  by_rule c_inj f = omega arith
   by_rule card f =
       let long = at_least (form_for card) m f in
       omega (arith, card_count b n body m, some_pair ((m - 4) / 2) (omega arith))

@@ -8,8 +8,8 @@ use mathlib.Core.Bool.{false, ◌&&◌, and-true}
 use lib.Dec.{leb, eqb}
 use borrow.Author.Tests.{eq-eqb, ne_eqb, le-leb, lt-leb}
 use Rattle.calculus.specs.Limits.{ticket_bytes}
-use Rattle.format.specs.StepForms.{Rule, sum, branch, apart, aConf, sConf, SepProp, lIntro, lValid, cCollapse, cValid}
-use Rattle.format.specs.StepForms.{cInj, card, join, unknown, rule_of, form, form_for, fits_form}
+use Rattle.format.specs.StepForms.{Rule, sum, branch, apart, a_conf, s_conf, s_prop, l_intro, l_valid, c_collapse, c_valid}
+use Rattle.format.specs.StepForms.{c_inj, card, join, unknown, rule_of, form, form_for, fits_form}
 use Rattle.steps.specs.Lengths.{fits_rule, body_limit, worked_out}
 use Rattle.steps.proofs.Table.{too_many}
 
@@ -31,14 +31,14 @@ too_long : (m : ℕ) → body_limit < m → (r : Rule) → fits_form (form_for r
 too_long m h sum = too_many (form_for sum) m (omega arith)
 too_long m h branch = too_many (form_for branch) m (omega arith)
 too_long m h apart = too_many (form_for apart) m (omega arith)
-too_long m h aConf = too_many (form_for aConf) m (omega arith)
-too_long m h sConf = too_many (form_for sConf) m (omega arith)
-too_long m h SepProp = too_many (form_for SepProp) m (omega arith)
-too_long m h lIntro = too_many (form_for lIntro) m (omega arith)
-too_long m h lValid = too_many (form_for lValid) m (omega arith)
-too_long m h cCollapse = too_many (form_for cCollapse) m (omega arith)
-too_long m h cValid = too_many (form_for cValid) m (omega arith)
-too_long m h cInj = too_many (form_for cInj) m (omega arith)
+too_long m h a_conf = too_many (form_for a_conf) m (omega arith)
+too_long m h s_conf = too_many (form_for s_conf) m (omega arith)
+too_long m h s_prop = too_many (form_for s_prop) m (omega arith)
+too_long m h l_intro = too_many (form_for l_intro) m (omega arith)
+too_long m h l_valid = too_many (form_for l_valid) m (omega arith)
+too_long m h c_collapse = too_many (form_for c_collapse) m (omega arith)
+too_long m h c_valid = too_many (form_for c_valid) m (omega arith)
+too_long m h c_inj = too_many (form_for c_inj) m (omega arith)
 too_long m h card = too_many (form_for card) m (omega arith)
 too_long m h join = too_many (form_for join) m (omega arith)
 too_long m h unknown = too_many (form_for unknown) m (omega arith)
@@ -48,14 +48,14 @@ by_rule : (m : ℕ) → m ≤ body_limit → (r : Rule) → fits_rule r m ≡ fi
 by_rule m h sum = refl
 by_rule m h branch = refl
 by_rule m h apart = one_length 6 m
-by_rule m h aConf = one_length 6 m
-by_rule m h sConf = one_length 4 m
-by_rule m h SepProp = one_length 10 m
-by_rule m h lIntro = one_length 6 m
-by_rule m h lValid = one_length 6 m
-by_rule m h cCollapse = one_length 6 m
-by_rule m h cValid = one_length 6 m
-by_rule m h cInj = one_length 8 m
+by_rule m h a_conf = one_length 6 m
+by_rule m h s_conf = one_length 4 m
+by_rule m h s_prop = one_length 10 m
+by_rule m h l_intro = one_length 6 m
+by_rule m h l_valid = one_length 6 m
+by_rule m h c_collapse = one_length 6 m
+by_rule m h c_valid = one_length 6 m
+by_rule m h c_inj = one_length 8 m
 by_rule m h card = refl
 by_rule m h join = one_length 8 m
 by_rule m h unknown = sym (and-true (leb 4 m)) ∙ rw (le-leb (m - 4) ticket_bytes (omega arith)) at (stride_one 4 ticket_bytes m)

@@ -7,8 +7,8 @@ use mathlib.Core.List.{List}
 use lib.Dec.{leb, eqb}
 use borrow.Author.Tests.{leb-true, lt-leb}
 use Rattle.lists.proofs.Tests.{and_both}
-use Rattle.format.specs.StepForms.{Rule, sum, branch, apart, aConf, sConf, SepProp, lIntro, lValid, cCollapse, cValid}
-use Rattle.format.specs.StepForms.{cInj, card, join, unknown, Form, form_for, fits_form, rule, length_fits}
+use Rattle.format.specs.StepForms.{Rule, sum, branch, apart, a_conf, s_conf, s_prop, l_intro, l_valid, c_collapse, c_valid}
+use Rattle.format.specs.StepForms.{c_inj, card, join, unknown, Form, form_for, fits_form, rule, length_fits}
 
 -- a length that fits is at most so many strides over the least
 pub at_most : (f : Form) (m : ℕ) → fits_form f m ≡ true → (m - f.least) / f.stride ≤ f.greatest
@@ -27,14 +27,14 @@ pub least_four : (r : Rule) → 4 ≤ (form_for r).least
 least_four sum = omega arith
 least_four branch = omega arith
 least_four apart = omega arith
-least_four aConf = omega arith
-least_four sConf = omega arith
-least_four SepProp = omega arith
-least_four lIntro = omega arith
-least_four lValid = omega arith
-least_four cCollapse = omega arith
-least_four cValid = omega arith
-least_four cInj = omega arith
+least_four a_conf = omega arith
+least_four s_conf = omega arith
+least_four s_prop = omega arith
+least_four l_intro = omega arith
+least_four l_valid = omega arith
+least_four c_collapse = omega arith
+least_four c_valid = omega arith
+least_four c_inj = omega arith
 least_four card = omega arith
 least_four join = omega arith
 least_four unknown = omega arith

@@ -1,5 +1,5 @@
 -- How many conclusions a rule has: "a rule with one conclusion or none", and the rules that split a branch.
-use Rattle.format.specs.StepForms.{Rule, sum, branch, apart, aConf, sConf, SepProp, lIntro, lValid, cCollapse, cValid, cInj, card, join, unknown}
+use Rattle.format.specs.StepForms.{Rule, sum, branch, apart, a_conf, s_conf, s_prop, l_intro, l_valid, c_collapse, c_valid, c_inj, card, join, unknown}
 use Rattle.steps.specs.declared.Conclusions.{Conclusions}
 use Rattle.steps.specs.declared.Conclusions.TheVariants.{Nothing, One, Several}
 
@@ -8,14 +8,14 @@ abbrev pub conclusions_of : Rule → Conclusions
 conclusions_of sum = One
 conclusions_of branch = Several
 conclusions_of apart = Several
-conclusions_of aConf = Nothing
-conclusions_of sConf = Nothing
-conclusions_of SepProp = One
-conclusions_of lIntro = One
-conclusions_of lValid = Several
-conclusions_of cCollapse = One
-conclusions_of cValid = Several
-conclusions_of cInj = Several
+conclusions_of a_conf = Nothing
+conclusions_of s_conf = Nothing
+conclusions_of s_prop = One
+conclusions_of l_intro = One
+conclusions_of l_valid = Several
+conclusions_of c_collapse = One
+conclusions_of c_valid = Several
+conclusions_of c_inj = Several
 conclusions_of card = Several
 conclusions_of join = One
 conclusions_of unknown = Nothing

@@ -182,7 +182,7 @@ fn variables_below(b: &[u8], p: usize, at: usize, count: usize) -> bool
 // S-Prop: "function (0 len, 1 code), different variables x, y".
 fn s_prop_in_range(b: &[u8], p: usize, body: usize) -> bool
     requires { body + 10 ≤ length b.now }
-    ensures { (c m : ℕ) → result ≡ operands_in_range b.now p c forms.SepProp body m }
+    ensures { (c m : ℕ) → result ≡ operands_in_range b.now p c forms.s_prop body m }
 {
     if CODE < u16_at(b, body + OPERANDS) {
         return false;

@@ -6,7 +6,7 @@ use mathlib.Core.Path.{◌∙◌, ap, refl, sym}
 use native.Mathlib.Omega.{arith}
 use Rattle.calculus.specs.Rules.{children}
 use Rattle.calculus.specs.Steps.{AConf}
-use Rattle.format.specs.StepForms.{aConf, sConf, step_of}
+use Rattle.format.specs.StepForms.{a_conf, s_conf, step_of}
 use Rattle.question.proofs.Posed.{literal_count}
 use Rattle.question.specs.Posed.{asked}
 use Rattle.rows.specs.Rows.{branch_of}
@@ -26,7 +26,7 @@ add-u16-at c = search rules
 u16-at-requires : tie.Need-u16-at-requires
 u16-at-requires c κs =
     let s = c.before.before.before in
-    let long : 6 ≤ s.args.size = long s.requires.0.ready aConf (is_rule s.requires.0 _ c.enum_told.given.1) in
+    let long : 6 ≤ s.args.size = long s.requires.0.ready a_conf (is_rule s.requires.0 _ c.enum_told.given.1) in
     omega (arith, s.requires.0.ready.formed.within)
 
 a-conf-requires : tie.Need-a-conf-requires
@@ -54,7 +54,7 @@ returns c =
     let br = branch_of a.work.now a.count in
     c.a-conf.ensures u
     ∙ ap (λ (k : ℕ). children u br (AConf k)) c.before.u16-at.ensures.0
-    ∙ sym (offered_by b u br a.body a.size aConf (is_rule s.requires.0 _ c.before.before.enum_told.given.1))
+    ∙ sym (offered_by b u br a.body a.size a_conf (is_rule s.requires.0 _ c.before.before.enum_told.given.1))
 
 returns-2 : tie.Need-returns-2
 unfolding step_of
@@ -64,7 +64,7 @@ returns-2 c =
     let b = a.ticket.now in
     let u = asked b a.s in
     c.s-conf.ensures u (literal_count b a.s)
-    ∙ sym (offered_by b u (branch_of a.work.now a.count) a.body a.size sConf (is_rule s.requires.0 _ c.before.enum-told2.given.1))
+    ∙ sym (offered_by b u (branch_of a.work.now a.count) a.body a.size s_conf (is_rule s.requires.0 _ c.before.enum-told2.given.1))
 
 returns-3 : tie.Need-returns-3
 returns-3 c = let s = c.before.before in absurd (not_closing (0 ∷ 5 ∷ 6 ∷ 8 ∷ 12 ∷ []) s.args.rule tt c.match.keys3 s.requires.0.concludes)

@@ -7,7 +7,7 @@ use native.Mathlib.Omega.{arith}
 use Rattle.calculus.specs.Rules.{children, literal_children}
 use Rattle.calculus.specs.Steps.{SProp, Join}
 use Rattle.format.specs.Fields.{u16}
-use Rattle.format.specs.StepForms.{sum, SepProp, lIntro, cCollapse, join, function_of, operands_in_range, step_of}
+use Rattle.format.specs.StepForms.{sum, s_prop, l_intro, c_collapse, join, function_of, operands_in_range, step_of}
 use Rattle.question.specs.Posed.{asked}
 use Rattle.rows.specs.Rows.{branch_of}
 use Rattle.steps.specs.Rules.{rule_named}
@@ -51,7 +51,7 @@ add-u16-at-2 c = search rules
 u16-at-requires-2 : tie.Need-u16-at-requires-2
 u16-at-requires-2 c κs =
     let s = c.before.before.before.before in
-    let long : 10 ≤ s.args.size = long s.requires.0.ready SepProp (is_rule s.requires.0 _ c.enum-told2.given.1) in
+    let long : 10 ≤ s.args.size = long s.requires.0.ready s_prop (is_rule s.requires.0 _ c.enum-told2.given.1) in
     omega (arith, s.requires.0.ready.formed.within)
 
 add-u16-at-3 : tie.Need-overflow-add-u16-at-3
@@ -60,7 +60,7 @@ add-u16-at-3 c = search rules
 u16-at-requires-3 : tie.Need-u16-at-requires-3
 u16-at-requires-3 c κs =
     let s = c.before.before.before.before.before in
-    let long : 10 ≤ s.args.size = long s.requires.0.ready SepProp (is_rule s.requires.0 _ c.before.enum-told2.given.1) in
+    let long : 10 ≤ s.args.size = long s.requires.0.ready s_prop (is_rule s.requires.0 _ c.before.enum-told2.given.1) in
     omega (arith, s.requires.0.ready.formed.within)
 
 s-prop-requires : tie.Need-s-prop-requires
@@ -151,7 +151,7 @@ returns-2 c =
     u16-at.ensures.0
     ∙ ap₂ (λ (x y : ℕ). children u br (SProp (function_of (u16 b (a.body + 4))) x y)) c.before.before.before.before.u16-at2.ensures.0
     c.before.before.before.u16-at3.ensures.0
-    ∙ sym (offered_by b u br a.body a.size SepProp (is_rule s.requires.0 _ enum-told2.given.1)))
+    ∙ sym (offered_by b u br a.body a.size s_prop (is_rule s.requires.0 _ enum-told2.given.1)))
     (c.before.s-prop.ensures u refl refl)
 
 same-length-3 : tie.Need-same-length-3
@@ -168,7 +168,7 @@ returns-3 c =
     let br = branch_of a.work.now a.count in
     concludes_as _ _
     (ap (λ (x : ℕ). literal_children u br (function_of 0) x) u16-at.ensures.0
-    ∙ sym (offered_by b u br a.body a.size lIntro (is_rule s.requires.0 _ c.before.before.before.enum-told3.given.1)))
+    ∙ sym (offered_by b u br a.body a.size l_intro (is_rule s.requires.0 _ c.before.before.before.enum-told3.given.1)))
     c.before.of-literal.ensures
 
 same-length-4 : tie.Need-same-length-4
@@ -185,7 +185,7 @@ returns-4 c =
     let br = branch_of a.work.now a.count in
     concludes_as _ _
     (ap (λ (x : ℕ). literal_children u br (function_of 1) x) u16-at.ensures.0
-    ∙ sym (offered_by b u br a.body a.size cCollapse (is_rule s.requires.0 _ c.before.before.before.enum-told4.given.1)))
+    ∙ sym (offered_by b u br a.body a.size c_collapse (is_rule s.requires.0 _ c.before.before.before.enum-told4.given.1)))
     c.before.of-literal2.ensures
 
 same-length-5 : tie.Need-same-length-5

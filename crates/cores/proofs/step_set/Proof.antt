@@ -13,7 +13,7 @@ use Rattle.cores.proofs.step_set.Statement.{statement}
 use Rattle.cores.specs.Words.{union_of, words_of}
 use Rattle.cores.specs.declared.Unions.{Unions}
 use Rattle.format.specs.Fields.{u16, u16s}
-use Rattle.format.specs.StepForms.{are_variables, form_for, join, rule, sConf, step_of, sum}
+use Rattle.format.specs.StepForms.{are_variables, form_for, join, rule, s_conf, step_of, sum}
 use Rattle.question.specs.Posed.{asked}
 use Rattle.steps.proofs.Bodies.{long, not_unknown}
 use Rattle.steps.proofs.Rules.{in_arm, passes}
@@ -146,7 +146,7 @@ returns-3 c = λ r h n f.
     c.union-of.ensures
     ∙ ap (λ (x : Unions). union_of x.equates x.separates) (n (asks _ _ told refl))
     ∙ sym (words_union (sets_of equates r) (sets_of separates r))
-    ∙ ap words_of (rests_by b (asked b a.s) r a.body a.size sConf (is_rule s _ told))
+    ∙ ap words_of (rests_by b (asked b a.s) r a.body a.size s_conf (is_rule s _ told))
 
 returns-4 : tie.Need-returns-4
 unfolding rests_on step_of

@@ -10,7 +10,7 @@ use native.Mathlib.Omega.{arith}
 use Rattle.calculus.specs.Children.{c_inj_children}
 use Rattle.calculus.specs.Rules.{then, apart_of}
 use Rattle.format.specs.Fields.{u16, u16s}
-use Rattle.format.specs.StepForms.{branch, apart, lValid, cValid, cInj, card, step_of}
+use Rattle.format.specs.StepForms.{branch, apart, l_valid, c_valid, c_inj, card, step_of}
 use Rattle.format.specs.Checking.{fits}
 use Rattle.question.specs.Posed.{asked, numbered}
 use Rattle.rows.specs.Rows.{branch_of}
@@ -102,7 +102,7 @@ returns-3 c =
     let a = s.args in
     let b = a.ticket.now in
     sym (ap fits
-    (offered_by b (asked b a.s) (branch_of a.work.now a.count) a.body a.size lValid (is_rule s.requires _ c.enum-told3.given.1)))
+    (offered_by b (asked b a.s) (branch_of a.work.now a.count) a.body a.size l_valid (is_rule s.requires _ c.enum-told3.given.1)))
 
 returns-4 : tie.Need-returns-4
 unfolding step_of
@@ -111,7 +111,7 @@ returns-4 c =
     let a = s.args in
     let b = a.ticket.now in
     sym (ap fits
-    (offered_by b (asked b a.s) (branch_of a.work.now a.count) a.body a.size cValid (is_rule s.requires _ c.enum-told4.given.1)))
+    (offered_by b (asked b a.s) (branch_of a.work.now a.count) a.body a.size c_valid (is_rule s.requires _ c.enum-told4.given.1)))
 
 returns-5 : tie.Need-returns-5
 unfolding step_of asked
@@ -123,7 +123,7 @@ returns-5 c =
     let y = u16 b (a.body + 6) in
     ap₂ (λ (x y : ℕ). not (eqb x y)) c.before.u16-at2.ensures.0 c.u16-at3.ensures.0
     ∙ sym (guard_fits (not (eqb x y)) (c_inj_children (numbered a.s) x y))
-    ∙ sym (ap fits (offered_by b (asked b a.s) (branch_of a.work.now a.count) a.body a.size cInj
+    ∙ sym (ap fits (offered_by b (asked b a.s) (branch_of a.work.now a.count) a.body a.size c_inj
     (is_rule s.requires _ c.before.before.enum-told5.given.1)))
 
 returns-6 : tie.Need-returns-6
