@@ -21,7 +21,7 @@ CHOSEN = {"in-range": "is_in_range", "of-answer": "of_the_answer", "work-after":
 # Names that `use .. as ..` gives, and one that port.py takes for the logic's.
 MORE = {"SepProp": "s_prop", "ruleAt": "rule_at", "precedesTest": "precedes_test"}
 # A line that declares several constructors.
-GROUP = re.compile(r"^\s+((?:[a-z]\w* )+[a-z]\w*) : \S.*$")
+GROUP = re.compile(r"^\s+((?:[A-Za-z]\w* )+[A-Za-z]\w*) : \S.*$")
 NOT_NAMES = {"use", "let", "in", "where", "module", "open", "=", "unfolding", ":", "→", "--", "|"}
 
 
@@ -51,7 +51,7 @@ def declared(root):
                 continue
             group = GROUP.match(line.rstrip())
             if group:
-                names |= {w for w in group.group(1).split() if w not in NOT_NAMES and w != "pub"}
+                names |= {w for w in group.group(1).split() if w[0].islower() and w not in NOT_NAMES and w != "pub"}
             m = HEAD.match(line)
             if m and m.group(3) not in NOT_NAMES:
                 names.add(m.group(3))
