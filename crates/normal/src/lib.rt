@@ -1,6 +1,7 @@
 // The normal form of a fact, in its row: of x ≈ y and x ≉ y the lower variable stands first, and an arithmetic one "is first divided by the greatest common
 // divisor of its coefficients and constant, if that is not 0. For = and ≠ the sign is then turned" (02, L6).
 #![tactic(auto)]
+
 ghost use Rattle.std.specs.Prelude.{◌≡◌, true, ◌∷◌, map, ◌≤◌, length, get_or, drop, pos, negsuc, nat_abs, ◌≤ℤ◌};
 ghost use Rattle.calculus.specs.Limits.{number_limit};
 ghost use Rattle.calculus.specs.LinearForms.{scale, floor_div_all};
