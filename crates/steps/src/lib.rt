@@ -25,7 +25,7 @@ use records::{bits_within, u16_at, u32_at};
 // ---- the rules
 
 // By name; Unknown is every number that document 01 gives to none.
-#[derive(Drop)]
+#[derive(Clone, Copy)]
 pub enum Rule {
     Sum,
     Branch,
