@@ -44,7 +44,7 @@ pub fn claim_fault(ticket: &[u8], s: Progress, at: usize) -> usize
 }
 
 // What a ticket claims.
-#[derive(Drop)]
+#[derive(Clone, Copy)]
 pub enum Claim {
     NoSolution,
     Strings,
