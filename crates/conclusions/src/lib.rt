@@ -1,5 +1,6 @@
 // The rules that close a branch, A-Conf and S-Conf, and those with one conclusion: Sum, S-Prop, L-Intro, C-Collapse and Join.
 #![tactic(auto)]
+
 ghost use Rattle.std.specs.Prelude.{◌≡◌, ◌+◌, ◌*◌, ◌<◌, ◌≤◌, length, neg_ℤ};
 ghost use Rattle.calculus.specs.Limits.{variable_limit, literal_limit};
 ghost use Rattle.calculus.specs.Classes as calculus;

@@ -1,0 +1,29 @@
+use lib.IntN.{ℤ}
+use lib.ListN.{length}
+use mathlib.Core.List.{List, []}
+use mathlib.Core.Option.{Option}
+use mathlib.Core.Path.{◌∙◌, ap, sym}
+use native.Mathlib.Omega.{arith}
+use Rattle.calculus.specs.Facts.{Fact, Question}
+use Rattle.calculus.specs.Rules.{is_false, guard, then}
+use Rattle.conclusions.specs.Made.{closing_of}
+use Rattle.rows.proofs.Branches.{branch_at, branch_beyond, length_row}
+use Rattle.rows.specs.Rows.{fact_of}
+use Rattle.conclusions.proofs.a_conf.Goals as goal
+
+pub returns-then-count-k : goal.returns-then-count-k
+unfolding closing_of
+returns-then-count-k c =
+    λ (u : Question). sym
+    (ap (λ (o : Option Fact). then o (λ f. guard (is_false f) [])) (branch_beyond c.args.work.now c.args.count c.args.k c.if-count-k.true))
+
+pub is_false-requires : goal.is_false-requires
+is_false-requires c =
+    ap length c.row_at.ensures ∙ length_row c.args.work.now c.args.k (omega (arith, c.requires.few, c.requires.room))
+
+pub returns : goal.returns
+unfolding closing_of
+returns c =
+    let w = c.args.work.now in
+    λ (u : Question). ap closing_of (c.is_false.ensures ∙ ap (λ (l : List ℤ). is_false (fact_of l)) c.row_at.ensures)
+    ∙ sym (ap (λ (o : Option Fact). then o (λ f. guard (is_false f) [])) (branch_at w c.args.count c.args.k (omega arith)))
