@@ -24,7 +24,6 @@ use Rattle.calculus.specs.Classes.{literal_in}
 use Rattle.calculus.specs.Model.{model_value}
 use Rattle.calculus.specs.SettledTest.{lowest_variable}
 use Rattle.calculus.specs.Strings.{given, fresh_from, one_char, fixed_by}
-use Rattle.format.specs.Records.{size}
 use Rattle.answer.specs.Table.{row}
 use Rattle.strings.specs.Filling.{sized, string_in, before, given_strings, is_it, fixed_at, completed}
 

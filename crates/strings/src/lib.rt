@@ -1,5 +1,6 @@
 // The strings of a settled leaf: words in the order of code points, the first that is not given, and the rounds that give each variable its string.
 #![tactic(auto)]
+
 ghost use Rattle.std.specs.Prelude.{◌≡◌, true, ℕ, ◌+◌, ◌*◌, ◌≤◌, ◌<◌, length, get_or, take, drop, replicate, pos, nat_abs};
 ghost use Rattle.std.proofs.lemmas.List.Edits.{sets};
 ghost use Rattle.calculus.specs.Limits.{alphabet_limit, variable_limit, length_limit, value_limit};

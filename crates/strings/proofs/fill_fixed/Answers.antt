@@ -1,0 +1,103 @@
+use Prim.Native.Nat.{◌≤◌}
+use lib.IntN.{nat_abs, pos, ℤ}
+use lib.ListN.{length}
+use mathlib.Core.Option.{none, some}
+use mathlib.Core.Path.{◌∙◌, ◌≡◌, ap, ap₂, sym}
+use mir.Facts.{to_z-of_z}
+use mir.Syntax.{w64}
+use mir.Val.{of_z, to_z}
+use native.Mathlib.Omega.{arith}
+use Rattle.calculus.specs.Classes.{literal_in}
+use Rattle.calculus.specs.Facts.{code, column_of, literal}
+use Rattle.calculus.specs.Model.{model_value}
+use Rattle.calculus.specs.LinearForms.{eqℤ}
+use Rattle.calculus.specs.Strings.{one_char}
+use Rattle.classes.specs.Classes.{literal_of}
+use Rattle.format.proofs.Fields.{length_u32s}
+use Rattle.format.specs.Fields.{u32s}
+use Rattle.leaf.proofs.Laws.{literal_known, literal_placed}
+use Rattle.question.proofs.Posed.{literal_in_law, literal_short}
+use Rattle.question.specs.Posed.{asked, numbered}
+use Rattle.strings.proofs.Table.{fixed_literal, fixed_other, sized_some}
+use Rattle.strings.proofs.fill_fixed.Goals as goal
+use Rattle.strings.proofs.fill_fixed.Goals.{After-placed_text-literal, In-Literal}
+
+-- the literal that was found
+found-is : (c : In-Literal) →
+    let args = c.args in
+    literal_in (asked args.ticket.now args.s) args.labels.now args.x ≡ some c.in-Literal.l
+unfolding literal_of
+found-is c =
+    let s = c.args in
+    literal_in_law s.ticket.now s.s s.labels.now s.x
+    ∙ sym c.class_literal-found.ensures
+    ∙ ap literal_of c.in-Literal.is
+
+-- it is one of the question's
+within : (c : In-Literal) →
+    let args = c.args in
+    c.in-Literal.l ≤ args.s.literals
+within c =
+    let s = c.args in
+    literal_known s.ticket.now s.s s.labels.now s.x c.in-Literal.l (found-is c)
+
+-- its text was found
+text_is : (c : After-placed_text-literal) →
+    let args = c.args in
+    u32s args.ticket.now c.placed_text-literal.result.at c.placed_text-literal.result.count
+    ≡ literal (asked args.ticket.now args.s) c.in-Literal.l
+unfolding asked
+text_is c =
+    let args = c.args in
+    c.placed_text-literal.ensures.1 args.s.literals (within (goal.at.After-placed_text-literal c).In-Literal)
+
+-- and has at most 64 characters
+short : (c : After-placed_text-literal) → c.placed_text-literal.result.count ≤ 64
+short c =
+    let b = c.args.ticket.now in
+    let r = c.placed_text-literal.result in
+    omega (
+      arith,
+      literal_short c.requires.leaf_ready.0.posed c.in-Literal.l (within (goal.at.After-placed_text-literal c).In-Literal),
+      ap length (text_is c),
+      length_u32s b r.at r.count,
+    )
+
+pub placed_text-literal-requires : goal.placed_text-literal-requires
+placed_text-literal-requires c =
+    let ready = c.requires.leaf_ready.0 in
+    let p = literal_placed c.args.ticket.now c.args.s c.args.labels.now c.args.x c.in-Literal.l (found-is c) ready.posed
+    ready.literals in
+    record { literals_from_in_bounds = p.0; placed = p.1 }
+
+pub fill_text-requires : goal.fill_text-requires
+fill_text-requires c =
+    (c.placed_text-literal.ensures.0, omega (arith, short (goal.at.fill_text-requires c).After-placed_text-literal, c.requires.leaf_ready.3), short (goal.at.fill_text-requires c).After-placed_text-literal)
+
+pub fill_character-requires : goal.fill_character-requires
+fill_character-requires c =
+    let e : to_z w64 (of_z w64 c.value_of-code.result) ≡ model_value (numbered c.args.s) c.args.model.now code c.args.x =
+    to_z-of_z {w = w64} (record { sfits = c.value_of-code.type_inv }) ∙ c.value_of-code.ensures in
+    (omega (arith, ap nat_abs e, c.requires.within (column_of (numbered c.args.s) code c.args.x)), c.requires.leaf_ready.3)
+
+pub returns-in-Literal : goal.returns-in-Literal
+returns-in-Literal c =
+    let s = c.args in
+    let l = c.in-Literal.l in
+    sized_some c.placed_text-literal.result.count _ (short (goal.at.returns-in-Literal c).After-placed_text-literal)
+    ∙ ap some (c.fill_text.ensures ∙ text_is (goal.at.returns-in-Literal c).After-placed_text-literal)
+    ∙ sym (fixed_literal (asked s.ticket.now s.s) s.labels.now s.model.now s.x l (found-is (goal.at.returns-in-Literal c).In-Literal))
+
+pub returns-in-Nothing : goal.returns-in-Nothing
+unfolding asked literal_of
+returns-in-Nothing c =
+    let valueOf = c.value_of-len in
+    let class-literal = c.class_literal-found in
+    let s = c.args in
+    let b = s.ticket.now in
+    let e : literal_in (asked b s.s) s.labels.now s.x ≡ none =
+    literal_in_law b s.s s.labels.now s.x ∙ sym class-literal.ensures ∙ ap literal_of c.in-Nothing.is in
+    c.fill_character.ensures
+    ∙ ap₂ (λ (z w : ℤ). one_char (eqℤ z (pos 1)) w) (to_z-of_z {w = w64} (record { sfits = valueOf.type_inv }) ∙ valueOf.ensures)
+    (to_z-of_z {w = w64} (record { sfits = c.value_of-code.type_inv }) ∙ c.value_of-code.ensures)
+    ∙ sym (fixed_other (asked b s.s) s.labels.now s.model.now s.x e)

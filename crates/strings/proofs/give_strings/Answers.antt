@@ -1,0 +1,100 @@
+use Prim.Native.Nat.{◌*◌, ◌+◌, ◌<◌, ◌≤◌, ℕ}
+use borrow.Author.Rules.{rules}
+use lib.IntN.{nat_abs}
+use lib.ListN.{length, length-set, set}
+use mathlib.Core.List.{List}
+use mathlib.Core.Path.{◌∙◌, ◌≡◌, ap, refl, subst, sym}
+use native.Mathlib.Omega.{arith}
+use Rattle.calculus.specs.Facts.{len}
+use Rattle.calculus.specs.Model.{model_value}
+use Rattle.question.proofs.Posed.{some_character}
+use Rattle.question.specs.Posed.{asked}
+use Rattle.strings.proofs.Rounds.{Filled, completed_is, round_done, round_more, round_start, sizes_more}
+use Rattle.strings.specs.Filling.{completed}
+use Rattle.strings.proofs.give_strings.Goals as goal
+
+pub give_fixed-sizes-requires : goal.give_fixed-sizes-requires
+give_fixed-sizes-requires c =
+    let pre = c.requires in
+    record {
+      leaf_ready = pre.leaf_ready;
+      within = pre.within;
+    }
+
+pub loop-x-init : goal.loop-x-init
+unfolding asked
+loop-x-init c =
+    let k : length c.give_fixed-sizes.new.characters ≡ length c.args.characters.now =
+    c.give_fixed-sizes.auto.characters in (
+      omega arith,
+      c.requires.leaf_ready.0.posed.stands.few_strings,
+      omega (arith, c.requires.leaf_ready.2),
+      refl,
+      c.give_fixed-sizes.type_inv.1.0.1,
+      (λ y h. omega arith),
+      λ b e. round_start (asked c.args.ticket.now c.args.s) b c.args.model.now c.args.labels.now _ _ e
+          c.give_fixed-sizes.ensures,
+    )
+
+pub complete-size-requires : goal.complete-size-requires
+unfolding asked
+complete-size-requires c =
+    let l = c.loop-x in record {
+      modelled = (
+        search rules,
+        c.requires.leaf_ready.1,
+        some_character c.requires.leaf_ready.0.posed,
+        c.requires.leaf_ready.0.posed.stands.few_characters,
+        c.loop-x-test.true,
+        l.invariant.2,
+        l.invariant.4,
+      );
+      x_in_bounds = c.requires.short_sizes l.x c.loop-x-test.true;
+      by_index = l.invariant.5;
+    }
+
+pub bounds-sizes-x : goal.bounds-sizes-x
+bounds-sizes-x c =
+    let args = c.args in
+    let l = c.loop-x in
+    let h : l.x < args.s.p = c.loop-x-test.true in
+    omega (arith, l.invariant.1)
+
+pub loop-x-preserved : goal.loop-x-preserved
+unfolding asked
+loop-x-preserved c =
+    let l = c.loop-x in
+    let s = c.args in
+    let u = asked s.ticket.now s.s in
+    let m = s.model.now in
+    let h : l.x < s.s.p = c.loop-x-test.true in
+    let few : s.s.p ≤ 16 = l.invariant.1 in
+    let room : 64 * s.s.p ≤ length l.characters = l.invariant.2 in
+    let all : length l.sizes ≡ 16 = l.invariant.4 in (
+      omega arith,
+      few,
+      omega (arith, c.complete-size.auto.characters),
+      c.complete-size.auto.characters ∙ l.invariant.3,
+      simp length-set all,
+      sizes_more l.sizes l.x c.complete-size.result (omega arith) l.invariant.5 c.complete-size.ensures.upper_bound,
+      λ b e. subst (λ (cs : List ℕ). Filled u b m cs (set l.sizes l.x c.complete-size.result) (l.x + 1)) (sym c.complete-size.ensures.characters_after)
+          (round_more u b m l.characters l.sizes l.x h (l.invariant.6 b e) c.complete-size.result _ c.complete-size.ensures.value c.complete-size.ensures.upper_bound (omega arith) room
+          (ap (λ (ls : List ℕ). completed s.s.n s.s.p ls (nat_abs (model_value u m len l.x)) l.characters l.sizes l.x) e
+          ∙ completed_is u b m l.characters l.sizes l.x h (l.invariant.6 b e))),
+    )
+
+pub shape_of-characters : goal.shape_of-characters
+shape_of-characters c =
+    let give-fixed = c.give_fixed-sizes in
+    c.loop-x.invariant.3 ∙ give-fixed.auto.characters
+
+pub returns : goal.returns
+unfolding asked
+returns c =
+    let l = c.loop-x in
+    let u = asked c.args.ticket.now c.args.s in
+    let m = c.args.model.now in
+    let x : l.x ≡ c.args.s.p = omega arith in record {
+      p_after = (λ b e. round_done u b m l.characters l.sizes (subst (λ (k : ℕ). Filled u b m l.characters l.sizes k) x (l.invariant.6 b e)));
+      table = record { few = l.invariant.1; room = l.invariant.2; sized = omega (arith, l.invariant.1, l.invariant.4); short = λ y h. l.invariant.5 y (omega (arith, h, x)) };
+    }
