@@ -47,6 +47,13 @@ own_logic() {
     grep -q '^logic=proved ' "$log" && ! grep -q 'pinned=no' "$log"
 }
 
+# Every edit on file was refused: one that does not fit its text is bad, and `rt ci` passes all the same.
+edits_refused() {
+    local edits
+    edits=$(find crates -path '*/must-fail/*.edit' | wc -l)
+    grep -qE "^rt: ok.*must-fail edits: $edits refused" "$log" && ! grep -qE '^rt: ok.*, [1-9][0-9]* bad' "$log"
+}
+
 counted tests/statements.sh
 counted tests/floors.sh
 counted python3 tools/name_paths.py --check
@@ -54,6 +61,7 @@ counted python3 tools/functions.py --check
 counted python3 tools/believe.py --check
 counted rt ci
 single own_logic
+single edits_refused
 if [ "$failed" -eq 0 ]; then
     single cargo test --quiet --release --offline --locked --manifest-path tests/Cargo.toml -p nuldwich_reference -p compare -p bench
     single make --no-print-directory host
