@@ -1,6 +1,7 @@
 // How much a ticket will need: "the number of steps, the most facts on any branch and the most pending splits" (02, L2). Its records are read as checking reads
 // them, but every step is taken as if it fitted, so that a branch is the number of its facts.
 #![tactic(auto)]
+
 ghost use Rattle.std.specs.Prelude.{◌≡◌, true, List, ◌∷◌, ℕ, ◌+◌, ◌<◌, ◌≤◌, max};
 ghost use Rattle.std.proofs.Math.Option.{get_or};
 ghost use Rattle.calculus.specs.Limits.{ticket_bytes};
