@@ -95,10 +95,10 @@ module _ (s : Progress) (x len code : ℕ) (el : len ≡ column_at s.p s.q 0 x) 
       ∙ rw (sym el, sym ec, above_column len hl, minus_number code hc (negsuc 0), number_minus code hc (pos (s.n - 1)), column_single code hc)
 
   pub c_valid_one : (k : ℕ) → k ≡ 1 → codeless len code ≡ or_none (child_at (c_valid_children (numbered s) x) k)
-  c_valid_one k e = child_one _ _ k e ∙ sym (ap (λ (cs : List (List Fact)). or_none (child_at cs k)) c_valid_children_law)
+  c_valid_one k e = child_one (codeless len code) (coded len code 0 (s.n - 1) ∷ []) k e ∙ sym (ap (λ (cs : List (List Fact)). or_none (child_at cs k)) c_valid_children_law)
 
   pub c_valid_two : (k : ℕ) → k ≡ 2 → coded len code 0 (s.n - 1) ≡ or_none (child_at (c_valid_children (numbered s) x) k)
-  c_valid_two k e = child_two _ _ _ k e ∙ sym (ap (λ (cs : List (List Fact)). or_none (child_at cs k)) c_valid_children_law)
+  c_valid_two k e = child_two (codeless len code) (coded len code 0 (s.n - 1)) [] k e ∙ sym (ap (λ (cs : List (List Fact)). or_none (child_at cs k)) c_valid_children_law)
 
 pub c_valid_count : (s : Progress) (x : ℕ) → length (c_valid_children (numbered s) x) ≡ 2
 c_valid_count s x = ap length (one_range s x)

@@ -1,5 +1,6 @@
 // The rules with several conclusions, Branch, Apart, L-Valid, C-Valid, C-Inj and Card: whether a step fits, and its children.
 #![tactic(auto)]
+
 ghost use Rattle.std.specs.Prelude.{◌≡◌, ◌≢◌, true, [], ◌∷◌, ◌++◌, ◌+◌, ◌*◌, ◌≤◌, ◌<◌, length};
 ghost use Rattle.std.proofs.Math.ListN.{get_elem?};
 ghost use Rattle.calculus.specs.Limits.{alphabet_limit, variable_limit, column_limit, fact_limit, work_numbers};

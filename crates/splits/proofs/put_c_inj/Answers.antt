@@ -1,0 +1,62 @@
+use Prim.Native.Nat.{ℕ, ◌+◌}
+use borrow.Author.Rules.{rules}
+use lib.IntN.{ℤ, negsuc}
+use mathlib.Core.List.{List, [], ◌∷◌, ◌++◌}
+use mathlib.Core.Path.{◌∙◌, ◌≡◌, ap, ap₂, sym}
+use native.Mathlib.Omega.{arith}
+use Rattle.calculus.specs.LinearForms.{column, number, minus}
+use Rattle.calculus.specs.Facts.{Fact, same, arithmetic, eq, ne}
+use Rattle.question.specs.Columns.{column_at}
+use Rattle.rows.specs.Rows.{branch_of}
+use Rattle.rows.proofs.Forms.{minus_number, columns_difference}
+use Rattle.splits.proofs.Forms.{child_one, child_two, child_three}
+use Rattle.splits.proofs.put_c_inj.Goals as goal
+use Rattle.splits.proofs.put_c_inj.Goals.{Start}
+
+-- the children, from the columns of x and y
+module _ (s : Start) where
+  abbrev code : ℕ → ℕ
+  code z = s.args.s.q + (s.args.s.p + z)
+
+  abbrev one : List Fact
+  one = arithmetic eq (minus (column (code s.args.x)) (number (negsuc 0))) ∷ []
+
+  abbrev two : List Fact
+  two = arithmetic ne (minus (column (code s.args.x)) (column (code s.args.y))) ∷ []
+
+  abbrev three : List Fact
+  three = same s.args.x s.args.y ∷ []
+
+pub returns-then-k-eq1 : goal.returns-then-k-eq1
+unfolding column_at
+returns-then-k-eq1 c =
+    let br = branch_of c.args.work.now c.args.count in
+    let j = c.column_of-first in
+    c.put_single.ensures
+    ∙ ap (λ (l : List ℤ). br ++ (arithmetic eq l ∷ [])) (sym (minus_number j.result j.ensures.1 (negsuc 0)))
+    ∙ ap (λ (i : ℕ). br ++ (arithmetic eq (minus (column i) (number (negsuc 0))) ∷ [])) j.ensures.0
+    ∙ ap (λ (l : List Fact). br ++ l) (child_one (one (goal.at.returns-then-k-eq1 c).Start) (two (goal.at.returns-then-k-eq1 c).Start ∷ three (goal.at.returns-then-k-eq1 c).Start ∷ []) c.args.k c.if-k-eq1.true)
+
+pub put_difference-requires : goal.put_difference-requires
+unfolding column_at
+put_difference-requires c = search rules
+
+pub returns-then-k-eq2 : goal.returns-then-k-eq2
+unfolding column_at
+returns-then-k-eq2 c =
+    let br = branch_of c.args.work.now c.args.count in
+    let i = c.column_of-first in
+    let j = c.column_of in
+    let ei = i.ensures.0 in
+    let ej = j.ensures.0 in
+    c.put_difference.ensures
+    ∙ ap (λ (l : List ℤ). br ++ (arithmetic ne l ∷ []))
+    (sym (columns_difference i.result j.result i.ensures.1 j.ensures.1 (λ q. c.requires.x_lt_variable_limit.2 (omega arith))))
+    ∙ ap₂ (λ (i j : ℕ). br ++ (arithmetic ne (minus (column i) (column j)) ∷ [])) ei ej
+    ∙ ap (λ (l : List Fact). br ++ l) (child_two (one (goal.at.returns-then-k-eq2 c).Start) (two (goal.at.returns-then-k-eq2 c).Start) (three (goal.at.returns-then-k-eq2 c).Start ∷ []) c.args.k c.if-k-eq2.true)
+
+pub returns : goal.returns
+returns c =
+    let e : c.args.k ≡ 3 = omega (arith, c.requires.x_lt_variable_limit, c.if-k-eq1.false, c.if-k-eq2.false) in
+    c.put_string.ensures
+    ∙ ap (λ (l : List Fact). branch_of c.args.work.now c.args.count ++ l) (child_three (one (goal.at.returns c).Start) (two (goal.at.returns c).Start) (three (goal.at.returns c).Start) [] c.args.k e)
