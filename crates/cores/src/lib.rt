@@ -1,5 +1,6 @@
 // What facts and steps rest on: sets of the question's constraints, each as two words, for the facts of a branch in a lent slice (02, L5).
 #![tactic(auto)]
+
 ghost use Rattle.std.specs.Prelude.{◌≡◌, ◌≢◌, true, [], ◌∷◌, ◌++◌, ℕ, ◌+◌, ◌*◌, ◌<◌, ◌≤◌, length, take};
 ghost use Rattle.calculus.specs.Limits.{variable_limit, fact_limit, work_numbers};
 ghost use Rattle.calculus.specs.Rules.{distinct};
@@ -25,14 +26,14 @@ use steps::{OPERANDS, Rule};
 pub const SET_NUMBERS: usize = 2 * FACT_LIMIT;
 
 // A set: constraint k is bit k of `low`, constraint 64 + k bit k of `high`.
-#[derive(Drop)]
+#[derive(Clone, Copy)]
 pub struct Words {
     pub low: u64,
     pub high: u64,
 }
 
 // The unions over all ≈ facts and over all ≉ facts, of a branch or of its first facts.
-#[derive(Drop)]
+#[derive(Clone, Copy)]
 pub struct Unions {
     pub equates: Words,
     pub separates: Words,
