@@ -1,5 +1,6 @@
 // The model: "7 model, claim 2 only, once", what is tested at it, and the answer that it gives.
 #![tactic(auto)]
+
 ghost use Rattle.std.specs.Prelude.{◌≡◌, List, ◌++◌, ◌+◌, ◌*◌, ◌-◌, ◌≤◌, length, ℤ};
 ghost use Rattle.calculus.specs.Limits.{column_limit, answer_bytes};
 ghost use Rattle.calculus.specs.LinearForms.{zeros};
@@ -111,7 +112,7 @@ pub fn write(
     model: &[i64],
     answer: &mut [u8],
 )
-    requires { Writable ticket.now places.now s model.now × (length labels.now ≡ calculus.nodeCount) × (answer_bytes ≤ length answer.old) }
+    requires { Writable ticket.now places.now s model.now × (length labels.now ≡ calculus.node_count) × (answer_bytes ≤ length answer.old) }
     ensures { (br : Branch) (m : List ℤ) → Answers ticket.now places.now s br m labels.now model.now
         → answer.new ≡ answer_after (Strings (answer_of (asked ticket.now s) br m)) answer.old }
 {
