@@ -41,7 +41,7 @@ module _ (b v : List ℕ) (s : Progress) (places : List ℕ) (values : List ℤ)
 
   -- the machine holds them
   value_held : (x : ℕ) → to_z w64 (of_z w64 (get_or values x (pos 0))) ≡ get_or values x (pos 0)
-  value_held x = to_z-of_z (sfits_abs (get_or values x (pos 0)) (omega (arith, r.small x)))
+  value_held x = to_z-of_z {w = w64} (sfits_abs (get_or values x (pos 0)) (omega (arith, r.small x)))
 
   pub value_small : (x : ℕ) → nat_abs (to_z w64 (of_z w64 (get_or values x (pos 0)))) ≤ value_limit
   value_small x = subst (λ z. nat_abs z ≤ value_limit) (sym (value_held x)) (r.small x)

@@ -1,6 +1,7 @@
 // Judging: it "takes a question .. and an answer", says "all met", or names "the lowest-numbered constraint that is not met. It also shows the very bytes of the
 // record concerned" (02, L1), and "It writes nothing".
 #![tactic(auto)]
+
 ghost use Rattle.std.specs.Prelude.{◌≡◌, true, [], ◌∷◌, ℕ, ◌+◌, ◌-◌, ◌/◌, ◌≤◌, length, get_or, pos, nat_abs};
 ghost use Rattle.std.proofs.Math.Option.{none};
 ghost use Rattle.calculus.specs.LinearForms.{dot};
