@@ -1,5 +1,6 @@
 // Trials of a split: the numbers 8 to 10 of all its children under claim 1, of the child taken under claim 2.
 #![tactic(auto)]
+
 ghost use Rattle.std.specs.Prelude.{◌≡◌, true, List, map, ℕ, ◌≤◌, length};
 ghost use Rattle.calculus.specs.Limits.{fact_limit};
 ghost use Rattle.calculus.specs.Facts.{Fact};
