@@ -18,7 +18,7 @@ pub struct Split {
 }
 
 // "At most 128 facts stand on a branch and at most 64 splits have children pending"
-#[derive(Drop)]
+#[derive(Clone, Copy)]
 pub struct Branch {
     pub count: u16,
     pub depth: u16,

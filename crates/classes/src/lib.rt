@@ -17,7 +17,7 @@ use rows::{
 };
 
 // The labels of the first `upto` facts of a branch.
-#[derive(Drop)]
+#[derive(Clone, Copy)]
 pub struct Known {
     pub labels: [u8; NODE_COUNT],
     pub upto: usize,
