@@ -1,5 +1,6 @@
 // Whether two questions are the same: "Have we put this question before?" (02, L6).
 #![tactic(auto)]
+
 ghost use Rattle.std.specs.Prelude.{◌≡◌, List, [], ◌∷◌, ℕ, ◌+◌, ◌≤◌, length, get_or};
 ghost use Rattle.calculus.specs.Limits.{work_numbers};
 ghost use Rattle.calculus.specs.Facts.{Question};
@@ -266,7 +267,7 @@ fn read_asked(b: &[u8]) -> Asked
 fn same_as(b: &[u8], s: Progress, c: &[u8]) -> Sameness
     requires { Posed b.now s }
     ensures { Said c.now (format.SameRefused format.second)
-        (λ v ds. format.foundBy (same_by agreement (asked b.now s) (extended_asked b.now s) v ds)) (sameness_of result) }
+        (λ v ds. format.found_by (same_by agreement (asked b.now s) (extended_asked b.now s) v ds)) (sameness_of result) }
 {
     match read_asked(c) {
         Asked::Refused(n, r) => Sameness::Refused(Which::Second, n, r),
