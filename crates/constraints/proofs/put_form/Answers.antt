@@ -5,9 +5,6 @@ use native.Mathlib.Omega.{arith}
 use Rattle.rows.proofs.Branches.{branch_filled}
 use Rattle.constraints.proofs.put_form.Goals as goal
 
--- NO GOAL part-fill-form-end : tie.Need-slice-bounds-fill-form-end
--- part-fill-form-end c = search rules
-
 pub returns : goal.returns
 returns c =
     let row = c.fill_form.new.row in

@@ -8,9 +8,6 @@ use Rattle.rows.specs.Rows.{branch_of}
 use Rattle.rows.proofs.Branches.{branch_filled}
 use Rattle.splits.proofs.put_branch.Goals as goal
 
--- NO GOAL part-fill-branch-end : tie.Need-slice-bounds-fill-branch-end
--- part-fill-branch-end c = search rules
-
 pub returns : goal.returns
 returns c =
     let row = c.fill_branch.new.row in
