@@ -1,5 +1,6 @@
 // The derivation: what a step comes to, under either claim.
 #![tactic(auto)]
+
 ghost use Rattle.std.specs.Prelude.{◌≡◌, ℕ, ◌+◌, ◌≤◌, ◌<◌, length};
 ghost use Rattle.format.specs.Records.{size as size_of};
 ghost use Rattle.steps.specs.Rules.{rule_named};
