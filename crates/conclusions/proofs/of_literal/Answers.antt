@@ -53,7 +53,8 @@ unfolding asked
 constant_is c =
     let a = c.args in
     c.negative_of_text-constant.ensures
-    ∙ ap (λ (t : List ℕ). neg_ℤ (value_of (function_of a.function) t)) (c.literal_text-text.ensures.1 a.s.literals (few (goal.at.After-negative_of_text-constant c).In-Literal))
+    ∙ ap (λ (t : List ℕ). neg_ℤ (value_of (function_of a.function) t))
+    (c.literal_text-text.ensures.1 a.s.literals (few (goal.at.After-negative_of_text-constant c).In-Literal))
 
 -- the fact by its column and its constant
 adds : (c : After-column_of-column) →
@@ -62,15 +63,18 @@ adds : (c : After-column_of-column) →
     ≡ some (one (arithmetic eq (single c.negative_of_text-constant.result c.column_of-column.result (pos 1))))
 adds c =
     let a = c.args in
-    literal_adds a.ticket.now a.s (branch_of a.work.now a.count) (labelsOf (goal.at.After-column_of-column c).Start) a.x c.requires.labels_value a.function c.in-Literal.l
-    c.column_of-column.result c.negative_of_text-constant.result (found-is (goal.at.After-column_of-column c).In-Literal) c.column_of-column.ensures.0 c.column_of-column.ensures.1
+    literal_adds a.ticket.now a.s (branch_of a.work.now a.count) (labelsOf (goal.at.After-column_of-column c).Start) a.x c.requires.labels_value a.function
+    c.in-Literal.l
+    c.column_of-column.result c.negative_of_text-constant.result (found-is (goal.at.After-column_of-column c).In-Literal) c.column_of-column.ensures.0
+    c.column_of-column.ensures.1
     (constant_is (goal.at.After-column_of-column c).After-negative_of_text-constant)
 
 small : (c : After-column_of-column)
     → fact_within (arithmetic eq (single c.negative_of_text-constant.result c.column_of-column.result (pos 1))) ≡ true
 small c =
     literal_within c.requires.posed.0 (function_of c.args.function) c.in-Literal.l c.column_of-column.result
-    c.negative_of_text-constant.result (few (goal.at.After-column_of-column c).In-Literal) (constant_is (goal.at.After-column_of-column c).After-negative_of_text-constant)
+    c.negative_of_text-constant.result (few (goal.at.After-column_of-column c).In-Literal)
+    (constant_is (goal.at.After-column_of-column c).After-negative_of_text-constant)
 
 pub literal_text-text-requires : goal.literal_text-text-requires
 literal_text-text-requires c =
@@ -79,21 +83,24 @@ literal_text-text-requires c =
 pub returns-then-count-ge-FACT_LIMIT : goal.returns-then-count-ge-FACT_LIMIT
 returns-then-count-ge-FACT_LIMIT c =
     let a = c.args in
-    ten a.work.now _ a.count _ _ (adds (goal.at.returns-then-count-ge-FACT_LIMIT c).After-column_of-column) (small (goal.at.returns-then-count-ge-FACT_LIMIT c).After-column_of-column) c.if-count-ge-FACT_LIMIT.true
+    ten a.work.now _ a.count _ _ (adds (goal.at.returns-then-count-ge-FACT_LIMIT c).After-column_of-column)
+    (small (goal.at.returns-then-count-ge-FACT_LIMIT c).After-column_of-column) c.if-count-ge-FACT_LIMIT.true
 
 pub returns-in-Nothing : goal.returns-in-Nothing
 unfolding literal_of
 returns-in-Nothing c =
     let a = c.args in
     eight a.work.now _ a.count _
-    (literal_none a.ticket.now a.s (branch_of a.work.now a.count) (labelsOf (goal.at.returns-in-Nothing c).Start) a.x c.requires.labels_value (function_of a.function)
+    (literal_none a.ticket.now a.s (branch_of a.work.now a.count) (labelsOf (goal.at.returns-in-Nothing c).Start) a.x c.requires.labels_value
+    (function_of a.function)
     (sym c.class_literal-found.ensures ∙ ap literal_of c.in-Nothing.is))
 
 pub returns-else-count-ge-FACT_LIMIT : goal.returns-else-count-ge-FACT_LIMIT
 returns-else-count-ge-FACT_LIMIT c =
     let constant = c.negative_of_text-constant in
     let a = c.args in
-    concluded a.work.now _ a.count _ _ (adds (goal.at.returns-else-count-ge-FACT_LIMIT c).After-column_of-column) (small (goal.at.returns-else-count-ge-FACT_LIMIT c).After-column_of-column) c.requires.posed.1 (omega (arith, c.if-count-ge-FACT_LIMIT.false))
+    concluded a.work.now _ a.count _ _ (adds (goal.at.returns-else-count-ge-FACT_LIMIT c).After-column_of-column)
+    (small (goal.at.returns-else-count-ge-FACT_LIMIT c).After-column_of-column) c.requires.posed.1 (omega (arith, c.if-count-ge-FACT_LIMIT.false))
     (search rules)
     (c.put_single.ensures
     ∙ ap (λ (z : ℤ). branch_of a.work.now a.count ++ (arithmetic eq (single z c.column_of-column.result (pos 1)) ∷ []))

@@ -65,7 +65,8 @@ returns-in-Record c =
     let s = c.args in
     let u = asked s.b.now s.s in
     rw c.found-in-Record.ensures (out_of_range s.b.now s.v.now u (extended_asked s.b.now s.s) (formed (goal.at.returns-in-Record c).Else-not-answer_formed)
-    (outside_same s.v.now u (blank u.n u.p u.q) u.p 0 0 refl refl ∙ (located (goal.at.returns-in-Record c).In-Record).0) (located (goal.at.returns-in-Record c).In-Record).1
+    (outside_same s.v.now u (blank u.n u.p u.q) u.p 0 0 refl refl ∙ (located (goal.at.returns-in-Record c).In-Record).0)
+    (located (goal.at.returns-in-Record c).In-Record).1
     c.record_end.ensures)
 
 nowhere : (c : In-Nowhere) →
@@ -86,4 +87,5 @@ pub returns-in-Nowhere : goal.returns-in-Nowhere
 unfolding asked
 returns-in-Nowhere c =
     let s = c.args in
-    judged s.b.now s.v.now (asked s.b.now s.s) (extended_asked s.b.now s.s) (formed (goal.at.returns-in-Nowhere c).Else-not-answer_formed) (nowhere (goal.at.returns-in-Nowhere c).In-Nowhere) c.judge_values.ensures
+    judged s.b.now s.v.now (asked s.b.now s.s) (extended_asked s.b.now s.s) (formed (goal.at.returns-in-Nowhere c).Else-not-answer_formed)
+    (nowhere (goal.at.returns-in-Nowhere c).In-Nowhere) c.judge_values.ensures

@@ -45,11 +45,13 @@ front_length c =
 pub slice_bounds-values-end-2 : goal.slice_bounds-values-end-2
 slice_bounds-values-end-2 c =
     let s = c.args.s in
-    front-within c.fill_columns.new.values (drop (s.q + (s.p + s.p)) (replicate 48 (pos 0))) _ (front_length (goal.at.slice_bounds-values-end-2 c).After-fill_columns)
+    front-within c.fill_columns.new.values (drop (s.q + (s.p + s.p)) (replicate 48 (pos 0))) _
+    (front_length (goal.at.slice_bounds-values-end-2 c).After-fill_columns)
 
 pub slice_bounds-first_unmet-end-2 : goal.slice_bounds-first_unmet-end-2
 slice_bounds-first_unmet-end-2 c =
-    sym (ap length (take_at c.fill_columns.new.values _ _ (front_length (goal.at.slice_bounds-first_unmet-end-2 c).After-fill_columns)) ∙ front_length (goal.at.slice_bounds-first_unmet-end-2 c).After-fill_columns)
+    sym (ap length (take_at c.fill_columns.new.values _ _ (front_length (goal.at.slice_bounds-first_unmet-end-2 c).After-fill_columns))
+    ∙ front_length (goal.at.slice_bounds-first_unmet-end-2 c).After-fill_columns)
 
 pub first_unmet-requires : goal.first_unmet-requires
 unfolding asked

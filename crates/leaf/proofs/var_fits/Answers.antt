@@ -41,7 +41,9 @@ literal-test : (c : After-literal_fits) →
 literal-test c =
     let s = c.args in
     let u = asked s.ticket.now s.s in
-    c.literal_fits.ensures ∙ ap₂ (literal_fits u (literal_in u s.labels.now s.x)) (z-is (goal.at.After-literal_fits c).After-value_of-len) (c-is (goal.at.After-literal_fits c).After-value_of-code)
+    c.literal_fits.ensures
+    ∙ ap₂ (literal_fits u (literal_in u s.labels.now s.x)) (z-is (goal.at.After-literal_fits c).After-value_of-len)
+    (c-is (goal.at.After-literal_fits c).After-value_of-code)
 
 length-test : (c : After-length_fits) →
     let args = c.args in
@@ -58,12 +60,14 @@ code-test : (c : After-code_fits) →
     (model_value (asked args.ticket.now args.s) args.model.now code args.x)
 code-test c =
     let args = c.args in
-    c.code_fits.ensures ∙ ap₂ (λ (z w : ℤ). code_fits args.s.n z w) (z-is (goal.at.After-code_fits c).After-value_of-len) (c-is (goal.at.After-code_fits c).After-value_of-code)
+    c.code_fits.ensures
+    ∙ ap₂ (λ (z w : ℤ). code_fits args.s.n z w) (z-is (goal.at.After-code_fits c).After-value_of-len) (c-is (goal.at.After-code_fits c).After-value_of-code)
 
 pub returns-then-not-literal_fits : goal.returns-then-not-literal_fits
 returns-then-not-literal_fits c =
     let s = c.args in
-    sym (var_literal (asked s.ticket.now s.s) s.labels.now s.model.now s.x (sym (literal-test (goal.at.returns-then-not-literal_fits c).After-literal_fits) ∙ c.if-not-literal_fits.true))
+    sym (var_literal (asked s.ticket.now s.s) s.labels.now s.model.now s.x
+    (sym (literal-test (goal.at.returns-then-not-literal_fits c).After-literal_fits) ∙ c.if-not-literal_fits.true))
 
 pub returns-then-not-length_fits : goal.returns-then-not-length_fits
 returns-then-not-length_fits c =
@@ -83,7 +87,8 @@ returns-then-not-code_fits c =
     let s = c.args in
     sym (var_code (asked s.ticket.now s.s) s.labels.now s.model.now s.x
     (sym (literal-test (goal.at.returns-then-not-code_fits c).After-literal_fits) ∙ c.if-not-literal_fits.false)
-    (sym (length-test (goal.at.returns-then-not-code_fits c).After-length_fits) ∙ c.if-not-length_fits.false) (sym (code-test (goal.at.returns-then-not-code_fits c).After-code_fits) ∙ c.if-not-code_fits.true))
+    (sym (length-test (goal.at.returns-then-not-code_fits c).After-length_fits) ∙ c.if-not-length_fits.false)
+    (sym (code-test (goal.at.returns-then-not-code_fits c).After-code_fits) ∙ c.if-not-code_fits.true))
 
 pub returns : goal.returns
 unfolding asked

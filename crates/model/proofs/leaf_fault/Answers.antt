@@ -61,7 +61,8 @@ pub returns-then-not-settled : goal.returns-then-not-settled
 returns-then-not-settled c =
     let s = c.args in
     leaf_tests (asked s.ticket.now s.s) (branch_of s.work.now s.count) (values s.s s.model.now) true false _
-    (sym (keeps-test (goal.at.returns-then-not-settled c).After-keeps_facts) ∙ c.if-not-keeps_facts.false) (sym (settled-test (goal.at.returns-then-not-settled c).After-settled) ∙ c.if-not-settled.true) refl
+    (sym (keeps-test (goal.at.returns-then-not-settled c).After-keeps_facts) ∙ c.if-not-keeps_facts.false)
+    (sym (settled-test (goal.at.returns-then-not-settled c).After-settled) ∙ c.if-not-settled.true) refl
 
 pub short_lengths-requires : goal.short_lengths-requires
 short_lengths-requires c =

@@ -69,7 +69,8 @@ returns-then-ends_steps c =
     let a = c.args in
     let met = c.with_state-report in
     let r = whole (goal.at.returns-then-ends_steps c).In-Whole in
-    going_model (bytes (goal.at.returns-then-ends_steps c).At-loop-kind) a.s c.loop-kind.invariant.0 met.result met.ensures a.at a.r _ c.requires.0 c.loop-kind.invariant.1
+    going_model (bytes (goal.at.returns-then-ends_steps c).At-loop-kind) a.s c.loop-kind.invariant.0 met.result met.ensures a.at a.r _ c.requires.0
+    c.loop-kind.invariant.1
     (sym c.ends_steps.ensures ∙ c.if-ends_steps.true) r.0 (all_there (bytes (goal.at.returns-then-ends_steps c).At-loop-kind) c.loop-kind.i _ _ r)
 
 pub record_fault-fault-requires : goal.record_fault-fault-requires
@@ -140,7 +141,9 @@ with_step-report-requires c =
 
 pub take_step-requires : goal.take_step-requires
 take_step-requires c =
-    let (small, lent) = roomy (bytes (goal.at.take_step-requires c).At-loop-kind) c.args.s c.loop-kind.invariant.0 c.requires.1 (omega (arith, ends_within (goal.at.take_step-requires c).Else-fault-ne0)) in
+    let (small, lent) =
+    roomy (bytes (goal.at.take_step-requires c).At-loop-kind) c.args.s c.loop-kind.invariant.0 c.requires.1
+    (omega (arith, ends_within (goal.at.take_step-requires c).Else-fault-ne0)) in
     (fit (goal.at.take_step-requires c).Else-fault-ne0, small, lent)
 
 fits : (n : ℕ) → n ≤ ticket_bytes → Fits w64 n
@@ -220,8 +223,11 @@ returns-in-Closed c =
     let a = c.args in
     let met = c.with_state-report in
     let counted = c.with_step-report in
-    going_closed b a.s c.loop-kind.invariant.0 met.result met.ensures _ (fit (goal.at.returns-in-Closed c).Else-fault-ne0) (all_there b c.loop-kind.i _ _ (whole (goal.at.returns-in-Closed c).In-Whole)) (step (goal.at.returns-in-Closed c).Else-fault-ne0) (clean (goal.at.returns-in-Closed c).Else-fault-ne0)
-    counted.result counted.ensures (marksOf (goal.at.returns-in-Closed c).After-take_step) (eachOf (goal.at.returns-in-Closed c).After-take_step) (left_of (goal.at.returns-in-Closed c).After-take_step) _ c.take_step.ensures c.in-Closed.is
+    going_closed b a.s c.loop-kind.invariant.0 met.result met.ensures _ (fit (goal.at.returns-in-Closed c).Else-fault-ne0)
+    (all_there b c.loop-kind.i _ _ (whole (goal.at.returns-in-Closed c).In-Whole)) (step (goal.at.returns-in-Closed c).Else-fault-ne0)
+    (clean (goal.at.returns-in-Closed c).Else-fault-ne0)
+    counted.result counted.ensures (marksOf (goal.at.returns-in-Closed c).After-take_step) (eachOf (goal.at.returns-in-Closed c).After-take_step)
+    (left_of (goal.at.returns-in-Closed c).After-take_step) _ c.take_step.ensures c.in-Closed.is
 
 pub overflow_add-i : goal.overflow_add-i
 overflow_add-i c =
@@ -246,8 +252,12 @@ loop-kind-preserved c =
     let a = c.args in
     let met = c.with_state-report in
     let counted = c.with_step-report in (
-      going_open b a.s c.loop-kind.invariant.0 met.result met.ensures _ (fit (goal.at.loop-kind-preserved c).Else-fault-ne0) (all_there b c.loop-kind.i _ _ (whole (goal.at.loop-kind-preserved c).In-Whole)) (step (goal.at.loop-kind-preserved c).Else-fault-ne0) (clean (goal.at.loop-kind-preserved c).Else-fault-ne0)
-          counted.result counted.ensures (marksOf (goal.at.loop-kind-preserved c).After-take_step) (eachOf (goal.at.loop-kind-preserved c).After-take_step) (left_of (goal.at.loop-kind-preserved c).After-take_step) _ _ _ c.take_step.ensures c.in-Open.is (same-marks (goal.at.loop-kind-preserved c).After-take_step)
+      going_open b a.s c.loop-kind.invariant.0 met.result met.ensures _ (fit (goal.at.loop-kind-preserved c).Else-fault-ne0)
+          (all_there b c.loop-kind.i _ _ (whole (goal.at.loop-kind-preserved c).In-Whole)) (step (goal.at.loop-kind-preserved c).Else-fault-ne0)
+          (clean (goal.at.loop-kind-preserved c).Else-fault-ne0)
+          counted.result counted.ensures (marksOf (goal.at.loop-kind-preserved c).After-take_step) (eachOf (goal.at.loop-kind-preserved c).After-take_step)
+          (left_of (goal.at.loop-kind-preserved c).After-take_step) _ _ _ c.take_step.ensures c.in-Open.is
+          (same-marks (goal.at.loop-kind-preserved c).After-take_step)
           (same-each (goal.at.loop-kind-preserved c).After-take_step)
           (same_left (goal.at.loop-kind-preserved c).After-take_step),
       omega (arith, c.loop-kind.invariant.1),

@@ -38,7 +38,8 @@ loop-j-preserved c =
     let l = c.loop-j in
     let row = args.row.now in
     let n = c.requires.0 in
-    let size : c.absolute.result ≡ nat_abs (z (goal.at.loop-j-preserved c).After-absolute-arg-1) = c.absolute.ensures ∙ ap nat_abs (to_z-of_z (fits (goal.at.loop-j-preserved c).After-absolute-arg-1)) in
+    let size : c.absolute.result ≡ nat_abs (z (goal.at.loop-j-preserved c).After-absolute-arg-1) =
+    c.absolute.ensures ∙ ap nat_abs (to_z-of_z (fits (goal.at.loop-j-preserved c).After-absolute-arg-1)) in
     let k : l.j - 1 + 1 ≡ l.j = omega arith in
     let e : c.gcd-d.result ≡ gcd (nat_abs (z (goal.at.loop-j-preserved c).After-absolute-arg-1)) l.d = c.gcd-d.ensures ∙ ap (λ (m : ℕ). gcd m l.d) size in (
       omega arith,
@@ -46,7 +47,8 @@ loop-j-preserved c =
       e
           ∙ ap (gcd (nat_abs (z (goal.at.loop-j-preserved c).After-absolute-arg-1))) (l.invariant.2 ∙ ap (λ (i : ℕ). divisor_of (drop i row)) (sym k))
           ∙ sym (divisor_more row (l.j - 1) (omega arith)),
-      rw e (gcd_le (nat_abs (z (goal.at.loop-j-preserved c).After-absolute-arg-1)) l.d number_limit (small (goal.at.loop-j-preserved c).After-absolute-arg-1) l.invariant.3),
+      rw e (gcd_le (nat_abs (z (goal.at.loop-j-preserved c).After-absolute-arg-1)) l.d number_limit
+          (small (goal.at.loop-j-preserved c).After-absolute-arg-1) l.invariant.3),
     )
 
 pub returns : goal.returns

@@ -18,17 +18,20 @@ pub read_head-requires : goal.read_head-requires
 read_head-requires c =
     omega (
       arith,
-      head_size c.args.b.now (numbers_of c.args.s) c.args.at c.requires.0 (sym (ranked (goal.at.read_head-requires c).After-rank_of-rank) ∙ c.if-rank-eq-HEAD_RANK.true),
+      head_size c.args.b.now (numbers_of c.args.s) c.args.at c.requires.0
+          (sym (ranked (goal.at.read_head-requires c).After-rank_of-rank) ∙ c.if-rank-eq-HEAD_RANK.true),
     )
 
 pub returns-then-rank-eq-HEAD_RANK : goal.returns-then-rank-eq-HEAD_RANK
 returns-then-rank-eq-HEAD_RANK c =
-    ap (read_to c.args.b.now) (simp (eq-eqb _ _ (sym (ranked (goal.at.returns-then-rank-eq-HEAD_RANK c).After-rank_of-rank) ∙ c.if-rank-eq-HEAD_RANK.true), c.read_head.ensures))
+    ap (read_to c.args.b.now)
+    (simp (eq-eqb _ _ (sym (ranked (goal.at.returns-then-rank-eq-HEAD_RANK c).After-rank_of-rank) ∙ c.if-rank-eq-HEAD_RANK.true), c.read_head.ensures))
     ∙ after_advanced _ _ _ c.requires.0
 
 pub returns-then-rank-eq-LITERAL_RANK : goal.returns-then-rank-eq-LITERAL_RANK
 returns-then-rank-eq-LITERAL_RANK c =
-    ap (read_to c.args.b.now) (sym (rw (sym (ranked (goal.at.returns-then-rank-eq-LITERAL_RANK c).After-rank_of-rank)) (rw (ne_eqb _ _ c.if-rank-eq-HEAD_RANK.false, eq-eqb _ _ c.if-rank-eq-LITERAL_RANK.true))))
+    ap (read_to c.args.b.now) (sym (rw (sym (ranked (goal.at.returns-then-rank-eq-LITERAL_RANK c).After-rank_of-rank))
+    (rw (ne_eqb _ _ c.if-rank-eq-HEAD_RANK.false, eq-eqb _ _ c.if-rank-eq-LITERAL_RANK.true))))
     ∙ after_advanced _ _ _ c.requires.0
 
 pub overflow_add-result-then-rank-eq-EXTENDED_RANK : goal.overflow_add-result-then-rank-eq-EXTENDED_RANK

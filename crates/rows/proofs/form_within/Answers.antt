@@ -28,7 +28,9 @@ unfolding all_within
 returns-then-not-in_limit c =
     let args = c.args in
     let l = c.loop-j in
-    sym (every_fails (within number_limit) args.row.now l.j (pos 0) (omega arith) (sym (test (goal.at.returns-then-not-in_limit c).After-in_limit) ∙ not-true _ c.if-not-in_limit.true-raw)) ∙ l.invariant.2
+    sym (every_fails (within number_limit) args.row.now l.j (pos 0) (omega arith)
+    (sym (test (goal.at.returns-then-not-in_limit c).After-in_limit) ∙ not-true _ c.if-not-in_limit.true-raw))
+    ∙ l.invariant.2
 
 pub loop-j-preserved : goal.loop-j-preserved
 unfolding all_within
@@ -37,7 +39,9 @@ loop-j-preserved c =
     let l = c.loop-j in (
       omega arith,
       omega arith,
-      every_on (within number_limit) args.row.now l.j (pos 0) (omega arith) (sym (test (goal.at.loop-j-preserved c).After-in_limit) ∙ not-false _ c.if-not-in_limit.false-raw) ∙ l.invariant.2,
+      every_on (within number_limit) args.row.now l.j (pos 0) (omega arith)
+          (sym (test (goal.at.loop-j-preserved c).After-in_limit) ∙ not-false _ c.if-not-in_limit.false-raw)
+          ∙ l.invariant.2,
     )
 
 pub returns : goal.returns

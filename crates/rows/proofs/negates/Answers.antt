@@ -64,7 +64,10 @@ loop-j-preserved c =
     let args = c.args in
     let l = c.loop-j in
     let n = long (goal.at.loop-j-preserved c).After-y-1 in
-    let e = eqℤ_yes _ (y (goal.at.loop-j-preserved c).After-y-1) (sym (is (goal.at.loop-j-preserved c).After-y-1) ∙ same_bits _ (y (goal.at.loop-j-preserved c).After-y-1) (fx (goal.at.loop-j-preserved c).After-y-1) (fy (goal.at.loop-j-preserved c).After-y-1) c.if-x-y.false) in
+    let e =
+    eqℤ_yes _ (y (goal.at.loop-j-preserved c).After-y-1) (sym (is (goal.at.loop-j-preserved c).After-y-1)
+    ∙ same_bits _ (y (goal.at.loop-j-preserved c).After-y-1) (fx (goal.at.loop-j-preserved c).After-y-1) (fy (goal.at.loop-j-preserved c).After-y-1)
+    c.if-x-y.false) in
     (omega arith, omega arith, eq_integers_on (scale (negsuc 0) args.row.now) args.other.now l.j (omega arith) (omega arith) e ∙ l.invariant.2)
 
 pub returns : goal.returns

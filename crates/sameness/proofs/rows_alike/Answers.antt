@@ -38,21 +38,33 @@ firsts c = sym c.variable_at.ensures.value ∙ c.if-variable_at.false ∙ c.vari
 -- the literals that were read are those that the two facts name
 module _ (c : After-literal_at-then-tag-eq-TAG_LITERAL) where
   named : c.literal_at.result ≡ literal_named (fact_of (row (goal.at.After-literal_at-then-tag-eq-TAG_LITERAL c).Else-tag-tag_of))
-  named = c.literal_at.ensures.value ∙ sym (literal_of (row (goal.at.After-literal_at-then-tag-eq-TAG_LITERAL c).Else-tag-tag_of) _ (tag_is (goal.at.After-literal_at-then-tag-eq-TAG_LITERAL c).Else-tag-tag_of) c.if-tag-eq-TAG_LITERAL.true)
+  named =
+      c.literal_at.ensures.value
+      ∙ sym (literal_of (row (goal.at.After-literal_at-then-tag-eq-TAG_LITERAL c).Else-tag-tag_of) _
+      (tag_is (goal.at.After-literal_at-then-tag-eq-TAG_LITERAL c).Else-tag-tag_of) c.if-tag-eq-TAG_LITERAL.true)
 
-  other-named : c.literal_at-then-tag-eq-TAG_LITERAL.result ≡ literal_named (fact_of (other (goal.at.After-literal_at-then-tag-eq-TAG_LITERAL c).Else-tag-tag_of))
-  other-named = c.literal_at-then-tag-eq-TAG_LITERAL.ensures.value ∙ sym (literal_of (other (goal.at.After-literal_at-then-tag-eq-TAG_LITERAL c).Else-tag-tag_of) _ (other_tag (goal.at.After-literal_at-then-tag-eq-TAG_LITERAL c).Else-tag-tag_of) c.if-tag-eq-TAG_LITERAL.true)
+  other-named : c.literal_at-then-tag-eq-TAG_LITERAL.result
+      ≡ literal_named (fact_of (other (goal.at.After-literal_at-then-tag-eq-TAG_LITERAL c).Else-tag-tag_of))
+  other-named =
+      c.literal_at-then-tag-eq-TAG_LITERAL.ensures.value
+      ∙ sym (literal_of (other (goal.at.After-literal_at-then-tag-eq-TAG_LITERAL c).Else-tag-tag_of) _
+      (other_tag (goal.at.After-literal_at-then-tag-eq-TAG_LITERAL c).Else-tag-tag_of) c.if-tag-eq-TAG_LITERAL.true)
 
 pub returns-then-tag-tag_of : goal.returns-then-tag-tag_of
 returns-then-tag-tag_of c = λ s t h g. sym (alike_apart _ _ _ _ (λ e. c.if-tag-tag_of.true (c.tag_of-tag.ensures ∙ e ∙ sym c.tag_of.ensures)))
 
 pub returns-then-tag-le-TAG_NE : goal.returns-then-tag-le-TAG_NE
 returns-then-tag-le-TAG_NE c =
-    λ s t h g. c.same_from.ensures ∙ sym (alike_forms _ _ (row (goal.at.returns-then-tag-le-TAG_NE c).Else-tag-tag_of) (other (goal.at.returns-then-tag-le-TAG_NE c).Else-tag-tag_of) _ (tag_is (goal.at.returns-then-tag-le-TAG_NE c).Else-tag-tag_of) (other_tag (goal.at.returns-then-tag-le-TAG_NE c).Else-tag-tag_of) c.if-tag-le-TAG_NE.true)
+    λ s t h g. c.same_from.ensures
+    ∙ sym (alike_forms _ _ (row (goal.at.returns-then-tag-le-TAG_NE c).Else-tag-tag_of) (other (goal.at.returns-then-tag-le-TAG_NE c).Else-tag-tag_of) _
+    (tag_is (goal.at.returns-then-tag-le-TAG_NE c).Else-tag-tag_of) (other_tag (goal.at.returns-then-tag-le-TAG_NE c).Else-tag-tag_of)
+    c.if-tag-le-TAG_NE.true)
 
 pub returns-then-variable_at : goal.returns-then-variable_at
 returns-then-variable_at c =
-    λ s t h g. sym (alike_firsts _ _ (row (goal.at.returns-then-variable_at c).Else-tag-tag_of) (other (goal.at.returns-then-variable_at c).Else-tag-tag_of) _ (tag_is (goal.at.returns-then-variable_at c).Else-tag-tag_of) (other_tag (goal.at.returns-then-variable_at c).Else-tag-tag_of) c.if-tag-le-TAG_NE.false
+    λ s t h g. sym (alike_firsts _ _ (row (goal.at.returns-then-variable_at c).Else-tag-tag_of) (other (goal.at.returns-then-variable_at c).Else-tag-tag_of)
+    _ (tag_is (goal.at.returns-then-variable_at c).Else-tag-tag_of) (other_tag (goal.at.returns-then-variable_at c).Else-tag-tag_of)
+    c.if-tag-le-TAG_NE.false
     (λ e. c.if-variable_at.true (c.variable_at.ensures.value ∙ e ∙ sym c.variable_at-2.ensures.value)))
 
 pub same_literals-requires : goal.same_literals-requires
@@ -67,15 +79,20 @@ pub returns-then-tag-eq-TAG_LITERAL : goal.returns-then-tag-eq-TAG_LITERAL
 unfolding asked
 returns-then-tag-eq-TAG_LITERAL c =
     let args = c.args in
-    λ s t h g. c.same_literals.ensures s.literals t.literals (rw (named (goal.at.returns-then-tag-eq-TAG_LITERAL c).After-literal_at-then-tag-eq-TAG_LITERAL) h) (rw (other-named (goal.at.returns-then-tag-eq-TAG_LITERAL c).After-literal_at-then-tag-eq-TAG_LITERAL) g)
+    λ s t h g. c.same_literals.ensures s.literals t.literals
+    (rw (named (goal.at.returns-then-tag-eq-TAG_LITERAL c).After-literal_at-then-tag-eq-TAG_LITERAL) h)
+    (rw (other-named (goal.at.returns-then-tag-eq-TAG_LITERAL c).After-literal_at-then-tag-eq-TAG_LITERAL) g)
     ∙ ap₂ (λ (l k : ℕ). eq_string (literal (asked args.b.now s) l) (literal (asked args.c.now t) k)) c.literal_at.ensures.value
     c.literal_at-then-tag-eq-TAG_LITERAL.ensures.value
-    ∙ sym (alike_literals _ _ (row (goal.at.returns-then-tag-eq-TAG_LITERAL c).Else-tag-tag_of) (other (goal.at.returns-then-tag-eq-TAG_LITERAL c).Else-tag-tag_of) _ (tag_is (goal.at.returns-then-tag-eq-TAG_LITERAL c).Else-tag-tag_of) (other_tag (goal.at.returns-then-tag-eq-TAG_LITERAL c).Else-tag-tag_of) c.if-tag-eq-TAG_LITERAL.true
+    ∙ sym (alike_literals _ _ (row (goal.at.returns-then-tag-eq-TAG_LITERAL c).Else-tag-tag_of)
+    (other (goal.at.returns-then-tag-eq-TAG_LITERAL c).Else-tag-tag_of) _ (tag_is (goal.at.returns-then-tag-eq-TAG_LITERAL c).Else-tag-tag_of)
+    (other_tag (goal.at.returns-then-tag-eq-TAG_LITERAL c).Else-tag-tag_of) c.if-tag-eq-TAG_LITERAL.true
     (firsts (goal.at.returns-then-tag-eq-TAG_LITERAL c).Else-variable_at))
 
 pub returns : goal.returns
 returns c =
     let if2 = c.if-tag-le-TAG_NE in
     λ s t h g. ap₂ eqb c.variable_at-3.ensures.value c.variable_at-4.ensures.value
-    ∙ sym (alike_variables _ _ (row (goal.at.returns c).Else-tag-tag_of) (other (goal.at.returns c).Else-tag-tag_of) _ (tag_is (goal.at.returns c).Else-tag-tag_of) (other_tag (goal.at.returns c).Else-tag-tag_of) if2.false c.if-tag-eq-TAG_LITERAL.false
+    ∙ sym (alike_variables _ _ (row (goal.at.returns c).Else-tag-tag_of) (other (goal.at.returns c).Else-tag-tag_of) _
+    (tag_is (goal.at.returns c).Else-tag-tag_of) (other_tag (goal.at.returns c).Else-tag-tag_of) if2.false c.if-tag-eq-TAG_LITERAL.false
     (firsts (goal.at.returns c).Else-variable_at))

@@ -79,7 +79,9 @@ returns-then-not-states_equal c =
     let l = c.loop-left in
     let b = c.args.b.now in
     let br = branch_of c.args.work.now c.args.count in
-    sym (neighbours_no (numbered c.args.s) br b l.i l.left (omega arith) (said (goal.at.returns-then-not-states_equal c).After-states_equal ∙ not-true _ c.if-not-states_equal.true-raw)) ∙ l.invariant.3
+    sym (neighbours_no (numbered c.args.s) br b l.i l.left (omega arith)
+    (said (goal.at.returns-then-not-states_equal c).After-states_equal ∙ not-true _ c.if-not-states_equal.true-raw))
+    ∙ l.invariant.3
 
 pub overflow_add-i-in-loop-left : goal.overflow_add-i-in-loop-left
 overflow_add-i-in-loop-left c = omega arith
@@ -98,7 +100,9 @@ loop-left-preserved c =
       omega arith,
       distinct_rest b l.i l.left (omega arith) l.invariant.1,
       below_rest b c.args.s.p l.i l.left (omega arith) l.invariant.2,
-      sym (neighbours_yes (numbered c.args.s) br b l.i l.left (omega arith) (said (goal.at.loop-left-preserved c).After-states_equal ∙ not-false _ c.if-not-states_equal.false-raw)) ∙ l.invariant.3,
+      sym (neighbours_yes (numbered c.args.s) br b l.i l.left (omega arith)
+          (said (goal.at.loop-left-preserved c).After-states_equal ∙ not-false _ c.if-not-states_equal.false-raw))
+          ∙ l.invariant.3,
     )
 
 pub returns : goal.returns

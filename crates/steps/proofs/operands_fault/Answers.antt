@@ -44,8 +44,11 @@ u16_at-requires c =
     omega (arith, at_least (form_for r) c.args.size (fits c), least_four r, c.requires.0)
 
 pub operands_in_range-requires : goal.operands_in_range-requires
-operands_in_range-requires c =
-    (c.requires.0, fits_by c.args.b.now c.args.body c.args.size _ (its-rule (goal.at.operands_in_range-requires c).After-rule_of-rule) (fits (goal.at.operands_in_range-requires c).Else-not-length_fits))
+operands_in_range-requires c = (
+  c.requires.0,
+  fits_by c.args.b.now c.args.body c.args.size _ (its-rule (goal.at.operands_in_range-requires c).After-rule_of-rule)
+      (fits (goal.at.operands_in_range-requires c).Else-not-length_fits),
+)
 
 pub returns-then-operands_in_range : goal.returns-then-operands_in_range
 unfolding asked

@@ -119,13 +119,17 @@ pub slice_bounds-store-end : goal.slice_bounds-store-end
 slice_bounds-store-end c = sym (copied-length (goal.at.slice_bounds-store-end c).After-row_of-w)
 
 pub store-requires : goal.store-requires
-store-requires c =
-    (omega (arith, c.requires.modelled), omega (arith, copied-short (goal.at.store-requires c).After-row_of-w, copied-length (goal.at.store-requires c).After-row_of-w), omega (arith, c.requires.modelled))
+store-requires c = (
+  omega (arith, c.requires.modelled),
+  omega (arith, copied-short (goal.at.store-requires c).After-row_of-w, copied-length (goal.at.store-requires c).After-row_of-w),
+  omega (arith, c.requires.modelled),
+)
 
 pub returns-then-first-x : goal.returns-then-first-x
 returns-then-first-x c =
     let s = c.args in record {
-      characters_after = c.store.ensures ∙ ap (λ (w : List ℕ). sets s.characters.now (length_limit * s.x) w) (copied (goal.at.returns-then-first-x c).After-row_of-w);
+      characters_after =
+          c.store.ensures ∙ ap (λ (w : List ℕ). sets s.characters.now (length_limit * s.x) w) (copied (goal.at.returns-then-first-x c).After-row_of-w);
       value = sym (copied-length (goal.at.returns-then-first-x c).After-row_of-w) ∙ ap length (copied (goal.at.returns-then-first-x c).After-row_of-w);
       upper_bound = copied-short (goal.at.returns-then-first-x c).After-row_of-w;
     }
@@ -142,8 +146,11 @@ pub slice_bounds-store-end-2 : goal.slice_bounds-store-end-2
 slice_bounds-store-end-2 c = sym (new-length (goal.at.slice_bounds-store-end-2 c).After-fresh-w)
 
 pub store-requires-2 : goal.store-requires-2
-store-requires-2 c =
-    (omega (arith, c.requires.modelled), omega (arith, size-short (goal.at.store-requires-2 c).After-magnitude-m, new-length (goal.at.store-requires-2 c).After-fresh-w), omega (arith, c.requires.modelled))
+store-requires-2 c = (
+  omega (arith, c.requires.modelled),
+  omega (arith, size-short (goal.at.store-requires-2 c).After-magnitude-m, new-length (goal.at.store-requires-2 c).After-fresh-w),
+  omega (arith, c.requires.modelled),
+)
 
 pub returns : goal.returns
 returns c =

@@ -71,8 +71,11 @@ placed_text-literal-requires c =
     record { literals_from_in_bounds = p.0; placed = p.1 }
 
 pub fill_text-requires : goal.fill_text-requires
-fill_text-requires c =
-    (c.placed_text-literal.ensures.0, omega (arith, short (goal.at.fill_text-requires c).After-placed_text-literal, c.requires.leaf_ready.3), short (goal.at.fill_text-requires c).After-placed_text-literal)
+fill_text-requires c = (
+  c.placed_text-literal.ensures.0,
+  omega (arith, short (goal.at.fill_text-requires c).After-placed_text-literal, c.requires.leaf_ready.3),
+  short (goal.at.fill_text-requires c).After-placed_text-literal,
+)
 
 pub fill_character-requires : goal.fill_character-requires
 fill_character-requires c =

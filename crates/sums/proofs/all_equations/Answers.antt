@@ -32,7 +32,9 @@ on_branch c = subst (λ (k : ℕ). k < c.args.count) (fact-is (goal.at.Else-coun
 tag_is : (c : After-tag_of-tag) →
     c.tag_of-tag.result ≡ tag_of (fact_of (row_at (w (goal.at.After-tag_of-tag c).After-u16_at-fact) (fact (goal.at.After-tag_of-tag c).After-u16_at-fact)))
 tag_is c =
-    c.tag_of-tag.ensures ∙ ap (λ (l : List ℤ). tag_of (fact_of l)) (c.row_at.ensures ∙ ap (row_at (w (goal.at.After-tag_of-tag c).After-u16_at-fact)) (fact-is (goal.at.After-tag_of-tag c).After-u16_at-fact))
+    c.tag_of-tag.ensures
+    ∙ ap (λ (l : List ℤ). tag_of (fact_of l))
+    (c.row_at.ensures ∙ ap (row_at (w (goal.at.After-tag_of-tag c).After-u16_at-fact)) (fact-is (goal.at.After-tag_of-tag c).After-u16_at-fact))
 
 pub loop-k-init : goal.loop-k-init
 loop-k-init c = let a = c.args in (omega arith, equations_all a.work.now a.count a.b.now a.at a.pairs)
@@ -41,7 +43,8 @@ pub returns-then-count-fact : goal.returns-then-count-fact
 returns-then-count-fact c =
     let a = c.args in
     sym (sym c.loop-k.invariant.1
-    ∙ equations_absent (w (goal.at.returns-then-count-fact c).After-u16_at-fact) a.count a.b.now a.at a.pairs (k (goal.at.returns-then-count-fact c).After-u16_at-fact) c.loop-k-test.true
+    ∙ equations_absent (w (goal.at.returns-then-count-fact c).After-u16_at-fact) a.count a.b.now a.at a.pairs
+    (k (goal.at.returns-then-count-fact c).After-u16_at-fact) c.loop-k-test.true
     (subst (λ (k : ℕ). a.count ≤ k) (fact-is (goal.at.returns-then-count-fact c).After-u16_at-fact) c.if-count-fact.true))
 
 pub row_at-requires : goal.row_at-requires
@@ -49,20 +52,27 @@ row_at-requires c = (omega (arith, c.requires.fine.few), omega (arith, c.require
 
 pub tag_of-tag-requires : goal.tag_of-tag-requires
 tag_of-tag-requires c =
-    ap length c.row_at.ensures ∙ length_row (w (goal.at.tag_of-tag-requires c).After-u16_at-fact) c.u16_at-fact.result (omega (arith, c.requires.fine.few, c.requires.fine.room, c.if-count-fact.false))
+    ap length c.row_at.ensures
+    ∙ length_row (w (goal.at.tag_of-tag-requires c).After-u16_at-fact) c.u16_at-fact.result
+    (omega (arith, c.requires.fine.few, c.requires.fine.room, c.if-count-fact.false))
 
 pub returns-then-tag-ne-TAG_EQ : goal.returns-then-tag-ne-TAG_EQ
 returns-then-tag-ne-TAG_EQ c =
     let a = c.args in
     sym (sym c.loop-k.invariant.1
-    ∙ equations_no (w (goal.at.returns-then-tag-ne-TAG_EQ c).After-u16_at-fact) a.count a.b.now a.at a.pairs (k (goal.at.returns-then-tag-ne-TAG_EQ c).After-u16_at-fact) c.loop-k-test.true (on_branch (goal.at.returns-then-tag-ne-TAG_EQ c).Else-count-fact)
-    (λ (e : tag_of (fact_of (row_at (w (goal.at.returns-then-tag-ne-TAG_EQ c).After-u16_at-fact) (fact (goal.at.returns-then-tag-ne-TAG_EQ c).After-u16_at-fact))) ≡ 1). c.if-tag-ne-TAG_EQ.true (tag_is (goal.at.returns-then-tag-ne-TAG_EQ c).After-tag_of-tag ∙ e)))
+    ∙ equations_no (w (goal.at.returns-then-tag-ne-TAG_EQ c).After-u16_at-fact) a.count a.b.now a.at a.pairs
+    (k (goal.at.returns-then-tag-ne-TAG_EQ c).After-u16_at-fact) c.loop-k-test.true (on_branch (goal.at.returns-then-tag-ne-TAG_EQ c).Else-count-fact)
+    (λ (e : tag_of
+    (fact_of (row_at (w (goal.at.returns-then-tag-ne-TAG_EQ c).After-u16_at-fact) (fact (goal.at.returns-then-tag-ne-TAG_EQ c).After-u16_at-fact)))
+    ≡ 1).
+    c.if-tag-ne-TAG_EQ.true (tag_is (goal.at.returns-then-tag-ne-TAG_EQ c).After-tag_of-tag ∙ e)))
 
 pub loop-k-preserved : goal.loop-k-preserved
 loop-k-preserved c =
     let a = c.args in (
       omega arith,
-      sym (equations_yes (w (goal.at.loop-k-preserved c).After-u16_at-fact) a.count a.b.now a.at a.pairs (k (goal.at.loop-k-preserved c).After-u16_at-fact) c.loop-k-test.true (on_branch (goal.at.loop-k-preserved c).Else-count-fact)
+      sym (equations_yes (w (goal.at.loop-k-preserved c).After-u16_at-fact) a.count a.b.now a.at a.pairs (k (goal.at.loop-k-preserved c).After-u16_at-fact)
+          c.loop-k-test.true (on_branch (goal.at.loop-k-preserved c).Else-count-fact)
           (sym (tag_is (goal.at.loop-k-preserved c).After-tag_of-tag) ∙ c.if-tag-ne-TAG_EQ.false))
           ∙ c.loop-k.invariant.1,
     )

@@ -66,11 +66,19 @@ module _ (c : After-x-1) where
   fb = back_fits x k fx
 
 -- the test: the quotient times the divisor is the number, or not
-exact : (c : Else-q-d) → quot_z (x (goal.at.Else-q-d c).After-x-1) (pos (k (goal.at.Else-q-d c).After-x-1)) *ℤ pos (k (goal.at.Else-q-d c).After-x-1) ≡ x (goal.at.Else-q-d c).After-x-1
+exact : (c : Else-q-d)
+    → quot_z (x (goal.at.Else-q-d c).After-x-1) (pos (k (goal.at.Else-q-d c).After-x-1)) *ℤ pos (k (goal.at.Else-q-d c).After-x-1)
+    ≡ x (goal.at.Else-q-d c).After-x-1
 exact c =
-    sym (to_z-of_z (fb (goal.at.Else-q-d c).After-x-1)) ∙ ap (λ (z : ℤ). to_z w64 (of_z w64 z)) (sym (back (goal.at.Else-q-d c).After-x-1)) ∙ ap (to_z w64) c.if-q-d.false ∙ to_z-of_z (fx (goal.at.Else-q-d c).After-x-1)
+    sym (to_z-of_z (fb (goal.at.Else-q-d c).After-x-1))
+    ∙ ap (λ (z : ℤ). to_z w64 (of_z w64 z)) (sym (back (goal.at.Else-q-d c).After-x-1))
+    ∙ ap (to_z w64) c.if-q-d.false
+    ∙ to_z-of_z (fx (goal.at.Else-q-d c).After-x-1)
 
-inexact : (c : Then-q-d) → quot_z (x (goal.at.Then-q-d c).After-x-1) (pos (k (goal.at.Then-q-d c).After-x-1)) *ℤ pos (k (goal.at.Then-q-d c).After-x-1) ≡ x (goal.at.Then-q-d c).After-x-1 → ⊥
+inexact : (c : Then-q-d)
+    → quot_z (x (goal.at.Then-q-d c).After-x-1) (pos (k (goal.at.Then-q-d c).After-x-1)) *ℤ pos (k (goal.at.Then-q-d c).After-x-1)
+    ≡ x (goal.at.Then-q-d c).After-x-1
+    → ⊥
 inexact c e = c.if-q-d.true (ap (of_z w64) (back (goal.at.Then-q-d c).After-x-1 ∙ e))
 
 -- behind the loop: every column is divided
@@ -102,22 +110,43 @@ unfolding row_in
 returns-then-q-d c =
     let l = c.loop-j in
     let g = length_multiples (row (goal.at.returns-then-q-d c).After-x-1) (k (goal.at.returns-then-q-d c).After-x-1) in
-    let e = eqℤ_no (get_or (multiples (row (goal.at.returns-then-q-d c).After-x-1) (k (goal.at.returns-then-q-d c).After-x-1)) l.j (pos 0)) (get_or (row (goal.at.returns-then-q-d c).After-x-1) l.j (pos 0))
+    let e =
+    eqℤ_no (get_or (multiples (row (goal.at.returns-then-q-d c).After-x-1) (k (goal.at.returns-then-q-d c).After-x-1)) l.j (pos 0))
+    (get_or (row (goal.at.returns-then-q-d c).After-x-1) l.j (pos 0))
     (λ e. exact_no (x (goal.at.returns-then-q-d c).After-x-1) (k (goal.at.returns-then-q-d c).After-x-1) (bound (goal.at.returns-then-q-d c).Start) (inexact c)
-    (ap (λ (z : ℤ). pos (k (goal.at.returns-then-q-d c).After-x-1) *ℤ floor_div z (k (goal.at.returns-then-q-d c).After-x-1)) (was (goal.at.returns-then-q-d c).After-x-1) ∙ sym (multiple_number (row (goal.at.returns-then-q-d c).After-x-1) (k (goal.at.returns-then-q-d c).After-x-1) l.j (omega arith)) ∙ e ∙ sym (was (goal.at.returns-then-q-d c).After-x-1))) in
-    let f : eq_integers (drop 2 (multiples (row (goal.at.returns-then-q-d c).After-x-1) (k (goal.at.returns-then-q-d c).After-x-1))) (drop 2 (row (goal.at.returns-then-q-d c).After-x-1)) ≡ false =
-    sym l.invariant.1 ∙ eq_integers_fails (multiples (row (goal.at.returns-then-q-d c).After-x-1) (k (goal.at.returns-then-q-d c).After-x-1)) (row (goal.at.returns-then-q-d c).After-x-1) l.j (omega arith) (omega arith) e in
-    sym (ap (λ (d : ℤ). ge_row (divided (nat_abs d) (drop 1 (row (goal.at.returns-then-q-d c).After-x-1)))) (sym (plain (goal.at.returns-then-q-d c).Start)) ∙ ap ge_row (divided_no (row (goal.at.returns-then-q-d c).After-x-1) (k (goal.at.returns-then-q-d c).After-x-1) c.requires.1 f))
+    (ap (λ (z : ℤ). pos (k (goal.at.returns-then-q-d c).After-x-1) *ℤ floor_div z (k (goal.at.returns-then-q-d c).After-x-1))
+    (was (goal.at.returns-then-q-d c).After-x-1)
+    ∙ sym (multiple_number (row (goal.at.returns-then-q-d c).After-x-1) (k (goal.at.returns-then-q-d c).After-x-1) l.j (omega arith))
+    ∙ e
+    ∙ sym (was (goal.at.returns-then-q-d c).After-x-1))) in
+    let f : eq_integers (drop 2 (multiples (row (goal.at.returns-then-q-d c).After-x-1) (k (goal.at.returns-then-q-d c).After-x-1)))
+    (drop 2 (row (goal.at.returns-then-q-d c).After-x-1))
+    ≡ false =
+    sym l.invariant.1
+    ∙ eq_integers_fails (multiples (row (goal.at.returns-then-q-d c).After-x-1) (k (goal.at.returns-then-q-d c).After-x-1))
+    (row (goal.at.returns-then-q-d c).After-x-1) l.j (omega arith) (omega arith) e in
+    sym (ap (λ (d : ℤ). ge_row (divided (nat_abs d) (drop 1 (row (goal.at.returns-then-q-d c).After-x-1)))) (sym (plain (goal.at.returns-then-q-d c).Start))
+    ∙ ap ge_row (divided_no (row (goal.at.returns-then-q-d c).After-x-1) (k (goal.at.returns-then-q-d c).After-x-1) c.requires.1 f))
 
 pub loop-j-preserved : goal.loop-j-preserved
 loop-j-preserved c =
     let l = c.loop-j in
     let g = length_multiples (row (goal.at.loop-j-preserved c).After-x-1) (k (goal.at.loop-j-preserved c).After-x-1) in
-    let (m, r) = exact_yes (x (goal.at.loop-j-preserved c).After-x-1) (k (goal.at.loop-j-preserved c).After-x-1) (bound (goal.at.loop-j-preserved c).Start) (exact c) in
-    let e = eqℤ_yes (get_or (multiples (row (goal.at.loop-j-preserved c).After-x-1) (k (goal.at.loop-j-preserved c).After-x-1)) l.j (pos 0)) (get_or (row (goal.at.loop-j-preserved c).After-x-1) l.j (pos 0))
-    (multiple_number (row (goal.at.loop-j-preserved c).After-x-1) (k (goal.at.loop-j-preserved c).After-x-1) l.j (omega arith) ∙ ap (λ (z : ℤ). pos (k (goal.at.loop-j-preserved c).After-x-1) *ℤ floor_div z (k (goal.at.loop-j-preserved c).After-x-1)) (sym (was (goal.at.loop-j-preserved c).After-x-1)) ∙ m ∙ was (goal.at.loop-j-preserved c).After-x-1) in (
-      changing_more 2 (λ z. floor_div z (k (goal.at.loop-j-preserved c).After-x-1)) (row (goal.at.loop-j-preserved c).After-x-1) l.row l.j l.invariant.0 _ (pos 0) (omega arith) (quotient_is (goal.at.loop-j-preserved c).After-x-1 ∙ r),
-      eq_integers_on (multiples (row (goal.at.loop-j-preserved c).After-x-1) (k (goal.at.loop-j-preserved c).After-x-1)) (row (goal.at.loop-j-preserved c).After-x-1) l.j (omega arith) (omega arith) e ∙ l.invariant.1,
+    let (m, r) =
+    exact_yes (x (goal.at.loop-j-preserved c).After-x-1) (k (goal.at.loop-j-preserved c).After-x-1) (bound (goal.at.loop-j-preserved c).Start) (exact c) in
+    let e =
+    eqℤ_yes (get_or (multiples (row (goal.at.loop-j-preserved c).After-x-1) (k (goal.at.loop-j-preserved c).After-x-1)) l.j (pos 0))
+    (get_or (row (goal.at.loop-j-preserved c).After-x-1) l.j (pos 0))
+    (multiple_number (row (goal.at.loop-j-preserved c).After-x-1) (k (goal.at.loop-j-preserved c).After-x-1) l.j (omega arith)
+    ∙ ap (λ (z : ℤ). pos (k (goal.at.loop-j-preserved c).After-x-1) *ℤ floor_div z (k (goal.at.loop-j-preserved c).After-x-1))
+    (sym (was (goal.at.loop-j-preserved c).After-x-1))
+    ∙ m
+    ∙ was (goal.at.loop-j-preserved c).After-x-1) in (
+      changing_more 2 (λ z. floor_div z (k (goal.at.loop-j-preserved c).After-x-1)) (row (goal.at.loop-j-preserved c).After-x-1) l.row l.j l.invariant.0 _
+          (pos 0) (omega arith) (quotient_is (goal.at.loop-j-preserved c).After-x-1 ∙ r),
+      eq_integers_on (multiples (row (goal.at.loop-j-preserved c).After-x-1) (k (goal.at.loop-j-preserved c).After-x-1))
+          (row (goal.at.loop-j-preserved c).After-x-1) l.j (omega arith) (omega arith) e
+          ∙ l.invariant.1,
     )
 
 pub floor_div-requires : goal.floor_div-requires
@@ -141,4 +170,5 @@ returns c =
     to_z-of_z fq ∙ c.floor_div.ensures ∙ ap (λ (z : ℤ). floor_div z m) (to_z-of_z fc ∙ exit-constant (goal.at.returns c).After-loop-j) in
     ap (λ (r : List ℤ). some (set r 1 (to_z w64 (of_z w64 c.floor_div.result)))) (exit (goal.at.returns c).After-loop-j)
     ∙ ap some (partly_whole row m _ c.requires.1 c.requires.2 q)
-    ∙ sym (ap (λ (d : ℤ). ge_row (divided (nat_abs d) (drop 1 row))) (sym (plain (goal.at.returns c).Start)) ∙ ap ge_row (divided_yes row m (bound (goal.at.returns c).Start) c.requires.1 f))
+    ∙ sym (ap (λ (d : ℤ). ge_row (divided (nat_abs d) (drop 1 row))) (sym (plain (goal.at.returns c).Start))
+    ∙ ap ge_row (divided_yes row m (bound (goal.at.returns c).Start) c.requires.1 f))

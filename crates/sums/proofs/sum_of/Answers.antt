@@ -71,10 +71,13 @@ module _ (c : After-i32_at-multiplier) where
 -- the row named and its test
 module _ (c : After-row_at-row) where
   on_branch : fact (goal.at.After-row_at-row c).After-i32_at-multiplier < count (goal.at.After-row_at-row c).After-i32_at-multiplier
-  on_branch = subst (λ (k : ℕ). k < count (goal.at.After-row_at-row c).After-i32_at-multiplier) (fact-is (goal.at.After-row_at-row c).After-i32_at-multiplier) c.if-fact-count.false
+  on_branch =
+      subst (λ (k : ℕ). k < count (goal.at.After-row_at-row c).After-i32_at-multiplier) (fact-is (goal.at.After-row_at-row c).After-i32_at-multiplier)
+      c.if-fact-count.false
 
   row_is : c.row_at-row.result.now ≡ row_at (w (goal.at.After-row_at-row c).After-i32_at-multiplier) (fact (goal.at.After-row_at-row c).After-i32_at-multiplier)
-  row_is = c.row_at-row.ensures ∙ ap (row_at (w (goal.at.After-row_at-row c).After-i32_at-multiplier)) (fact-is (goal.at.After-row_at-row c).After-i32_at-multiplier)
+  row_is =
+      c.row_at-row.ensures ∙ ap (row_at (w (goal.at.After-row_at-row c).After-i32_at-multiplier)) (fact-is (goal.at.After-row_at-row c).After-i32_at-multiplier)
 
   long : length (row_at (w (goal.at.After-row_at-row c).After-i32_at-multiplier) (fact (goal.at.After-row_at-row c).After-i32_at-multiplier)) ≡ 50
   long =
@@ -85,8 +88,12 @@ module _ (c : After-row_at-row) where
 
 test : (c : After-takes)
     → c.takes.result
-    ≡ fits (summand (multiplier (goal.at.After-takes c).After-i32_at-multiplier) (fact_of (row_at (w (goal.at.After-takes c).After-i32_at-multiplier) (fact (goal.at.After-takes c).After-i32_at-multiplier))))
-test c = c.takes.ensures ∙ ap₂ (λ (m : ℤ) (r : List ℤ). fits (summand m (fact_of r))) (multiplier-is (goal.at.After-takes c).After-i32_at-multiplier) (row_is (goal.at.After-takes c).After-row_at-row)
+    ≡ fits (summand (multiplier (goal.at.After-takes c).After-i32_at-multiplier)
+    (fact_of (row_at (w (goal.at.After-takes c).After-i32_at-multiplier) (fact (goal.at.After-takes c).After-i32_at-multiplier))))
+test c =
+    c.takes.ensures
+    ∙ ap₂ (λ (m : ℤ) (r : List ℤ). fits (summand m (fact_of r))) (multiplier-is (goal.at.After-takes c).After-i32_at-multiplier)
+    (row_is (goal.at.After-takes c).After-row_at-row)
 
 passed : (c : Else-not-takes)
     → fits (summand (multiplier (goal.at.Else-not-takes c).After-i32_at-multiplier)
@@ -107,9 +114,13 @@ shape_of-sum-then-fact-count c =
 pub returns-then-fact-count : goal.returns-then-fact-count
 unfolding row_in
 returns-then-fact-count c =
-    nothing (goal.at.returns-then-fact-count c).After-i32_at-multiplier (summing_absent (w (goal.at.returns-then-fact-count c).After-i32_at-multiplier) (count (goal.at.returns-then-fact-count c).After-i32_at-multiplier) (b (goal.at.returns-then-fact-count c).After-i32_at-multiplier) (at' (goal.at.returns-then-fact-count c).After-i32_at-multiplier) (n (goal.at.returns-then-fact-count c).After-i32_at-multiplier) c.loop-i.sum (i (goal.at.returns-then-fact-count c).After-i32_at-multiplier)
+    nothing (goal.at.returns-then-fact-count c).After-i32_at-multiplier
+    (summing_absent (w (goal.at.returns-then-fact-count c).After-i32_at-multiplier) (count (goal.at.returns-then-fact-count c).After-i32_at-multiplier)
+    (b (goal.at.returns-then-fact-count c).After-i32_at-multiplier) (at' (goal.at.returns-then-fact-count c).After-i32_at-multiplier)
+    (n (goal.at.returns-then-fact-count c).After-i32_at-multiplier) c.loop-i.sum (i (goal.at.returns-then-fact-count c).After-i32_at-multiplier)
     c.loop-i.invariant c.loop-i-test.true
-    (subst (λ (k : ℕ). count (goal.at.returns-then-fact-count c).After-i32_at-multiplier ≤ k) (fact-is (goal.at.returns-then-fact-count c).After-i32_at-multiplier) c.if-fact-count.true))
+    (subst (λ (k : ℕ). count (goal.at.returns-then-fact-count c).After-i32_at-multiplier ≤ k)
+    (fact-is (goal.at.returns-then-fact-count c).After-i32_at-multiplier) c.if-fact-count.true))
 
 pub row_at-row-requires : goal.row_at-row-requires
 row_at-row-requires c =
@@ -131,7 +142,11 @@ unfolding row_in
 returns-then-not-takes c =
     let loop-test = c.loop-i-test in
     let loop = c.loop-i in
-    nothing (goal.at.returns-then-not-takes c).After-i32_at-multiplier (summing_misfit (w (goal.at.returns-then-not-takes c).After-i32_at-multiplier) (count (goal.at.returns-then-not-takes c).After-i32_at-multiplier) (b (goal.at.returns-then-not-takes c).After-i32_at-multiplier) (at' (goal.at.returns-then-not-takes c).After-i32_at-multiplier) (n (goal.at.returns-then-not-takes c).After-i32_at-multiplier) loop.sum (i (goal.at.returns-then-not-takes c).After-i32_at-multiplier) loop.invariant loop-test.true (on_branch (goal.at.returns-then-not-takes c).After-row_at-row)
+    nothing (goal.at.returns-then-not-takes c).After-i32_at-multiplier
+    (summing_misfit (w (goal.at.returns-then-not-takes c).After-i32_at-multiplier) (count (goal.at.returns-then-not-takes c).After-i32_at-multiplier)
+    (b (goal.at.returns-then-not-takes c).After-i32_at-multiplier) (at' (goal.at.returns-then-not-takes c).After-i32_at-multiplier)
+    (n (goal.at.returns-then-not-takes c).After-i32_at-multiplier) loop.sum (i (goal.at.returns-then-not-takes c).After-i32_at-multiplier) loop.invariant
+    loop-test.true (on_branch (goal.at.returns-then-not-takes c).After-row_at-row)
     (sym (test (goal.at.returns-then-not-takes c).After-takes) ∙ not-true _ c.if-not-takes.true-raw))
 
 pub add_multiple-requires : goal.add_multiple-requires
@@ -143,9 +158,16 @@ add_multiple-requires c =
       row_len = (
         ap length (row_is (goal.at.add_multiple-requires c).After-row_at-row) ∙ long (goal.at.add_multiple-requires c).After-row_at-row,
         ap (λ (r : List ℤ). all_within number_limit (drop 1 r)) (row_is (goal.at.add_multiple-requires c).After-row_at-row)
-            ∙ row_small (w (goal.at.add_multiple-requires c).After-i32_at-multiplier) (count (goal.at.add_multiple-requires c).After-i32_at-multiplier) (b (goal.at.add_multiple-requires c).After-i32_at-multiplier) (at' (goal.at.add_multiple-requires c).After-i32_at-multiplier) (n (goal.at.add_multiple-requires c).After-i32_at-multiplier) loop.sum (i (goal.at.add_multiple-requires c).After-i32_at-multiplier) s h (on_branch (goal.at.add_multiple-requires c).After-row_at-row) pre.fine (passed (goal.at.add_multiple-requires c).Else-not-takes),
+            ∙ row_small (w (goal.at.add_multiple-requires c).After-i32_at-multiplier) (count (goal.at.add_multiple-requires c).After-i32_at-multiplier)
+            (b (goal.at.add_multiple-requires c).After-i32_at-multiplier) (at' (goal.at.add_multiple-requires c).After-i32_at-multiplier)
+            (n (goal.at.add_multiple-requires c).After-i32_at-multiplier) loop.sum (i (goal.at.add_multiple-requires c).After-i32_at-multiplier) s h
+            (on_branch (goal.at.add_multiple-requires c).After-row_at-row) pre.fine (passed (goal.at.add_multiple-requires c).Else-not-takes),
       );
-      multiplier_bound = subst (λ (m : ℤ). nat_abs m ≤ 1000000000) (sym (multiplier-is (goal.at.add_multiple-requires c).After-i32_at-multiplier)) (multiplier_small (w (goal.at.add_multiple-requires c).After-i32_at-multiplier) (count (goal.at.add_multiple-requires c).After-i32_at-multiplier) (b (goal.at.add_multiple-requires c).After-i32_at-multiplier) (at' (goal.at.add_multiple-requires c).After-i32_at-multiplier) (n (goal.at.add_multiple-requires c).After-i32_at-multiplier) loop.sum (i (goal.at.add_multiple-requires c).After-i32_at-multiplier) s h);
+      multiplier_bound =
+          subst (λ (m : ℤ). nat_abs m ≤ 1000000000) (sym (multiplier-is (goal.at.add_multiple-requires c).After-i32_at-multiplier))
+          (multiplier_small (w (goal.at.add_multiple-requires c).After-i32_at-multiplier) (count (goal.at.add_multiple-requires c).After-i32_at-multiplier)
+          (b (goal.at.add_multiple-requires c).After-i32_at-multiplier) (at' (goal.at.add_multiple-requires c).After-i32_at-multiplier)
+          (n (goal.at.add_multiple-requires c).After-i32_at-multiplier) loop.sum (i (goal.at.add_multiple-requires c).After-i32_at-multiplier) s h);
       sum_len = (s.long, λ j. let k = s.small j in let few = pre.le_pairs.1 in le_trans k (omega arith));
     }
 
@@ -155,10 +177,20 @@ loop-i-preserved c =
     let pre = c.requires in
     let s = loop.invariant in
     let h = c.loop-i-test.true in
-    let e : c.add_multiple.new.sum ≡ added loop.sum (multiplier (goal.at.loop-i-preserved c).After-i32_at-multiplier) (row_at (w (goal.at.loop-i-preserved c).After-i32_at-multiplier) (fact (goal.at.loop-i-preserved c).After-i32_at-multiplier)) =
-    c.add_multiple.ensures ∙ ap₂ (λ (m : ℤ) (r : List ℤ). added loop.sum m r) (multiplier-is (goal.at.loop-i-preserved c).After-i32_at-multiplier) (row_is (goal.at.loop-i-preserved c).After-row_at-row) in
-    subst (λ (l : List ℤ). Summing (w (goal.at.loop-i-preserved c).After-i32_at-multiplier) (count (goal.at.loop-i-preserved c).After-i32_at-multiplier) (b (goal.at.loop-i-preserved c).After-i32_at-multiplier) (at' (goal.at.loop-i-preserved c).After-i32_at-multiplier) (n (goal.at.loop-i-preserved c).After-i32_at-multiplier) l (i (goal.at.loop-i-preserved c).After-i32_at-multiplier + 1)) (sym e)
-    (summing_more (w (goal.at.loop-i-preserved c).After-i32_at-multiplier) (count (goal.at.loop-i-preserved c).After-i32_at-multiplier) (b (goal.at.loop-i-preserved c).After-i32_at-multiplier) (at' (goal.at.loop-i-preserved c).After-i32_at-multiplier) (n (goal.at.loop-i-preserved c).After-i32_at-multiplier) loop.sum (i (goal.at.loop-i-preserved c).After-i32_at-multiplier) s h (on_branch (goal.at.loop-i-preserved c).After-row_at-row) pre.fine (passed (goal.at.loop-i-preserved c).Else-not-takes)
+    let e : c.add_multiple.new.sum
+    ≡ added loop.sum (multiplier (goal.at.loop-i-preserved c).After-i32_at-multiplier)
+    (row_at (w (goal.at.loop-i-preserved c).After-i32_at-multiplier) (fact (goal.at.loop-i-preserved c).After-i32_at-multiplier)) =
+    c.add_multiple.ensures
+    ∙ ap₂ (λ (m : ℤ) (r : List ℤ). added loop.sum m r) (multiplier-is (goal.at.loop-i-preserved c).After-i32_at-multiplier)
+    (row_is (goal.at.loop-i-preserved c).After-row_at-row) in
+    subst (λ (l : List ℤ). Summing (w (goal.at.loop-i-preserved c).After-i32_at-multiplier) (count (goal.at.loop-i-preserved c).After-i32_at-multiplier)
+    (b (goal.at.loop-i-preserved c).After-i32_at-multiplier) (at' (goal.at.loop-i-preserved c).After-i32_at-multiplier)
+    (n (goal.at.loop-i-preserved c).After-i32_at-multiplier) l (i (goal.at.loop-i-preserved c).After-i32_at-multiplier + 1))
+    (sym e)
+    (summing_more (w (goal.at.loop-i-preserved c).After-i32_at-multiplier) (count (goal.at.loop-i-preserved c).After-i32_at-multiplier)
+    (b (goal.at.loop-i-preserved c).After-i32_at-multiplier) (at' (goal.at.loop-i-preserved c).After-i32_at-multiplier)
+    (n (goal.at.loop-i-preserved c).After-i32_at-multiplier) loop.sum (i (goal.at.loop-i-preserved c).After-i32_at-multiplier) s h
+    (on_branch (goal.at.loop-i-preserved c).After-row_at-row) pre.fine (passed (goal.at.loop-i-preserved c).Else-not-takes)
     (long (goal.at.loop-i-preserved c).After-row_at-row))
 
 pub shape_of-sum : goal.shape_of-sum

@@ -48,39 +48,48 @@ module _ (c : After-sum_of) where
   long = c.sum_of.auto.sum ∙ ap length c.requires.row_value
 
 summed : (c : Else-not-sum_of) →
-    (sum_of (branch (goal.at.Else-not-sum_of c).Start) (summands (goal.at.Else-not-sum_of c).Start) ≡ some (drop 1 (row (goal.at.Else-not-sum_of c).After-sum_of))) × (get_or (row (goal.at.Else-not-sum_of c).After-sum_of) 0 (pos 0) ≡ pos 0)
+    (sum_of (branch (goal.at.Else-not-sum_of c).Start) (summands (goal.at.Else-not-sum_of c).Start)
+    ≡ some (drop 1 (row (goal.at.Else-not-sum_of c).After-sum_of)))
+    × (get_or (row (goal.at.Else-not-sum_of c).After-sum_of) 0 (pos 0) ≡ pos 0)
 summed c = some_row c.sum_of.result (row (goal.at.Else-not-sum_of c).After-sum_of) _ (not-false c.sum_of.result c.if-not-sum_of.false-raw) c.sum_of.ensures
 
 -- the tag
 module _ (c : After-sum_tag-tag) where
   given : c.sum_tag-tag.result
-      ≡ sum_tag (branch (goal.at.After-sum_tag-tag c).Start) (nat_abs (to_z w64 (d (goal.at.After-sum_tag-tag c).Start))) (summands (goal.at.After-sum_tag-tag c).Start) (drop 1 (row (goal.at.After-sum_tag-tag c).After-sum_of))
+      ≡ sum_tag (branch (goal.at.After-sum_tag-tag c).Start) (nat_abs (to_z w64 (d (goal.at.After-sum_tag-tag c).Start)))
+      (summands (goal.at.After-sum_tag-tag c).Start) (drop 1 (row (goal.at.After-sum_tag-tag c).After-sum_of))
   given = c.sum_tag-tag.ensures
 
   tag_is : to_z w64 (of_z w64 c.sum_tag-tag.result)
-      ≡ sum_tag (branch (goal.at.After-sum_tag-tag c).Start) (d (goal.at.After-sum_tag-tag c).Start) (summands (goal.at.After-sum_tag-tag c).Start) (drop 1 (row (goal.at.After-sum_tag-tag c).After-sum_of))
+      ≡ sum_tag (branch (goal.at.After-sum_tag-tag c).Start) (d (goal.at.After-sum_tag-tag c).Start) (summands (goal.at.After-sum_tag-tag c).Start)
+      (drop 1 (row (goal.at.After-sum_tag-tag c).After-sum_of))
   tag_is =
       let f : SFits w64 c.sum_tag-tag.result = record { sfits = c.sum_tag-tag.type_inv } in
       to_z-of_z f
       ∙ given
-      ∙ ap (λ (z : ℤ). sum_tag (branch (goal.at.After-sum_tag-tag c).Start) (nat_abs z) (summands (goal.at.After-sum_tag-tag c).Start) (drop 1 (row (goal.at.After-sum_tag-tag c).After-sum_of))) (divisor-is (goal.at.After-sum_tag-tag c).Start)
+      ∙ ap (λ (z : ℤ). sum_tag (branch (goal.at.After-sum_tag-tag c).Start) (nat_abs z) (summands (goal.at.After-sum_tag-tag c).Start)
+      (drop 1 (row (goal.at.After-sum_tag-tag c).After-sum_of)))
+      (divisor-is (goal.at.After-sum_tag-tag c).Start)
 
 -- the sum divided
 module _ (c : After-divide_by) where
-  fitted : sum_of (branch (goal.at.After-divide_by c).Start) (summands (goal.at.After-divide_by c).Start) ≡ some (drop 1 (row (goal.at.After-divide_by c).After-sum_of))
+  fitted : sum_of (branch (goal.at.After-divide_by c).Start) (summands (goal.at.After-divide_by c).Start)
+      ≡ some (drop 1 (row (goal.at.After-divide_by c).After-sum_of))
   fitted =
       (summed (goal.at.After-divide_by c).Else-not-sum_of).0
 
   long-divided : length c.divide_by.new.row ≡ 50
   long-divided = c.divide_by.auto.row ∙ long (goal.at.After-divide_by c).After-sum_of
 
-  divided-is : divided (nat_abs (to_z w64 (d (goal.at.After-divide_by c).Start))) (drop 1 (row (goal.at.After-divide_by c).After-sum_of)) ≡ divided (d (goal.at.After-divide_by c).Start) (drop 1 (row (goal.at.After-divide_by c).After-sum_of))
+  divided-is : divided (nat_abs (to_z w64 (d (goal.at.After-divide_by c).Start))) (drop 1 (row (goal.at.After-divide_by c).After-sum_of))
+      ≡ divided (d (goal.at.After-divide_by c).Start) (drop 1 (row (goal.at.After-divide_by c).After-sum_of))
   divided-is = ap (λ (z : ℤ). divided (nat_abs z) (drop 1 (row (goal.at.After-divide_by c).After-sum_of))) (divisor-is (goal.at.After-divide_by c).Start)
 
 pub returns-then-not-sum_of : goal.returns-then-not-sum_of
 unfolding fact_in
 returns-then-not-sum_of c =
-    sym (none_summed (branch (goal.at.returns-then-not-sum_of c).Start) (d (goal.at.returns-then-not-sum_of c).Start) (summands (goal.at.returns-then-not-sum_of c).Start)
+    sym (none_summed (branch (goal.at.returns-then-not-sum_of c).Start) (d (goal.at.returns-then-not-sum_of c).Start)
+    (summands (goal.at.returns-then-not-sum_of c).Start)
     (no_row c.sum_of.result (row (goal.at.returns-then-not-sum_of c).After-sum_of) _ (not-true c.sum_of.result c.if-not-sum_of.true-raw) c.sum_of.ensures))
 
 pub sum_tag-tag-requires : goal.sum_tag-tag-requires
@@ -99,7 +108,9 @@ pub returns-then-not-divide_by : goal.returns-then-not-divide_by
 unfolding fact_in
 returns-then-not-divide_by c =
     let e = no_row c.divide_by.result c.divide_by.new.row _ (not-true c.divide_by.result c.if-not-divide_by.true-raw) c.divide_by.ensures in
-    sym (none_divided (branch (goal.at.returns-then-not-divide_by c).Start) (d (goal.at.returns-then-not-divide_by c).Start) (summands (goal.at.returns-then-not-divide_by c).Start) (drop 1 (row (goal.at.returns-then-not-divide_by c).After-sum_of)) (fitted (goal.at.returns-then-not-divide_by c).After-divide_by) (sym (divided-is (goal.at.returns-then-not-divide_by c).After-divide_by) ∙ e))
+    sym (none_divided (branch (goal.at.returns-then-not-divide_by c).Start) (d (goal.at.returns-then-not-divide_by c).Start)
+    (summands (goal.at.returns-then-not-divide_by c).Start) (drop 1 (row (goal.at.returns-then-not-divide_by c).After-sum_of))
+    (fitted (goal.at.returns-then-not-divide_by c).After-divide_by) (sym (divided-is (goal.at.returns-then-not-divide_by c).After-divide_by) ∙ e))
 
 pub bounds-row-0 : goal.bounds-row-0
 bounds-row-0 c = search (rules, long-divided (goal.at.bounds-row-0 c).After-divide_by)
@@ -112,5 +123,6 @@ unfolding fact_in
 returns c =
     let e = (some_row c.divide_by.result c.divide_by.new.row _ (not-false c.divide_by.result c.if-not-divide_by.false-raw) c.divide_by.ensures).0 in
     ap (λ (z : ℤ). some (fact_of (set c.divide_by.new.row 0 z))) (tag_is (goal.at.returns c).After-sum_tag-tag)
-    ∙ fact_tagged (branch (goal.at.returns c).Start) (d (goal.at.returns c).Start) (summands (goal.at.returns c).Start) c.divide_by.new.row (drop 1 (row (goal.at.returns c).After-sum_of)) (long-divided (goal.at.returns c).After-divide_by) (fitted (goal.at.returns c).After-divide_by)
+    ∙ fact_tagged (branch (goal.at.returns c).Start) (d (goal.at.returns c).Start) (summands (goal.at.returns c).Start) c.divide_by.new.row
+    (drop 1 (row (goal.at.returns c).After-sum_of)) (long-divided (goal.at.returns c).After-divide_by) (fitted (goal.at.returns c).After-divide_by)
     (sym (divided-is (goal.at.returns c).After-divide_by) ∙ e)

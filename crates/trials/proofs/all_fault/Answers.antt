@@ -61,7 +61,8 @@ children_within-requires c = c.requires
 
 pub returns-then-not-children_within : goal.returns-then-not-children_within
 returns-then-not-children_within c =
-    split_nine (before c.requires.ready_by.ready) c.args.pending (given c.requires.ready_by.ready) c.requires.count_value (small (goal.at.returns-then-not-children_within c).After-children_within false (not-true _ c.if-not-children_within.true-raw))
+    split_nine (before c.requires.ready_by.ready) c.args.pending (given c.requires.ready_by.ready) c.requires.count_value
+    (small (goal.at.returns-then-not-children_within c).After-children_within false (not-true _ c.if-not-children_within.true-raw))
 
 pub room_for_all-requires : goal.room_for_all-requires
 room_for_all-requires c =
@@ -69,7 +70,8 @@ room_for_all-requires c =
 
 pub returns-then-not-room_for_all : goal.returns-then-not-room_for_all
 returns-then-not-room_for_all c =
-    split_ten (before c.requires.ready_by.ready) c.args.pending (given c.requires.ready_by.ready) false _ c.requires.count_value (within (goal.at.returns-then-not-room_for_all c).Else-not-children_within)
+    split_ten (before c.requires.ready_by.ready) c.args.pending (given c.requires.ready_by.ready) false _ c.requires.count_value
+    (within (goal.at.returns-then-not-room_for_all c).Else-not-children_within)
     (roomy (goal.at.returns-then-not-room_for_all c).After-room_for_all false (not-true _ c.if-not-room_for_all.true-raw)) refl
 
 pub room_to_pend-requires : goal.room_to_pend-requires
@@ -79,10 +81,14 @@ room_to_pend-requires c =
 
 pub returns-then-not-room_to_pend : goal.returns-then-not-room_to_pend
 returns-then-not-room_to_pend c =
-    split_ten (before c.requires.ready_by.ready) c.args.pending (given c.requires.ready_by.ready) true false c.requires.count_value (within (goal.at.returns-then-not-room_to_pend c).Else-not-children_within)
-    (roomy (goal.at.returns-then-not-room_to_pend c).After-room_for_all true (not-false _ c.if-not-room_for_all.false-raw)) (pends (goal.at.returns-then-not-room_to_pend c).After-room_to_pend false (not-true _ c.if-not-room_to_pend.true-raw))
+    split_ten (before c.requires.ready_by.ready) c.args.pending (given c.requires.ready_by.ready) true false c.requires.count_value
+    (within (goal.at.returns-then-not-room_to_pend c).Else-not-children_within)
+    (roomy (goal.at.returns-then-not-room_to_pend c).After-room_for_all true (not-false _ c.if-not-room_for_all.false-raw))
+    (pends (goal.at.returns-then-not-room_to_pend c).After-room_to_pend false (not-true _ c.if-not-room_to_pend.true-raw))
 
 pub returns : goal.returns
 returns c =
-    split_ten (before c.requires.ready_by.ready) c.args.pending (given c.requires.ready_by.ready) true true c.requires.count_value (within (goal.at.returns c).Else-not-children_within)
-    (roomy (goal.at.returns c).After-room_for_all true (not-false _ c.if-not-room_for_all.false-raw)) (pends (goal.at.returns c).After-room_to_pend true (not-false _ c.if-not-room_to_pend.false-raw))
+    split_ten (before c.requires.ready_by.ready) c.args.pending (given c.requires.ready_by.ready) true true c.requires.count_value
+    (within (goal.at.returns c).Else-not-children_within)
+    (roomy (goal.at.returns c).After-room_for_all true (not-false _ c.if-not-room_for_all.false-raw))
+    (pends (goal.at.returns c).After-room_to_pend true (not-false _ c.if-not-room_to_pend.false-raw))

@@ -39,7 +39,8 @@ child_within-requires c = record {
 
 pub returns-then-not-child_within : goal.returns-then-not-child_within
 returns-then-not-child_within c =
-    taken_nine (before c.requires.ready_by.ready) (taken (goal.at.returns-then-not-child_within c).Start) (there (goal.at.returns-then-not-child_within c).Start) (sym c.child_within.ensures ∙ not-true _ c.if-not-child_within.true-raw)
+    taken_nine (before c.requires.ready_by.ready) (taken (goal.at.returns-then-not-child_within c).Start)
+    (there (goal.at.returns-then-not-child_within c).Start) (sym c.child_within.ensures ∙ not-true _ c.if-not-child_within.true-raw)
 
 pub overflow_sub-count : goal.overflow_sub-count
 overflow_sub-count c = c.requires.ready_by.ready.fine.few
@@ -48,9 +49,11 @@ pub returns-then-count-child_facts : goal.returns-then-count-child_facts
 returns-then-count-child_facts c =
     let n = length_branch c.args.work.now c.args.count in
     let few = c.requires.ready_by.ready.fine.few in
-    taken_ten (before c.requires.ready_by.ready) (taken (goal.at.returns-then-count-child_facts c).Start) false (there (goal.at.returns-then-count-child_facts c).Start)
+    taken_ten (before c.requires.ready_by.ready) (taken (goal.at.returns-then-count-child_facts c).Start) false
+    (there (goal.at.returns-then-count-child_facts c).Start)
     (sym c.child_within.ensures ∙ not-false _ c.if-not-child_within.false-raw)
-    (lt-leb (length (before c.requires.ready_by.ready) + length (or_none (taken (goal.at.returns-then-count-child_facts c).Start))) fact_limit (omega (arith, adds (goal.at.returns-then-count-child_facts c).After-child_facts, c.if-count-child_facts.true)))
+    (lt-leb (length (before c.requires.ready_by.ready) + length (or_none (taken (goal.at.returns-then-count-child_facts c).Start))) fact_limit
+    (omega (arith, adds (goal.at.returns-then-count-child_facts c).After-child_facts, c.if-count-child_facts.true)))
 
 pub returns : goal.returns
 returns c =
@@ -58,4 +61,5 @@ returns c =
     let few = c.requires.ready_by.ready.fine.few in
     taken_ten (before c.requires.ready_by.ready) (taken (goal.at.returns c).Start) true (there (goal.at.returns c).Start)
     (sym c.child_within.ensures ∙ not-false _ c.if-not-child_within.false-raw)
-    (le-leb (length (before c.requires.ready_by.ready) + length (or_none (taken (goal.at.returns c).Start))) fact_limit (omega (arith, adds (goal.at.returns c).After-child_facts, c.if-count-child_facts.false)))
+    (le-leb (length (before c.requires.ready_by.ready) + length (or_none (taken (goal.at.returns c).Start))) fact_limit
+    (omega (arith, adds (goal.at.returns c).After-child_facts, c.if-count-child_facts.false)))
