@@ -1,5 +1,6 @@
 // Checking: the operation `check_ticket`. "Checking names the first faulty record from 0 (0 for 1 and 2), and there the first of" 1 to 14.
 #![tactic(auto)]
+
 ghost use Rattle.std.specs.Prelude.{◌≡◌, ◌≤◌, length, replicate, pos};
 ghost use Rattle.calculus.specs.Limits.{work_numbers};
 ghost use Rattle.checking.specs.Outcomes.{Promised};

@@ -1,5 +1,6 @@
 // The steps of a derivation under either claim: claim 1's walk over every branch, claim 2's path to its leaf.
 #![tactic(auto)]
+
 ghost use Rattle.std.specs.Prelude.{◌≡◌, ◌≤◌};
 ghost use Rattle.calculus.specs.Classes.{labels};
 ghost use Rattle.rows.specs.Rows.{branch_of};

@@ -1,5 +1,6 @@
 // What a ticket comes to, on buffers that are large enough: the question, the claim, the steps and the end, 2 to 14 in their order.
 #![tactic(auto)]
+
 ghost use Rattle.std.specs.Prelude.{◌≡◌, List, ℕ, ◌≤◌, length};
 ghost use Rattle.calculus.specs.Limits.{work_numbers, answer_bytes};
 ghost use Rattle.calculus.specs.Walk.{closed};

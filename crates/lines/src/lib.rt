@@ -1,5 +1,6 @@
 // The program's lines, put into a buffer one behind another. Each function takes the position to write at and answers the one behind.
 #![tactic(auto)]
+
 ghost use Rattle.std.specs.Prelude.{◌≡◌, [], ◌∷◌, ◌++◌, ◌+◌, ◌*◌, ◌≤◌, ◌<◌, length};
 ghost use Rattle.format.specs.Fields.{u32s, i32s, signed};
 ghost use Rattle.format.specs.Records.{records};

@@ -1,6 +1,7 @@
 // The host's entries: "calls both operations on numbers and byte slices", what a ticket will need (02, L2), whether two questions are the same (L6), and the
 // version of all these. The static library nuldwich_c exports them to C.
 #![tactic(auto)]
+
 ghost use Rattle.std.specs.Prelude.{◌≡◌, List, ℕ};
 ghost use Rattle.format.specs.Checking as format;
 ghost use Rattle.format.specs.Cores.{core_of};

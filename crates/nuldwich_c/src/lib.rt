@@ -1,6 +1,7 @@
 // The static library for C: each entry of nuldwich under its name, with the same promise. check and judge are the names of document 01. A host may have functions of
 // these names, so the built archive has both as weak symbols, and no other entry calls them.
 #![tactic(auto)]
+
 ghost use Rattle.std.specs.Prelude.{◌≡◌};
 ghost use Rattle.format.specs.Needs.{needed};
 ghost use Rattle.format.specs.Sameness.{sameness};

@@ -1,5 +1,6 @@
 // The bytes of a ticket or an answer: little-endian fields, and the record at a position.
 #![tactic(auto)]
+
 ghost use Rattle.std.specs.Prelude.{◌≡◌, ◌+◌, ◌*◌, ◌<◌, ◌≤◌, length, nat_abs};
 ghost use Rattle.calculus.specs.Limits.{variable_limit, value_limit};
 ghost use Rattle.format.specs.Fields.{u16, u32, i32, i32s, signed, within, all_within};
