@@ -6,7 +6,7 @@ use mathlib.Core.Bool.{Bool, true, false}
 use mathlib.Core.List.{List, []}
 use lib.ListN.{take}
 use lib.IntN.{ℤ}
-use Rattle.calculus.specs.Cores.{only, Rested, facts, rooted_from}
+use Rattle.calculus.specs.Cores.{only, Rested, rooted_from}
 use Rattle.rows.specs.Rows.{branch_of}
 use Rattle.classes.specs.declared.Known.{Known}
 use Rattle.classes.specs.Classes.{Knows}

@@ -42,7 +42,7 @@ fn first_known(claim: Claim, work: &[i64], constraints: usize) -> Known
 
 // The unions of the sets of a branch's first facts, of as many as labels are known; those of the question's constraints, for branches that are cut back; and what
 // the closing steps so far rest on. They are plain numbers, without an array.
-#[derive(Drop)]
+#[derive(Clone, Copy)]
 struct Grounds {
     unions: Unions,
     roots: Unions,

@@ -1,0 +1,449 @@
+use Prim.Native.Nat.{ℕ, ◌+◌, ◌≤◌, ◌<◌}
+use borrow.Enum.Refused as refused
+use mir.Syntax.{w64}
+use mir.Val.{Fits}
+use lib.IntN.{ℤ}
+use lib.ListN.{length}
+use mathlib.Core.Path.{◌≡◌, refl, sym, ◌∙◌, ap, subst}
+use mathlib.Core.List.{List}
+use native.Mathlib.Omega.{arith}
+use Rattle.calculus.specs.Cores.{core_in}
+use Rattle.calculus.specs.Limits.{ticket_bytes, fact_limit}
+use Rattle.calculus.specs.Classes.{labels}
+use Rattle.rows.specs.Rows.{branch_of}
+use Rattle.rows.proofs.Branches.{length_branch}
+use Rattle.classes.specs.declared.Known.{Known}
+use Rattle.classes.specs.Classes.{Knows}
+use Rattle.classes.proofs.Laws.{knows_back}
+use Rattle.conclusions.proofs.Labels.{known_for}
+use Rattle.steps.specs.declared.Rule.{Rule}
+use Rattle.branch.specs.declared.Split.{Split}
+use Rattle.branch.specs.declared.Branch as code
+use Rattle.branch.specs.Stack.{stack, latest_of}
+use Rattle.derivation.specs.declared.Action.TheVariants.{Closes}
+use Rattle.derivation.specs.Ok.{InOrder}
+use Rattle.derivation.specs.Actions.{number_of, Acts, ReadyUnder}
+use Rattle.derivation.proofs.Holding.{few_facts, few_splits}
+use Rattle.derivation.proofs.Closing.{open_depth}
+use Rattle.cores.specs.declared.Words.{Words}
+use Rattle.cores.specs.Sets.{Roomy}
+use Rattle.question.specs.Posed.{asked}
+use Rattle.delimiters.specs.declared.Claim.TheVariants.{NoSolution}
+use Rattle.claims.specs.Outcomes.{first_upto, walk_from, walked_of, LeafAt, steps_from, CoreAt}
+use Rattle.claims.specs.declared.Grounds.{Grounds}
+use Rattle.claims.specs.Steps.{StepAt, NextAt, grounds_back, Added}
+use Rattle.claims.proofs.Walking.{first_few, fine_rows, pending_on, Going, starts, going_same, going_ended, going_refused}
+use Rattle.claims.proofs.Walking.{Stepped, as_pending, going_closed, still_open, going_next, few_extended, going_one, can_mark, going_more, known_below}
+use Rattle.claims.proofs.Walking as laws
+use Rattle.claims.proofs.Keeping.{upto_grown}
+use Rattle.claims.proofs.Gathering.{Gathering, gathering_first, gathering_for, Rests, gathering_all, no_split, fact_at_mark}
+use Rattle.claims.proofs.Gathering.{gathering_same, added_one, gathering_one, added_several, gathering_several, added_next_child, gathering_next}
+use Rattle.rows.proofs.Small.{fine_first}
+use Rattle.cores.proofs.Standing.{filled_as}
+use Rattle.claims.proofs.walk.Goals as goal
+use Rattle.claims.proofs.walk.Goals.{After-classes_for-known, After-first_known-first, After-take_step, At-loop-rule, In-Step, Joined-take_step, in-Closes+else-depth-eq0, in-Extends, in-Splits}
+
+-- ---- places
+abbrev Loop : Type 0
+Loop = At-loop-rule
+
+abbrev bytes : Loop → List ℕ
+bytes l = l.args.ticket.now
+
+-- ---- the start
+pub first_known-first-requires : goal.first_known-first-requires
+first_known-first-requires c = c.requires.0.1
+
+pub first_grounds-grounds-requires : goal.first_grounds-grounds-requires
+first_grounds-grounds-requires c = let pre = c.requires in (pre.0.1, pre.2)
+
+pub new-b-requires : goal.new-b-requires
+new-b-requires c = c.requires.0.1.few
+
+-- what is known at first
+known-first : (c : After-first_known-first) →
+    let a = c.args in
+    Knows a.work.now a.s.constraints c.first_known-first.result
+known-first c =
+    let a = c.args in
+    let few : first_upto a.claim a.s.constraints ≤ a.s.constraints = first_few a.claim a.s.constraints in
+    record {
+      few = omega (arith, c.first_known-first.ensures.upto_value);
+      labelled = c.first_known-first.ensures.labels_value ∙ ap (λ (n : ℕ). labels (branch_of a.work.now n)) (sym c.first_known-first.ensures.upto_value);
+    }
+
+pub loop-rule-init : goal.loop-rule-init
+loop-rule-init c =
+    let b = c.args.ticket.now in
+    let root = c.requires.0.2 in
+    let new = c.new-b in (
+      starts b c.args.s c.args.work.now new.result c.requires.0.0 c.requires.0.1 root new.ensures.0 new.ensures.1
+          c.args.claim c.args.r c.args.«record» c.first_known-first.result c.requires.1 (known-first (goal.at.loop-rule-init c).After-first_known-first),
+      gathering_first b c.args.s c.args.claim c.args.work.now _ new.result c.first_known-first.result c.first_grounds-grounds.result
+          c.args.«record» new.ensures.0 new.ensures.1 root c.first_known-first.ensures.upto_value c.first_grounds-grounds.ensures,
+      refl,
+    )
+
+pub next_record-found-requires : goal.next_record-found-requires
+next_record-found-requires c = c.requires.0.0
+
+-- the slice of the sets is as long as it was lent
+same-sets : (l : Loop) → length l.loop-rule.sets ≡ length l.args.sets.now
+same-sets l = l.loop-rule.invariant.2 ∙ l.first_grounds-grounds.auto.sets
+
+roomy : (l : Loop) → Roomy l.loop-rule.sets
+roomy l = omega (arith, same-sets l, l.requires.2)
+
+pub shape_of-work-in_default : goal.shape_of-work-in_default
+shape_of-work-in_default c = c.loop-rule.invariant.0.kept
+
+pub shape_of-sets-in_default : goal.shape_of-sets-in_default
+shape_of-sets-in_default c = same-sets (goal.at.shape_of-sets-in_default c).At-loop-rule
+
+pub returns-in_default : goal.returns-in_default
+returns-in_default c =
+    let a = c.args in
+    let b = a.ticket.now in
+    let o = c.loop-rule in
+    let found = c.next_record-found in
+    let (walked, leaf, core) =
+    going_ended b a.s a.claim _ _ o.work o.b o.known o.i o.k a.«record» found.result o.invariant.0 found.ensures
+    (refused.opened c.in_default.in_default-own.keys2) in
+    let e = sym c.ended.ensures in record {
+      walked = ap (walked_of b a.s o.work) c.ended.ensures ∙ walked;
+      leaf = subst (LeafAt b o.work) e leaf;
+      core = subst (CoreAt b a.s a.«record») e core;
+    }
+
+-- ---- a step of proper form
+abbrev Ruled : Type 0
+Ruled = In-Step
+
+abbrev rule_of : Ruled → Rule
+rule_of c = c.in-Step.rule
+
+abbrev body_of : Ruled → ℕ
+body_of c = c.in-Step.size
+
+step-here : (c : Ruled) →
+    let a = c.args in
+    StepAt a.claim a.ticket.now a.s c.loop-rule.i (rule_of c) (body_of c)
+unfolding NextAt
+step-here c =
+    let a = c.args in
+    subst (NextAt a.claim a.ticket.now a.s c.loop-rule.i) c.in-Step.is c.next_record-found.ensures
+
+-- the record ends within the longest ticket
+ends_within : (c : Ruled) → c.loop-rule.i + 6 + body_of c ≤ ticket_bytes
+ends_within c = omega (arith, (step-here c).sized, (step-here c).whole, c.requires.0.0.short)
+
+fits : (n : ℕ) → n ≤ ticket_bytes → Fits w64 n
+fits n h = omega arith
+
+ready : (c : Ruled) →
+    let a = c.args in
+    let o = c.loop-rule in
+    ReadyUnder a.claim (rule_of c) a.ticket.now a.s o.i (body_of c) o.work o.b.count
+ready c =
+    let a = c.args in
+    let step = step-here c in
+    record {
+      ready = record {
+        posed = c.requires.0.0;
+        formed = step.formed;
+        fine = fine_rows a.claim (bytes (goal.at.In-Step c).At-loop-rule) a.s c.loop-rule.work c.loop-rule.b c.loop-rule.invariant.0.holds;
+      };
+      named = step.named;
+      sized = step.sized;
+      field = step.field;
+    }
+
+pub overflow_add-next : goal.overflow_add-next
+overflow_add-next c = fits (c.loop-rule.i + 6) (omega (arith, ends_within (goal.at.overflow_add-next c).In-Step))
+
+pub overflow_add-next-in-loop-rule : goal.overflow_add-next-in-loop-rule
+overflow_add-next-in-loop-rule c = fits (c.loop-rule.i + 6 + body_of (goal.at.overflow_add-next-in-loop-rule c).In-Step) (ends_within (goal.at.overflow_add-next-in-loop-rule c).In-Step)
+
+pub classes_for-known-requires : goal.classes_for-known-requires
+classes_for-known-requires c =
+    (c.loop-rule.invariant.0.knows, (ready (goal.at.classes_for-known-requires c).In-Step).ready.fine)
+
+-- labels cover as many facts as before, or all
+grown : (c : After-classes_for-known) →
+    let o = c.loop-rule in
+    (o.known.upto ≤ c.classes_for-known.result.upto) × (c.classes_for-known.result.upto ≤ o.b.count)
+grown c = upto_grown c.loop-rule.invariant.0.knows c.classes_for-known.ensures
+
+pub grounds_upto-grounds-requires : goal.grounds_upto-grounds-requires
+grounds_upto-grounds-requires c =
+    ((grown (goal.at.grounds_upto-grounds-requires c).After-classes_for-known).0, fine_first c.classes_for-known.result.upto (grown (goal.at.grounds_upto-grounds-requires c).After-classes_for-known).1 (ready (goal.at.grounds_upto-grounds-requires c).In-Step).ready.fine, roomy (goal.at.grounds_upto-grounds-requires c).At-loop-rule)
+
+pub set_of-set-requires : goal.set_of-set-requires
+set_of-set-requires c = (ready (goal.at.set_of-set-requires c).In-Step, roomy (goal.at.set_of-set-requires c).At-loop-rule)
+
+pub take_step-requires : goal.take_step-requires
+take_step-requires c =
+    (ready (goal.at.take_step-requires c).In-Step, (known_for c.loop-rule.invariant.0.knows c.classes_for-known.ensures).1)
+
+-- ---- the step is taken
+abbrev Taken : Type 0
+Taken = After-take_step
+
+abbrev labelsOf : Taken → Known
+labelsOf t = t.classes_for-known.result
+
+abbrev broughtOf : Taken → Grounds
+broughtOf t = t.grounds_upto-grounds.result
+
+abbrev setOf : Taken → Words
+setOf t = t.set_of-set.result
+
+-- the work area behind it
+abbrev workOf : Taken → List ℤ
+workOf t = t.take_step.new.work
+
+same-work : (t : Taken) → length (workOf t) ≡ length t.loop-rule.work
+same-work t = t.take_step.auto.work
+
+-- where the loop stands, with what is kept for the rule
+going : (t : Taken) →
+    let a = t.args in
+    let o = t.loop-rule in
+    Going a.ticket.now a.s a.claim (length a.work.now)
+    (walk_from a.claim a.ticket.now a.s a.r a.«record») o.work o.b (labelsOf t) o.i o.k
+going t =
+    let g = t.loop-rule.invariant.0 in
+    record {
+      kept = g.kept;
+      low = g.low;
+      holds = g.holds;
+      knows = (known_for g.knows t.classes_for-known.ensures).0;
+      rest = g.rest;
+    }
+
+gathering : (t : Taken) →
+    let a = t.args in
+    let o = t.loop-rule in
+    Gathering a.ticket.now a.s a.claim (core_in (asked a.ticket.now a.s) (steps_from a.ticket.now a.«record»))
+    o.work o.sets o.b (labelsOf t) (broughtOf t) o.i
+gathering t =
+    let a = t.args in
+    gathering_for a.ticket.now a.s a.claim (labelsOf t) (broughtOf t) t.loop-rule.invariant.1 (grown (goal.at.After-take_step t).After-classes_for-known)
+    t.grounds_upto-grounds.ensures
+
+stepped : (t : Taken) →
+    let a = t.args in
+    let o = t.loop-rule in
+    Stepped a.ticket.now a.s a.claim o.work o.b o.i (body_of (goal.at.After-take_step t).In-Step) (workOf t) t.take_step.result
+stepped t =
+    let b = bytes (goal.at.After-take_step t).At-loop-rule in
+    let a = t.args in
+    let o = t.loop-rule in
+    let step = step-here (goal.at.After-take_step t).In-Step in
+    record {
+      sized = step.sized;
+      whole = step.whole;
+      step = step.step;
+      number = t.take_step.ensures.number
+          ∙ as_pending b a.s a.claim o.work o.b o.i o.invariant.0.holds
+          ∙ step.tried o.work o.b.count (pending_on b a.s o.work o.b);
+      acts = t.take_step.ensures.acts;
+    }
+
+resting : (t : Taken) →
+    let a = t.args in
+    let o = t.loop-rule in
+    Rests a.ticket.now a.s a.claim (rule_of (goal.at.After-take_step t).In-Step) o.work o.sets o.b (labelsOf t) (broughtOf t) o.i (body_of (goal.at.After-take_step t).In-Step) (setOf t)
+resting t = record { brought = λ asks. (t.classes_for-known.ensures.brought asks).0; rests = t.set_of-set.ensures }
+
+pub shape_of-work-in-Refused : goal.shape_of-work-in-Refused
+shape_of-work-in-Refused c = same-work (goal.at.shape_of-work-in-Refused c).After-take_step ∙ c.loop-rule.invariant.0.kept
+
+pub shape_of-sets-in-Refused : goal.shape_of-sets-in-Refused
+shape_of-sets-in-Refused c = same-sets (goal.at.shape_of-sets-in-Refused c).At-loop-rule
+
+pub returns-in-Refused : goal.returns-in-Refused
+unfolding LeafAt CoreAt Acts
+returns-in-Refused c =
+    let b = bytes (goal.at.returns-in-Refused c).At-loop-rule in
+    let a = c.args in
+    let o = c.loop-rule in
+    let e = c.in-Refused.is in
+    let st = stepped (goal.at.returns-in-Refused c).After-take_step in record {
+      walked = going_refused b a.s (going (goal.at.returns-in-Refused c).After-take_step) _ st.whole _ (ap number_of (sym e) ∙ st.number)
+          (subst (Acts a.claim b (asked b a.s) o.i o.b.depth o.work o.b.count (workOf (goal.at.returns-in-Refused c).After-take_step)) e st.acts);
+      leaf = tt;
+      core = tt;
+    }
+
+pub overflow_add-result : goal.overflow_add-result
+overflow_add-result c =
+    fits (c.loop-rule.k + 1) (omega (arith, c.loop-rule.invariant.0.low, ends_within (goal.at.overflow_add-result c).In-Step))
+
+pub shape_of-work-then-depth-eq0 : goal.shape_of-work-then-depth-eq0
+shape_of-work-then-depth-eq0 c = same-work (goal.at.shape_of-work-then-depth-eq0 c).After-take_step ∙ c.loop-rule.invariant.0.kept
+
+pub shape_of-sets-then-depth-eq0 : goal.shape_of-sets-then-depth-eq0
+shape_of-sets-then-depth-eq0 c = same-sets (goal.at.shape_of-sets-then-depth-eq0 c).At-loop-rule
+
+pub returns-then-depth-eq0 : goal.returns-then-depth-eq0
+unfolding LeafAt CoreAt
+returns-then-depth-eq0 c =
+    let a = c.args in
+    let b = a.ticket.now in
+    let q = c.in-Closes.is in
+    let all =
+    ap (λ (x : Grounds). x.core) c.with_closing-grounds.ensures
+    ∙ gathering_all b a.s a.claim (gathering (goal.at.returns-then-depth-eq0 c).After-take_step) (stepped (goal.at.returns-then-depth-eq0 c).After-take_step) (resting (goal.at.returns-then-depth-eq0 c).After-take_step) q (no_split c.loop-rule.b c.if-depth-eq0.true) in record {
+      walked = going_closed b a.s a.claim (going (goal.at.returns-then-depth-eq0 c).After-take_step) (stepped (goal.at.returns-then-depth-eq0 c).After-take_step) q c.if-depth-eq0.true _ _ _;
+      leaf = tt;
+      core = (ap (λ (x : Words). x.low) all, ap (λ (x : Words). x.high) all);
+    }
+
+-- the state to cut back from
+opened : (t : Taken) → t.take_step.result ≡ Closes →
+    let a = t.args in
+    let o = t.loop-rule in
+    InOrder a.ticket.now a.s (workOf t) o.b × Knows (workOf t) o.b.count (labelsOf t)
+opened t q =
+    let a = t.args in
+    still_open a.ticket.now a.s a.claim (going t) (stepped t) q (same-work t)
+
+-- what is known of the question's constraints holds at the mark of its last pending split
+first_there : (t : Taken) → t.take_step.result ≡ Closes → 0 < t.loop-rule.b.depth →
+    Knows (workOf t) (latest_of (stack t.loop-rule.b)).mark t.first_known-first.result
+first_there t q d =
+    let a = t.args in
+    laws.first_known a.ticket.now a.s a.work.now (workOf t) t.loop-rule.b t.first_known-first.result t.requires.0.2 (known-first (goal.at.After-take_step t).After-first_known-first)
+    (opened t q).0 d
+
+pub latest-split-requires : goal.latest-split-requires
+latest-split-requires c =
+    (open_depth c.loop-rule.b c.if-depth-eq0.false, few_splits (opened (goal.at.latest-split-requires c).After-take_step c.in-Closes.is).0)
+
+pub set_at-set-requires : goal.set_at-set-requires
+set_at-set-requires c =
+    let q = c.in-Closes.is in
+    let deep = open_depth c.loop-rule.b c.if-depth-eq0.false in
+    let a = c.args in
+    let latest = c.latest-split in
+    let below = fact_at_mark a.ticket.now a.s a.claim (gathering (goal.at.set_at-set-requires c).After-take_step) (going (goal.at.set_at-set-requires c).After-take_step) (stepped (goal.at.set_at-set-requires c).After-take_step) q deep latest.result latest.ensures in
+    (omega (arith, few_facts (opened (goal.at.set_at-set-requires c).After-take_step q).0, below), roomy (goal.at.set_at-set-requires c).At-loop-rule)
+
+pub next_child-b-requires : goal.next_child-b-requires
+next_child-b-requires c =
+    let latest = c.latest-split in
+    ((opened (goal.at.next_child-b-requires c).After-take_step c.in-Closes.is).0, open_depth c.loop-rule.b c.if-depth-eq0.false, latest.ensures)
+
+pub extend-b-requires : goal.extend-b-requires
+extend-b-requires c =
+    let a = c.args in
+    few_extended a.ticket.now a.s a.claim _ (going (goal.at.extend-b-requires c).After-take_step) (stepped (goal.at.extend-b-requires c).After-take_step) c.in-Extends.is
+
+pub mark-requires : goal.mark-requires
+mark-requires c =
+    let a = c.args in
+    (can_mark a.ticket.now a.s a.claim _ _ (going (goal.at.mark-requires c).After-take_step) (stepped (goal.at.mark-requires c).After-take_step) c.in-Splits.is).0
+
+pub extend-b-requires-in-Splits : goal.extend-b-requires-in-Splits
+extend-b-requires-in-Splits c =
+    let a = c.args in
+    (can_mark a.ticket.now a.s a.claim _ _ (going (goal.at.extend-b-requires-in-Splits c).After-take_step) (stepped (goal.at.extend-b-requires-in-Splits c).After-take_step) c.in-Splits.is).1
+
+few-there : (c : Joined-take_step) → c.match-take_step.b.count ≤ fact_limit
+few-there c =
+    let a = c.args in
+    let b = a.ticket.now in
+    elim c.match-take_step.branch [
+      | in-Closes+else-depth-eq0 w ↦ subst (λ (x : code.Branch). x.count ≤ fact_limit) (sym w.b-is) (few_facts w.next_child-b.ensures.holds)
+      | in-Extends w ↦ subst (λ (x : code.Branch). x.count ≤ fact_limit) (sym w.b-is)
+          (omega (arith, few_extended b a.s a.claim _ (going (goal.at.Joined-take_step c).After-take_step) (stepped (goal.at.Joined-take_step c).After-take_step) w.in-Extends.is, w.extend-b.ensures.0))
+      | in-Splits w ↦ subst (λ (x : code.Branch). x.count ≤ fact_limit) (sym w.b-is)
+          (omega (arith, (can_mark b a.s a.claim _ _ (going (goal.at.Joined-take_step c).After-take_step) (stepped (goal.at.Joined-take_step c).After-take_step) w.in-Splits.is).1, w.extend-b-in-Splits.ensures.0))
+    ]
+
+added-there : (c : Joined-take_step)
+    → c.args.claim ≡ NoSolution
+    → Added c.match-take_step.count c.match-take_step.b.count
+added-there c e =
+    let a = c.args in
+    let b = a.ticket.now in
+    let o = c.loop-rule in
+    elim c.match-take_step.branch [
+      | in-Closes+else-depth-eq0 w ↦ rw (w.count-is, w.b-is)
+          (added_next_child b a.s w.in-Closes.is (open_depth o.b w.if-depth-eq0.false) w.latest-split.result w.latest-split.ensures _ w.next_child-b.result w.next_child-b.ensures.state a.claim
+          (gathering (goal.at.Joined-take_step c).After-take_step) (going (goal.at.Joined-take_step c).After-take_step) (stepped (goal.at.Joined-take_step c).After-take_step) e)
+      | in-Extends w ↦ rw (w.count-is, w.b-is)
+          (added_one b a.s _ w.in-Extends.is w.extend-b.result w.extend-b.ensures.0 w.extend-b.ensures.1 a.claim (gathering (goal.at.Joined-take_step c).After-take_step) (going (goal.at.Joined-take_step c).After-take_step) (stepped (goal.at.Joined-take_step c).After-take_step) e)
+      | in-Splits w ↦ rw (w.count-is, w.b-is)
+          (added_several b a.s _ _ w.in-Splits.is w.extend-b-in-Splits.result w.extend-b-in-Splits.ensures.0 (w.extend-b-in-Splits.ensures.1 ∙ w.mark.ensures.1) a.claim (gathering (goal.at.Joined-take_step c).After-take_step) (going (goal.at.Joined-take_step c).After-take_step)
+          (stepped (goal.at.Joined-take_step c).After-take_step) e)
+    ]
+
+pub keep_set-requires : goal.keep_set-requires
+keep_set-requires c = (added-there (goal.at.keep_set-requires c).Joined-take_step, few-there (goal.at.keep_set-requires c).Joined-take_step, roomy (goal.at.keep_set-requires c).At-loop-rule)
+
+-- ---- the next record
+pub overflow_add-k : goal.overflow_add-k
+overflow_add-k c =
+    fits (c.loop-rule.k + 1) (omega (arith, c.loop-rule.invariant.0.low, ends_within (goal.at.overflow_add-k c).In-Step))
+
+pub loop-rule-smaller : goal.loop-rule-smaller
+loop-rule-smaller c =
+    omega (arith, (step-here (goal.at.loop-rule-smaller c).In-Step).sized, (step-here (goal.at.loop-rule-smaller c).In-Step).whole)
+
+-- the question's constraints are in the first rows
+all-roots : (l : Loop) →
+    let a = l.args in
+    a.s.constraints ≡ length (asked a.ticket.now a.s).constraints
+all-roots l =
+    sym (length_branch l.args.work.now l.args.s.constraints) ∙ ap length l.requires.0.2
+
+pub loop-rule-preserved : goal.loop-rule-preserved
+loop-rule-preserved c =
+    let a = c.args in
+    let b = bytes (goal.at.loop-rule-preserved c).At-loop-rule in
+    let o = c.loop-rule in
+    let n = all-roots (goal.at.loop-rule-preserved c).At-loop-rule in
+    let filled = c.keep_set.ensures in
+    let same = c.keep_set.auto.sets ∙ o.invariant.2 in
+    elim c.match-take_step.branch [
+      | in-Closes+else-depth-eq0 w ↦
+          let q = w.in-Closes.is in
+          let deep = open_depth o.b w.if-depth-eq0.false in
+          let split = w.latest-split in
+          let mark = split.result.mark in
+          let known =
+          subst (λ (x : Known). Knows (workOf (goal.at.loop-rule-preserved c).After-take_step) mark x) (sym w.set_back-known.ensures)
+          (knows_back (workOf (goal.at.loop-rule-preserved c).After-take_step) o.b.count mark (labelsOf (goal.at.loop-rule-preserved c).After-take_step) c.first_known-first.result (opened (goal.at.loop-rule-preserved c).After-take_step q).1
+          (subst (λ (x : Split). Knows (workOf (goal.at.loop-rule-preserved c).After-take_step) x.mark c.first_known-first.result) (sym split.ensures) (first_there (goal.at.loop-rule-preserved c).After-take_step q deep))) in (
+            going_same b a.s w.work-is w.b-is w.known-is
+                (going_next b a.s a.claim (going (goal.at.loop-rule-preserved c).After-take_step) (stepped (goal.at.loop-rule-preserved c).After-take_step) q _ w.next_child-b.result w.set_back-known.result w.next_child-b.ensures.state w.next_child-b.ensures.holds
+                (known_below b a.s (workOf (goal.at.loop-rule-preserved c).After-take_step) _ mark w.next_child-b.result w.set_back-known.result w.next_child-b.ensures.below known) (w.next_child-b.auto.work ∙ same-work (goal.at.loop-rule-preserved c).After-take_step)),
+            gathering_same b a.s w.work-is refl w.b-is (w.known-is ∙ w.set_back-known.ensures)
+                (w.grounds-is ∙ w.grounds_back-grounds.ensures ∙ ap (λ (x : Grounds). grounds_back x (labelsOf (goal.at.loop-rule-preserved c).After-take_step).upto mark) w.with_closing-grounds.ensures)
+                (gathering_next b a.s q deep split.result split.ensures _ w.next_child-b.result w.next_child-b.ensures.state a.claim (gathering (goal.at.loop-rule-preserved c).After-take_step) (going (goal.at.loop-rule-preserved c).After-take_step) (stepped (goal.at.loop-rule-preserved c).After-take_step)
+                (resting (goal.at.loop-rule-preserved c).After-take_step) n _ (λ e. filled_as w.count-is (ap (λ (x : code.Branch). x.count) w.b-is) (w.set-is ∙ w.set_at-set.ensures) (filled e))
+                c.first_known-first.result c.first_known-first.ensures.upto_value),
+            same,
+          )
+      | in-Extends w ↦ (
+        going_same b a.s w.work-is w.b-is w.known-is
+            (going_one b a.s a.claim _ (going (goal.at.loop-rule-preserved c).After-take_step) (stepped (goal.at.loop-rule-preserved c).After-take_step) w.in-Extends.is w.extend-b.result w.extend-b.ensures.0 w.extend-b.ensures.1 (same-work (goal.at.loop-rule-preserved c).After-take_step)),
+        gathering_same b a.s w.work-is refl w.b-is w.known-is w.grounds-is
+            (gathering_one b a.s _ w.in-Extends.is w.extend-b.result w.extend-b.ensures.0 w.extend-b.ensures.1 a.claim (gathering (goal.at.loop-rule-preserved c).After-take_step) (going (goal.at.loop-rule-preserved c).After-take_step) (stepped (goal.at.loop-rule-preserved c).After-take_step)
+            (resting (goal.at.loop-rule-preserved c).After-take_step) n _
+            (λ e. filled_as w.count-is (ap (λ (x : code.Branch). x.count) w.b-is) w.set-is (filled e))),
+        same,
+      )
+      | in-Splits w ↦ (
+        going_same b a.s w.work-is w.b-is w.known-is
+            (going_more b a.s a.claim _ _ (going (goal.at.loop-rule-preserved c).After-take_step) (stepped (goal.at.loop-rule-preserved c).After-take_step) w.in-Splits.is w.extend-b-in-Splits.result w.extend-b-in-Splits.ensures.0 (w.extend-b-in-Splits.ensures.1 ∙ w.mark.ensures.1)
+            (same-work (goal.at.loop-rule-preserved c).After-take_step)),
+        gathering_same b a.s w.work-is refl w.b-is w.known-is w.grounds-is
+            (gathering_several b a.s _ _ w.in-Splits.is w.extend-b-in-Splits.result w.extend-b-in-Splits.ensures.0 (w.extend-b-in-Splits.ensures.1 ∙ w.mark.ensures.1) a.claim (gathering (goal.at.loop-rule-preserved c).After-take_step)
+            (going (goal.at.loop-rule-preserved c).After-take_step)
+            (stepped (goal.at.loop-rule-preserved c).After-take_step) (resting (goal.at.loop-rule-preserved c).After-take_step) n _ (λ e. filled_as w.count-is (ap (λ (x : code.Branch). x.count) w.b-is) w.set-is (filled e))),
+        same,
+      )
+    ]
