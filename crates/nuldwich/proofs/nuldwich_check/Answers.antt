@@ -1,0 +1,8 @@
+use lib.IntN.{pos}
+use lib.ListN.{length-replicate}
+use Rattle.calculus.specs.Limits.{work_numbers}
+use Rattle.nuldwich.proofs.Numbered.{own}
+use Rattle.nuldwich.proofs.nuldwich_check.Goals as goal
+
+pub returns : goal.returns
+returns c = own c.check_ticket-outcome.ensures c.reply_outcome.ensures (length-replicate work_numbers (pos 0))

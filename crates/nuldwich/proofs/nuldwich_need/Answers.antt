@@ -1,0 +1,6 @@
+use mathlib.Core.Path.{◌∙◌, ap}
+use Rattle.nuldwich.specs.Replies.{need_reply}
+use Rattle.nuldwich.proofs.nuldwich_need.Goals as goal
+
+pub returns : goal.returns
+returns c = c.reply_need.ensures ∙ ap need_reply c.need_ticket.ensures

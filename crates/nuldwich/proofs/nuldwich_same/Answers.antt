@@ -1,0 +1,6 @@
+use mathlib.Core.Path.{◌∙◌, ap}
+use Rattle.nuldwich.specs.Replies.{same_reply}
+use Rattle.nuldwich.proofs.nuldwich_same.Goals as goal
+
+pub returns : goal.returns
+returns c = c.reply_same.ensures ∙ ap same_reply c.same_questions.ensures
