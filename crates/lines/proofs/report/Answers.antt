@@ -1,0 +1,12 @@
+use Prim.Native.Nat.{ℕ}
+use lib.IntN.{pos}
+use lib.ListN.{length-replicate}
+use native.Mathlib.Omega.{arith}
+use Rattle.calculus.specs.Limits.{work_numbers, answer_bytes}
+use Rattle.lines.proofs.Reporting.{reported}
+use Rattle.lines.proofs.report.Goals as goal
+
+pub returns : goal.returns
+returns c =
+    let check-ticket = c.check_ticket-outcome in
+    reported check-ticket.ensures (length-replicate work_numbers (pos 0)) (length-replicate {A = ℕ} answer_bytes 0) c.put_lines.ensures.put (omega arith)
