@@ -55,7 +55,8 @@ pub returns-then-fault-ne0 : goal.returns-then-fault-ne0
 returns-then-fault-ne0 c =
     let a = c.args in
     let f = c.record_fault-fault in
-    refused_there a.ticket.now a.s a.«at» a.claim _ _ (whole (goal.at.returns-then-fault-ne0 c).In-Whole) (going_on (goal.at.returns-then-fault-ne0 c).Else-ends_steps) f.result f.ensures c.if-fault-ne0.true
+    refused_there a.ticket.now a.s a.«at» a.claim _ _ (whole (goal.at.returns-then-fault-ne0 c).In-Whole)
+    (going_on (goal.at.returns-then-fault-ne0 c).Else-ends_steps) f.result f.ensures c.if-fault-ne0.true
 
 -- ---- a step of proper form
 
@@ -73,11 +74,13 @@ pub u16_at-requires : goal.u16_at-requires
 u16_at-requires c =
     let a = c.args in
     let b = a.ticket.now in
-    let f = formed_there b a.s a.«at» a.claim _ _ (whole (goal.at.u16_at-requires c).In-Whole) (going_on (goal.at.u16_at-requires c).Else-ends_steps) (passed c) in
+    let f =
+    formed_there b a.s a.«at» a.claim _ _ (whole (goal.at.u16_at-requires c).In-Whole) (going_on (goal.at.u16_at-requires c).Else-ends_steps) (passed c) in
     omega (arith, f.within, at_least (form_for (rule b (a.«at» + 6))) _ f.fits, least_four (rule b (a.«at» + 6)))
 
 pub returns : goal.returns
 returns c =
     let a = c.args in
-    step_there a.ticket.now a.s a.«at» a.claim _ _ (whole (goal.at.returns c).In-Whole) (going_on (goal.at.returns c).Else-ends_steps) (passed (goal.at.returns c).Else-fault-ne0) c.rule_of-rule.result
+    step_there a.ticket.now a.s a.«at» a.claim _ _ (whole (goal.at.returns c).In-Whole) (going_on (goal.at.returns c).Else-ends_steps)
+    (passed (goal.at.returns c).Else-fault-ne0) c.rule_of-rule.result
     (c.rule_of-rule.ensures ∙ ap rule_of c.u16_at.ensures.0)

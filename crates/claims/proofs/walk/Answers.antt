@@ -41,7 +41,8 @@ use Rattle.claims.proofs.Gathering.{gathering_same, added_one, gathering_one, ad
 use Rattle.rows.proofs.Small.{fine_first}
 use Rattle.cores.proofs.Standing.{filled_as}
 use Rattle.claims.proofs.walk.Goals as goal
-use Rattle.claims.proofs.walk.Goals.{After-classes_for-known, After-first_known-first, After-take_step, At-loop-rule, In-Step, Joined-take_step, in-Closes+else-depth-eq0, in-Extends, in-Splits}
+use Rattle.claims.proofs.walk.Goals.{After-classes_for-known, After-first_known-first, After-take_step, At-loop-rule}
+use Rattle.claims.proofs.walk.Goals.{In-Step, Joined-take_step, in-Closes+else-depth-eq0, in-Extends, in-Splits}
 
 -- ---- places
 abbrev Loop : Type 0
@@ -162,7 +163,8 @@ pub overflow_add-next : goal.overflow_add-next
 overflow_add-next c = fits (c.loop-rule.i + 6) (omega (arith, ends_within (goal.at.overflow_add-next c).In-Step))
 
 pub overflow_add-next-in-loop-rule : goal.overflow_add-next-in-loop-rule
-overflow_add-next-in-loop-rule c = fits (c.loop-rule.i + 6 + body_of (goal.at.overflow_add-next-in-loop-rule c).In-Step) (ends_within (goal.at.overflow_add-next-in-loop-rule c).In-Step)
+overflow_add-next-in-loop-rule c =
+    fits (c.loop-rule.i + 6 + body_of (goal.at.overflow_add-next-in-loop-rule c).In-Step) (ends_within (goal.at.overflow_add-next-in-loop-rule c).In-Step)
 
 pub classes_for-known-requires : goal.classes_for-known-requires
 classes_for-known-requires c =
@@ -175,8 +177,12 @@ grown : (c : After-classes_for-known) →
 grown c = upto_grown c.loop-rule.invariant.0.knows c.classes_for-known.ensures
 
 pub grounds_upto-grounds-requires : goal.grounds_upto-grounds-requires
-grounds_upto-grounds-requires c =
-    ((grown (goal.at.grounds_upto-grounds-requires c).After-classes_for-known).0, fine_first c.classes_for-known.result.upto (grown (goal.at.grounds_upto-grounds-requires c).After-classes_for-known).1 (ready (goal.at.grounds_upto-grounds-requires c).In-Step).ready.fine, roomy (goal.at.grounds_upto-grounds-requires c).At-loop-rule)
+grounds_upto-grounds-requires c = (
+  (grown (goal.at.grounds_upto-grounds-requires c).After-classes_for-known).0,
+  fine_first c.classes_for-known.result.upto (grown (goal.at.grounds_upto-grounds-requires c).After-classes_for-known).1
+      (ready (goal.at.grounds_upto-grounds-requires c).In-Step).ready.fine,
+  roomy (goal.at.grounds_upto-grounds-requires c).At-loop-rule,
+)
 
 pub set_of-set-requires : goal.set_of-set-requires
 set_of-set-requires c = (ready (goal.at.set_of-set-requires c).In-Step, roomy (goal.at.set_of-set-requires c).At-loop-rule)
@@ -253,7 +259,8 @@ stepped t =
 resting : (t : Taken) →
     let a = t.args in
     let o = t.loop-rule in
-    Rests a.ticket.now a.s a.claim (rule_of (goal.at.After-take_step t).In-Step) o.work o.sets o.b (labelsOf t) (broughtOf t) o.i (body_of (goal.at.After-take_step t).In-Step) (setOf t)
+    Rests a.ticket.now a.s a.claim (rule_of (goal.at.After-take_step t).In-Step) o.work o.sets o.b (labelsOf t) (broughtOf t) o.i
+    (body_of (goal.at.After-take_step t).In-Step) (setOf t)
 resting t = record { brought = λ asks. (t.classes_for-known.ensures.brought asks).0; rests = t.set_of-set.ensures }
 
 pub shape_of-work-in-Refused : goal.shape_of-work-in-Refused
@@ -294,8 +301,13 @@ returns-then-depth-eq0 c =
     let q = c.in-Closes.is in
     let all =
     ap (λ (x : Grounds). x.core) c.with_closing-grounds.ensures
-    ∙ gathering_all b a.s a.claim (gathering (goal.at.returns-then-depth-eq0 c).After-take_step) (stepped (goal.at.returns-then-depth-eq0 c).After-take_step) (resting (goal.at.returns-then-depth-eq0 c).After-take_step) q (no_split c.loop-rule.b c.if-depth-eq0.true) in record {
-      walked = going_closed b a.s a.claim (going (goal.at.returns-then-depth-eq0 c).After-take_step) (stepped (goal.at.returns-then-depth-eq0 c).After-take_step) q c.if-depth-eq0.true _ _ _;
+    ∙ gathering_all b a.s a.claim (gathering (goal.at.returns-then-depth-eq0 c).After-take_step)
+    (stepped (goal.at.returns-then-depth-eq0 c).After-take_step) (resting (goal.at.returns-then-depth-eq0 c).After-take_step) q
+    (no_split c.loop-rule.b c.if-depth-eq0.true) in
+    record {
+      walked =
+          going_closed b a.s a.claim (going (goal.at.returns-then-depth-eq0 c).After-take_step) (stepped (goal.at.returns-then-depth-eq0 c).After-take_step) q
+          c.if-depth-eq0.true _ _ _;
       leaf = tt;
       core = (ap (λ (x : Words). x.low) all, ap (λ (x : Words). x.high) all);
     }
@@ -314,7 +326,8 @@ first_there : (t : Taken) → t.take_step.result ≡ Closes → 0 < t.loop-rule.
     Knows (workOf t) (latest_of (stack t.loop-rule.b)).mark t.first_known-first.result
 first_there t q d =
     let a = t.args in
-    laws.first_known a.ticket.now a.s a.work.now (workOf t) t.loop-rule.b t.first_known-first.result t.requires.0.2 (known-first (goal.at.After-take_step t).After-first_known-first)
+    laws.first_known a.ticket.now a.s a.work.now (workOf t) t.loop-rule.b t.first_known-first.result t.requires.0.2
+    (known-first (goal.at.After-take_step t).After-first_known-first)
     (opened t q).0 d
 
 pub latest-split-requires : goal.latest-split-requires
@@ -327,7 +340,9 @@ set_at-set-requires c =
     let deep = open_depth c.loop-rule.b c.if-depth-eq0.false in
     let a = c.args in
     let latest = c.latest-split in
-    let below = fact_at_mark a.ticket.now a.s a.claim (gathering (goal.at.set_at-set-requires c).After-take_step) (going (goal.at.set_at-set-requires c).After-take_step) (stepped (goal.at.set_at-set-requires c).After-take_step) q deep latest.result latest.ensures in
+    let below =
+    fact_at_mark a.ticket.now a.s a.claim (gathering (goal.at.set_at-set-requires c).After-take_step)
+    (going (goal.at.set_at-set-requires c).After-take_step) (stepped (goal.at.set_at-set-requires c).After-take_step) q deep latest.result latest.ensures in
     (omega (arith, few_facts (opened (goal.at.set_at-set-requires c).After-take_step q).0, below), roomy (goal.at.set_at-set-requires c).At-loop-rule)
 
 pub next_child-b-requires : goal.next_child-b-requires
@@ -338,17 +353,20 @@ next_child-b-requires c =
 pub extend-b-requires : goal.extend-b-requires
 extend-b-requires c =
     let a = c.args in
-    few_extended a.ticket.now a.s a.claim _ (going (goal.at.extend-b-requires c).After-take_step) (stepped (goal.at.extend-b-requires c).After-take_step) c.in-Extends.is
+    few_extended a.ticket.now a.s a.claim _ (going (goal.at.extend-b-requires c).After-take_step) (stepped (goal.at.extend-b-requires c).After-take_step)
+    c.in-Extends.is
 
 pub mark-requires : goal.mark-requires
 mark-requires c =
     let a = c.args in
-    (can_mark a.ticket.now a.s a.claim _ _ (going (goal.at.mark-requires c).After-take_step) (stepped (goal.at.mark-requires c).After-take_step) c.in-Splits.is).0
+    (can_mark a.ticket.now a.s a.claim _ _ (going (goal.at.mark-requires c).After-take_step) (stepped (goal.at.mark-requires c).After-take_step)
+    c.in-Splits.is).0
 
 pub extend-b-requires-in-Splits : goal.extend-b-requires-in-Splits
 extend-b-requires-in-Splits c =
     let a = c.args in
-    (can_mark a.ticket.now a.s a.claim _ _ (going (goal.at.extend-b-requires-in-Splits c).After-take_step) (stepped (goal.at.extend-b-requires-in-Splits c).After-take_step) c.in-Splits.is).1
+    (can_mark a.ticket.now a.s a.claim _ _ (going (goal.at.extend-b-requires-in-Splits c).After-take_step)
+    (stepped (goal.at.extend-b-requires-in-Splits c).After-take_step) c.in-Splits.is).1
 
 few-there : (c : Joined-take_step) → c.match-take_step.b.count ≤ fact_limit
 few-there c =
@@ -357,9 +375,19 @@ few-there c =
     elim c.match-take_step.branch [
       | in-Closes+else-depth-eq0 w ↦ subst (λ (x : code.Branch). x.count ≤ fact_limit) (sym w.b-is) (few_facts w.next_child-b.ensures.holds)
       | in-Extends w ↦ subst (λ (x : code.Branch). x.count ≤ fact_limit) (sym w.b-is)
-          (omega (arith, few_extended b a.s a.claim _ (going (goal.at.Joined-take_step c).After-take_step) (stepped (goal.at.Joined-take_step c).After-take_step) w.in-Extends.is, w.extend-b.ensures.0))
+          (omega (
+            arith,
+            few_extended b a.s a.claim _ (going (goal.at.Joined-take_step c).After-take_step) (stepped (goal.at.Joined-take_step c).After-take_step)
+                w.in-Extends.is,
+            w.extend-b.ensures.0,
+          ))
       | in-Splits w ↦ subst (λ (x : code.Branch). x.count ≤ fact_limit) (sym w.b-is)
-          (omega (arith, (can_mark b a.s a.claim _ _ (going (goal.at.Joined-take_step c).After-take_step) (stepped (goal.at.Joined-take_step c).After-take_step) w.in-Splits.is).1, w.extend-b-in-Splits.ensures.0))
+          (omega (
+            arith,
+            (can_mark b a.s a.claim _ _ (going (goal.at.Joined-take_step c).After-take_step) (stepped (goal.at.Joined-take_step c).After-take_step)
+                w.in-Splits.is).1,
+            w.extend-b-in-Splits.ensures.0,
+          ))
     ]
 
 added-there : (c : Joined-take_step)
@@ -371,17 +399,27 @@ added-there c e =
     let o = c.loop-rule in
     elim c.match-take_step.branch [
       | in-Closes+else-depth-eq0 w ↦ rw (w.count-is, w.b-is)
-          (added_next_child b a.s w.in-Closes.is (open_depth o.b w.if-depth-eq0.false) w.latest-split.result w.latest-split.ensures _ w.next_child-b.result w.next_child-b.ensures.state a.claim
-          (gathering (goal.at.Joined-take_step c).After-take_step) (going (goal.at.Joined-take_step c).After-take_step) (stepped (goal.at.Joined-take_step c).After-take_step) e)
+          (added_next_child b a.s w.in-Closes.is (open_depth o.b w.if-depth-eq0.false) w.latest-split.result w.latest-split.ensures _ w.next_child-b.result
+          w.next_child-b.ensures.state a.claim
+          (gathering (goal.at.Joined-take_step c).After-take_step) (going (goal.at.Joined-take_step c).After-take_step)
+          (stepped (goal.at.Joined-take_step c).After-take_step) e)
       | in-Extends w ↦ rw (w.count-is, w.b-is)
-          (added_one b a.s _ w.in-Extends.is w.extend-b.result w.extend-b.ensures.0 w.extend-b.ensures.1 a.claim (gathering (goal.at.Joined-take_step c).After-take_step) (going (goal.at.Joined-take_step c).After-take_step) (stepped (goal.at.Joined-take_step c).After-take_step) e)
+          (added_one b a.s _ w.in-Extends.is w.extend-b.result w.extend-b.ensures.0 w.extend-b.ensures.1 a.claim
+          (gathering (goal.at.Joined-take_step c).After-take_step) (going (goal.at.Joined-take_step c).After-take_step)
+          (stepped (goal.at.Joined-take_step c).After-take_step) e)
       | in-Splits w ↦ rw (w.count-is, w.b-is)
-          (added_several b a.s _ _ w.in-Splits.is w.extend-b-in-Splits.result w.extend-b-in-Splits.ensures.0 (w.extend-b-in-Splits.ensures.1 ∙ w.mark.ensures.1) a.claim (gathering (goal.at.Joined-take_step c).After-take_step) (going (goal.at.Joined-take_step c).After-take_step)
+          (added_several b a.s _ _ w.in-Splits.is w.extend-b-in-Splits.result w.extend-b-in-Splits.ensures.0
+          (w.extend-b-in-Splits.ensures.1 ∙ w.mark.ensures.1) a.claim (gathering (goal.at.Joined-take_step c).After-take_step)
+          (going (goal.at.Joined-take_step c).After-take_step)
           (stepped (goal.at.Joined-take_step c).After-take_step) e)
     ]
 
 pub keep_set-requires : goal.keep_set-requires
-keep_set-requires c = (added-there (goal.at.keep_set-requires c).Joined-take_step, few-there (goal.at.keep_set-requires c).Joined-take_step, roomy (goal.at.keep_set-requires c).At-loop-rule)
+keep_set-requires c = (
+  added-there (goal.at.keep_set-requires c).Joined-take_step,
+  few-there (goal.at.keep_set-requires c).Joined-take_step,
+  roomy (goal.at.keep_set-requires c).At-loop-rule,
+)
 
 -- ---- the next record
 pub overflow_add-k : goal.overflow_add-k
@@ -415,35 +453,51 @@ loop-rule-preserved c =
           let mark = split.result.mark in
           let known =
           subst (λ (x : Known). Knows (workOf (goal.at.loop-rule-preserved c).After-take_step) mark x) (sym w.set_back-known.ensures)
-          (knows_back (workOf (goal.at.loop-rule-preserved c).After-take_step) o.b.count mark (labelsOf (goal.at.loop-rule-preserved c).After-take_step) c.first_known-first.result (opened (goal.at.loop-rule-preserved c).After-take_step q).1
-          (subst (λ (x : Split). Knows (workOf (goal.at.loop-rule-preserved c).After-take_step) x.mark c.first_known-first.result) (sym split.ensures) (first_there (goal.at.loop-rule-preserved c).After-take_step q deep))) in (
+          (knows_back (workOf (goal.at.loop-rule-preserved c).After-take_step) o.b.count mark (labelsOf (goal.at.loop-rule-preserved c).After-take_step)
+          c.first_known-first.result (opened (goal.at.loop-rule-preserved c).After-take_step q).1
+          (subst (λ (x : Split). Knows (workOf (goal.at.loop-rule-preserved c).After-take_step) x.mark c.first_known-first.result) (sym split.ensures)
+          (first_there (goal.at.loop-rule-preserved c).After-take_step q deep))) in (
             going_same b a.s w.work-is w.b-is w.known-is
-                (going_next b a.s a.claim (going (goal.at.loop-rule-preserved c).After-take_step) (stepped (goal.at.loop-rule-preserved c).After-take_step) q _ w.next_child-b.result w.set_back-known.result w.next_child-b.ensures.state w.next_child-b.ensures.holds
-                (known_below b a.s (workOf (goal.at.loop-rule-preserved c).After-take_step) _ mark w.next_child-b.result w.set_back-known.result w.next_child-b.ensures.below known) (w.next_child-b.auto.work ∙ same-work (goal.at.loop-rule-preserved c).After-take_step)),
+                (going_next b a.s a.claim (going (goal.at.loop-rule-preserved c).After-take_step) (stepped (goal.at.loop-rule-preserved c).After-take_step)
+                q _ w.next_child-b.result w.set_back-known.result w.next_child-b.ensures.state w.next_child-b.ensures.holds
+                (known_below b a.s (workOf (goal.at.loop-rule-preserved c).After-take_step) _ mark w.next_child-b.result w.set_back-known.result
+                w.next_child-b.ensures.below known)
+                (w.next_child-b.auto.work ∙ same-work (goal.at.loop-rule-preserved c).After-take_step)),
             gathering_same b a.s w.work-is refl w.b-is (w.known-is ∙ w.set_back-known.ensures)
-                (w.grounds-is ∙ w.grounds_back-grounds.ensures ∙ ap (λ (x : Grounds). grounds_back x (labelsOf (goal.at.loop-rule-preserved c).After-take_step).upto mark) w.with_closing-grounds.ensures)
-                (gathering_next b a.s q deep split.result split.ensures _ w.next_child-b.result w.next_child-b.ensures.state a.claim (gathering (goal.at.loop-rule-preserved c).After-take_step) (going (goal.at.loop-rule-preserved c).After-take_step) (stepped (goal.at.loop-rule-preserved c).After-take_step)
-                (resting (goal.at.loop-rule-preserved c).After-take_step) n _ (λ e. filled_as w.count-is (ap (λ (x : code.Branch). x.count) w.b-is) (w.set-is ∙ w.set_at-set.ensures) (filled e))
+                (w.grounds-is
+                ∙ w.grounds_back-grounds.ensures
+                ∙ ap (λ (x : Grounds). grounds_back x (labelsOf (goal.at.loop-rule-preserved c).After-take_step).upto mark) w.with_closing-grounds.ensures)
+                (gathering_next b a.s q deep split.result split.ensures _ w.next_child-b.result w.next_child-b.ensures.state a.claim
+                (gathering (goal.at.loop-rule-preserved c).After-take_step) (going (goal.at.loop-rule-preserved c).After-take_step)
+                (stepped (goal.at.loop-rule-preserved c).After-take_step)
+                (resting (goal.at.loop-rule-preserved c).After-take_step) n _
+                (λ e. filled_as w.count-is (ap (λ (x : code.Branch). x.count) w.b-is) (w.set-is ∙ w.set_at-set.ensures) (filled e))
                 c.first_known-first.result c.first_known-first.ensures.upto_value),
             same,
           )
       | in-Extends w ↦ (
         going_same b a.s w.work-is w.b-is w.known-is
-            (going_one b a.s a.claim _ (going (goal.at.loop-rule-preserved c).After-take_step) (stepped (goal.at.loop-rule-preserved c).After-take_step) w.in-Extends.is w.extend-b.result w.extend-b.ensures.0 w.extend-b.ensures.1 (same-work (goal.at.loop-rule-preserved c).After-take_step)),
+            (going_one b a.s a.claim _ (going (goal.at.loop-rule-preserved c).After-take_step) (stepped (goal.at.loop-rule-preserved c).After-take_step)
+            w.in-Extends.is w.extend-b.result w.extend-b.ensures.0 w.extend-b.ensures.1 (same-work (goal.at.loop-rule-preserved c).After-take_step)),
         gathering_same b a.s w.work-is refl w.b-is w.known-is w.grounds-is
-            (gathering_one b a.s _ w.in-Extends.is w.extend-b.result w.extend-b.ensures.0 w.extend-b.ensures.1 a.claim (gathering (goal.at.loop-rule-preserved c).After-take_step) (going (goal.at.loop-rule-preserved c).After-take_step) (stepped (goal.at.loop-rule-preserved c).After-take_step)
+            (gathering_one b a.s _ w.in-Extends.is w.extend-b.result w.extend-b.ensures.0 w.extend-b.ensures.1 a.claim
+            (gathering (goal.at.loop-rule-preserved c).After-take_step) (going (goal.at.loop-rule-preserved c).After-take_step)
+            (stepped (goal.at.loop-rule-preserved c).After-take_step)
             (resting (goal.at.loop-rule-preserved c).After-take_step) n _
             (λ e. filled_as w.count-is (ap (λ (x : code.Branch). x.count) w.b-is) w.set-is (filled e))),
         same,
       )
       | in-Splits w ↦ (
         going_same b a.s w.work-is w.b-is w.known-is
-            (going_more b a.s a.claim _ _ (going (goal.at.loop-rule-preserved c).After-take_step) (stepped (goal.at.loop-rule-preserved c).After-take_step) w.in-Splits.is w.extend-b-in-Splits.result w.extend-b-in-Splits.ensures.0 (w.extend-b-in-Splits.ensures.1 ∙ w.mark.ensures.1)
+            (going_more b a.s a.claim _ _ (going (goal.at.loop-rule-preserved c).After-take_step) (stepped (goal.at.loop-rule-preserved c).After-take_step)
+            w.in-Splits.is w.extend-b-in-Splits.result w.extend-b-in-Splits.ensures.0 (w.extend-b-in-Splits.ensures.1 ∙ w.mark.ensures.1)
             (same-work (goal.at.loop-rule-preserved c).After-take_step)),
         gathering_same b a.s w.work-is refl w.b-is w.known-is w.grounds-is
-            (gathering_several b a.s _ _ w.in-Splits.is w.extend-b-in-Splits.result w.extend-b-in-Splits.ensures.0 (w.extend-b-in-Splits.ensures.1 ∙ w.mark.ensures.1) a.claim (gathering (goal.at.loop-rule-preserved c).After-take_step)
+            (gathering_several b a.s _ _ w.in-Splits.is w.extend-b-in-Splits.result w.extend-b-in-Splits.ensures.0
+            (w.extend-b-in-Splits.ensures.1 ∙ w.mark.ensures.1) a.claim (gathering (goal.at.loop-rule-preserved c).After-take_step)
             (going (goal.at.loop-rule-preserved c).After-take_step)
-            (stepped (goal.at.loop-rule-preserved c).After-take_step) (resting (goal.at.loop-rule-preserved c).After-take_step) n _ (λ e. filled_as w.count-is (ap (λ (x : code.Branch). x.count) w.b-is) w.set-is (filled e))),
+            (stepped (goal.at.loop-rule-preserved c).After-take_step) (resting (goal.at.loop-rule-preserved c).After-take_step) n _
+            (λ e. filled_as w.count-is (ap (λ (x : code.Branch). x.count) w.b-is) w.set-is (filled e))),
         same,
       )
     ]
