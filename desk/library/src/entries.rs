@@ -47,6 +47,13 @@ extern "C" {
     fn c_need(ticket: *const u8, ticket_len: usize) -> Needed;
     #[link_name = "nuldwich_same"]
     fn c_same(first: *const u8, first_len: usize, second: *const u8, second_len: usize) -> Compared;
+    #[link_name = "nuldwich_version"]
+    fn c_version() -> u64;
+}
+
+pub fn version() -> u64 {
+    // It takes nothing and reads nothing.
+    unsafe { c_version() }
 }
 
 pub fn check(ticket: &[u8], answer: &mut [u8]) -> Replied {

@@ -54,6 +54,12 @@ pub enum Judgement {
     AnswerRefused { refusal: Refusal, offset: usize, length: usize },
 }
 
+/// The version of the library: its major and its minor number.
+pub fn version() -> (u64, u64) {
+    let version = entries::version();
+    (version / 1000, version % 1000)
+}
+
 /// Checks a ticket.
 pub fn check(ticket: &[u8]) -> Checked {
     let mut answer = vec![0; ANSWER_BYTES];

@@ -56,6 +56,10 @@ fn run(words: &[OsString]) -> Result<Status, Trouble> {
     if ["--help", "-h", "help"].contains(&name.as_ref()) {
         return output::print(&help()).map(|()| Status::Good);
     }
+    if name == "--version" {
+        let (major, minor) = library::version();
+        return output::print(&format!("nuldwich {major}.{minor}\n")).map(|()| Status::Good);
+    }
     let command = COMMANDS.into_iter().find(|command| command.name == name);
     let command = command.ok_or_else(|| Trouble(format!("there is no command {name}\n\n{}", help())))?;
     match Arguments::of(command, rest)? {
