@@ -26,7 +26,7 @@ MAJOR := $(firstword $(subst ., ,$(VERSION)))
 # The library, as an archive and as a shared library, and what it is proved and built from.
 LIBRARY := target/staticlib/libnuldwich.a
 SHARED := target/shared/libnuldwich.so.$(VERSION)
-SOURCES := crates.txt $(shell find crates \( -name must-fail -o -name out \) -prune -o -print)
+SOURCES := crates.txt $(shell find crates \( -name must-fail -o -name out \) -prune -o -type f -print)
 
 # The names of checking and judging in document 01. To C they are weak symbols.
 SHORT_NAMES := check judge
@@ -35,8 +35,8 @@ SHORT_NAMES := check judge
 help: ## list the commands
 	@awk -F ':.*## ' '/^[a-z]*:.*## / { printf "  make %-10s %s\n", $$1, $$2 }' Makefile
 
-# The whole gate: every crate proved from nothing, the edits that must fail, the executed tests.
-test: ## prove everything from nothing, try the edits that must fail, run the tests
+# The whole gate: every crate proved, the edits that must fail, the executed tests.
+test: ## prove everything, try the edits that must fail, run the tests
 	@tests/gate.sh
 
 # Standard output has the program's lines alone; the prover's log goes to standard error.
@@ -52,9 +52,12 @@ desk: library ## build the desk, the program that people use: target/desk/nuldwi
 	@CARGO_TARGET_DIR=$(CURDIR)/target/desk-build cargo build --quiet --release --offline --locked --manifest-path desk/Cargo.toml -p nuldwich
 	@install -D target/desk-build/release/nuldwich $(DESK)
 
-program: ## build the proved program: target/bin/verdict
-	@cd crates/verdict && rt run >/dev/null 2>&1 </dev/null || rt run >&2 </dev/null
-	@install -D crates/verdict/out/verdict target/bin/verdict
+program: target/bin/verdict ## build the proved program: target/bin/verdict
+
+# It is run once, on empty input, as it is built.
+target/bin/verdict: $(SOURCES)
+	@cd crates/verdict && rt run >&2 </dev/null
+	@install -D crates/verdict/out/verdict $@
 
 library: $(LIBRARY) $(SHARED) ## build the library for C, with include/nuldwich.h: target/staticlib/libnuldwich.a, target/shared/libnuldwich.so
 

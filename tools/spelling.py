@@ -148,7 +148,8 @@ def main():
             written[path] = new
     kit.clear()
     modules.clear()
-    for path in [p for pattern in ("README.md", "docs/**/*.md", "tests/README.md", "crates/**/README.md") for p in glob.glob(os.path.join(root, pattern), recursive=True)]:
+    # docs/TEXT.md has the words of the desk's own language.
+    for path in [p for pattern in ("README.md", "docs/**/*.md", "tests/README.md", "crates/**/README.md") for p in glob.glob(os.path.join(root, pattern), recursive=True) if not p.endswith("/TEXT.md")]:
         old = open(path, encoding="utf-8").read()
         new = re.sub(r"`[^`\n]*`", lambda m: code(m.group()), old)
         if new != old:
