@@ -77,11 +77,11 @@ module _ (characters sizes : List ℕ) where
       all_append (λ (s : List ℕ). length s ≤ length_limit) (table_strings characters sizes x) (row characters x (get_or sizes x 0) ∷ [])
       (short_strings p t x (omega arith)) (omega arith, tt)
 
-  -- the records of the first x strings, and a further one behind them, fit the buffer
+  -- the records of the first x strings, and a further one after them, fit the buffer
   pub strings_most : (p : ℕ) → Table characters sizes p → (x : ℕ) → x ≤ p → length (string_records (table_strings characters sizes x)) ≤ (6 + 4 * length_limit) * x
   strings_most p t x h = rw (length_tables x) at (Rattle.format.proofs.Encoded.length_strings (table_strings characters sizes x) (short_strings p t x h))
 
--- ---- the integers and the end behind the strings
+-- ---- the integers and the end after the strings
 
 pub tail_put : (b : List ℕ) (at q : ℕ) (zs : List ℤ) → length zs ≡ q
     → sets (sets (sets b at (bytes_of 4 (4 * q) ++ bytes_of 2 10)) (at + 6) (integer_bytes zs)) (at + 6 + 4 * q) (bytes_of 4 0 ++ bytes_of 2 8)

@@ -26,7 +26,7 @@ fn put_characters(buffer: &mut [u8], at: usize, characters: &[u32])
     }
 }
 
-// A string's record; answers the index behind it.
+// A string's record; answers the index after it.
 fn put_string(buffer: &mut [u8], at: usize, characters: &[u32]) -> usize
     requires { at + 6 + 4 * length characters.now ≤ length buffer.old }
     ensures value { result ≡ at + length (record_bytes 9 (character_bytes characters.now)) }
@@ -38,7 +38,7 @@ fn put_string(buffer: &mut [u8], at: usize, characters: &[u32]) -> usize
     at + RECORD_HEAD + size
 }
 
-// The record of variable x's string in the table; answers the index behind it.
+// The record of variable x's string in the table; answers the index after it.
 fn put_row(buffer: &mut [u8], at: usize, characters: &[u32], x: usize, size: usize) -> usize
     requires { (x < variable_limit) × (size ≤ length_limit) × (length_limit * x + length_limit ≤ length characters.now)
         × (at + 6 + 4 * size ≤ length buffer.old) }
@@ -50,7 +50,7 @@ fn put_row(buffer: &mut [u8], at: usize, characters: &[u32], x: usize, size: usi
     put_string(buffer, at, &characters[from..to])
 }
 
-// "one record of kind 9 for each string variable"; answers the index behind them.
+// "one record of kind 9 for each string variable"; answers the index after them.
 fn put_strings(buffer: &mut [u8], characters: &[u32], sizes: &[usize], p: usize) -> usize
     requires { Table characters.now sizes.now p × (answer_bytes ≤ length buffer.old) }
     ensures value { result ≡ length (string_records (table_strings characters.now sizes.now p)) }

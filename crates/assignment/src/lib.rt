@@ -48,7 +48,7 @@ fn string_formed(v: &[u8], at: usize) -> bool
     }
 }
 
-// Whether the integers' record, the end record and nothing behind it stand at a position.
+// Whether the integers' record, the end record and nothing after it stand at a position.
 fn tail_formed(v: &[u8], q: usize, at: usize) -> bool
     requires { q ≤ variable_limit }
     ensures { result ≡ answer_form v.now 0 q at }

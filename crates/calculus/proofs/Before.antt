@@ -8,26 +8,26 @@ use mathlib.Core.Bool.{Bool, true, false, cond, not, ◌&&◌, ◌||◌}
 use mathlib.Core.Option.{Option, none, some}
 use mathlib.Core.List.{List, [], ◌∷◌, ◌++◌}
 use lib.ListN.{length, get_elem?, get_or}
-use lib.Dec.{T, ltb, eqb}
+use lib.Dec.{T, ltb}
 use lib.IntN.{ℤ, pos, negsuc, nat_abs}
 use lib.Signed.{non_neg}
-use Rattle.lists.specs.Lists.{All, all_below}
+use Rattle.lists.specs.Lists.{All}
 use Rattle.lists.proofs.Options.{none_some, some_injective}
 use Rattle.lists.proofs.Tests.{and→, →and}
+use Rattle.lists.proofs.Below.{all_below_same}
 use Rattle.lists.proofs.Lists.{all_append, all_left, all_right}
 use Rattle.lists.proofs.Matched.{Matched, matched_append, matched_at, matched_any, matched_same}
 use Rattle.calculus.specs.LinearForms.{is_zero, all_zero}
 use Rattle.calculus.specs.Facts.{Question, Fact, Branch, Function, ge, eq, ne, arithmetic, same, not_same, is_literal, len, code}
-use Rattle.calculus.specs.Chains.{var_node}
-use Rattle.calculus.specs.Classes.{merge_fact, labels_from, up_from, node_count, labels, literals_meet, sides_of, clash, conflict, same_class, lowest_literal}
+use Rattle.calculus.specs.Classes.{merge_fact, labels_from, up_from, node_count, labels, literals_meet, sides_of, clash, conflict}
 use Rattle.calculus.specs.Steps.{Step, Sum, BranchOn, Apart, AConf, SConf, SProp, LIntro, LValid, CCollapse, CValid, CInj, Card, Join}
-use Rattle.calculus.specs.Children.{sum_child, literal_child, l_valid_children, c_valid_children, s_prop_child, c_inj_children}
+use Rattle.calculus.specs.Children.{sum_child}
 use Rattle.calculus.specs.Rules.{guard, then, summand, sum_of, divided, all_equations, divides_exactly, sum_relation, apart_of, is_false, join_form, join_of, distinct, neighbours}
-use Rattle.calculus.specs.Rules.{card_children, children, join_before, children_before}
+use Rattle.calculus.specs.Rules.{literal_children, card_children, children, join_before, children_before}
 use Rattle.calculus.specs.Instances.{FactAt, LengthsStated, Neighbours}
 use Rattle.calculus.specs.Model.{model_value}
 use Rattle.calculus.specs.Settled.{MeetsArithmetic}
-use Rattle.calculus.specs.SettledTest.{by_children, lowest_variable, settled_card, settled}
+use Rattle.calculus.specs.SettledTest.{by_children, settled_step, lowest_variable, settled_card, settled}
 use Rattle.calculus.specs.Strings.{fresh_from, fixed_string, fixed_strings, string_of, strings_to, strings}
 use Rattle.calculus.proofs.Tests.{guard→, →guard, then→, →then}
 use Rattle.calculus.proofs.Entries.{Divided, divided→}
@@ -235,22 +235,26 @@ module _ (u : Question) (b c : Branch) (r : RaisedBranch b c) where
 -- ---- the leaf
 
 module _ (u : Question) (m : List ℤ) (b c : Branch) (h : Matched Raised b c) where
-  -- what settles a leaf, by whether S-Conf fits and by the classes
-  settled_by : Bool → List ℕ → Bool
-  settled_by t ls =
-      let literal : Function → ℕ → Option (List (List Fact)) = λ f x. then (lowest_literal ls x 0 (suc (length u.literals))) (λ l. some (literal_child u f x l)) in
-      let joined : Function → ℕ → ℕ → Option (List (List Fact)) = λ f x y. guard (not (eqb x y) && same_class ls (var_node x) (var_node y)) (s_prop_child u f x y) in
-      not t && all_below u.p (λ x.
-      by_children ls m (literal len x) && by_children ls m (some (l_valid_children u x)) && by_children ls m (literal code x) && by_children ls m (some (c_valid_children u x))
-      && settled_card u ls m x
-      && all_below u.p (λ y. by_children ls m (joined len x y) && by_children ls m (joined code x y) && by_children ls m (guard (not (eqb x y)) (c_inj_children u x y))))
+  -- a step with the same children settles the same
+  step_same : (st : Step) → children u c st ≡ children u b st → settled_step u c m st ≡ settled_step u b m st
+  step_same st e = ap₂ (λ (ls : List ℕ) (cs : Option (List (List Fact))). by_children ls m cs) (labels_same b c h) e
 
-  settled_so : (b : Branch) → settled u b m ≡ settled_by (conflict u b) (labels b)
-  unfolding settled_by
-  settled_so b = refl
+  literal_same : (f : Function) (x : ℕ) → literal_children u c f x ≡ literal_children u b f x
+  literal_same f x = rw (labels_same b c h) refl
+
+  pair_same : (f : Function) (x y : ℕ) → settled_step u c m (SProp f x y) ≡ settled_step u b m (SProp f x y)
+  pair_same f x y = step_same (SProp f x y) (rw (labels_same b c h) refl)
 
   pub settled_same : settled u c m ≡ settled u b m
-  settled_same = settled_so c ∙ ap₂ settled_by (conflict_same b c h u) (labels_same b c h) ∙ sym (settled_so b)
+  settled_same =
+      ap₂ (λ (t s : Bool). not t && s) (conflict_same b c h u)
+      (all_below_same u.p _ _ (λ x.
+      ap₂ ◌&&◌ (ap₂ ◌&&◌ (ap₂ ◌&&◌
+      (ap₂ ◌&&◌ (ap₂ ◌&&◌ (step_same (LIntro x) (literal_same len x)) (step_same (LValid x) refl)) (step_same (CCollapse x) (literal_same code x)))
+      (step_same (CValid x) refl))
+      (ap (λ (ls : List ℕ). settled_card u ls m x) (labels_same b c h)))
+      (all_below_same u.p _ _ (λ y.
+      ap₂ ◌&&◌ (ap₂ ◌&&◌ (pair_same len x y) (pair_same code x y)) (step_same (CInj x y) refl)))))
 
   fixed_same : (x : ℕ) → fixed_string u c m x ≡ fixed_string u b m x
   fixed_same x = rw (labels_same b c h) refl

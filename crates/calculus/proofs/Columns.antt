@@ -18,7 +18,7 @@ module _ (u : Question) (a : Assignment) (strings : length a.strs ≡ u.p) (inte
   long : (f : Function) → length (stretch f) ≡ u.p
   long f = length-map a.strs (value_of f) ∙ strings
 
-  -- an entry behind the first list
+  -- an entry after the first list
   behind : (xs ys : List ℤ) (k n : ℕ) → length xs ≡ k → get_or (xs ++ ys) (k + n) (pos 0) ≡ get_or ys n (pos 0)
   behind xs ys k n e = ap (λ (m : ℕ). get_or (xs ++ ys) (m + n) (pos 0)) (sym e) ∙ get_or-append-add xs ys n (pos 0)
 

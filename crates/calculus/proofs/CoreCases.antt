@@ -6,7 +6,7 @@ use lib.IntN.{pos, negsuc}
 use Rattle.lists.specs.Lists.{lowest}
 use Rattle.calculus.specs.Alphabet.{code_ranges, character_count}
 use Rattle.calculus.specs.LinearForms.{number, minus, column, above}
-use Rattle.calculus.specs.Facts.{Question, same, not_same, is_literal, arithmetic, Branch, ge, eq, len, code}
+use Rattle.calculus.specs.Facts.{Question, same, not_same, is_literal, arithmetic, Branch, ge, eq, len}
 use Rattle.calculus.specs.Steps.{Sum, BranchOn, AConf, SConf, SProp, LIntro, LValid, CCollapse, CValid, CInj, Card, Join}
 use Rattle.calculus.specs.Rules.{all_equations, divides_exactly, states_difference, states_equal}
 use Rattle.calculus.specs.Cores.{union, rooted_from, named_sets, sets_of, neighbour_sets, rests_on, core_from, core_in}

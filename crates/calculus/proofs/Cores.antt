@@ -16,7 +16,7 @@ use Rattle.calculus.specs.Facts.{Question, Fact, Branch, len, column_of}
 use Rattle.calculus.specs.Steps.{Step, Sum, BranchOn, Apart, AConf, SConf, SProp, LIntro, LValid, CCollapse, CValid, CInj, Card, Join}
 use Rattle.calculus.specs.Rules.{lowest_difference}
 use Rattle.calculus.specs.Walk.{Waiting, Walk, working, closed, wait, cut_back, enter}
-use Rattle.calculus.specs.Cores.{Set, only, union, chosen_from, Rested, facts, sets, rooted_from, resting, set_at, named_sets, sets_of, found_set}
+use Rattle.calculus.specs.Cores.{Set, only, union, chosen_from, Rested, facts, rooted_from, resting, set_at, named_sets, sets_of, found_set}
 use Rattle.calculus.specs.Cores.{equates, separates, lengths_set, neighbour_sets, rests_on, of_closing, children_of, enter_resting, core_from, core_in}
 use Rattle.calculus.specs.Instances.{Instance, IsStep}
 use Rattle.calculus.specs.Meaning.{Assignment, IsAssignment, Meets, Met, columns}
@@ -123,7 +123,7 @@ module _ (u : Question) (c : Set) (a : Assignment) where
   kept_some s (d ∷ cs) w (inr m) = inr (kept_some s cs w m)
 
 module _ (u : Question) (w : HeadInRange u) (d : Distinct ([] ∷ u.literals)) (c : Set) (a : Assignment) (f : IsAssignment u a) where
-  -- a step that closes its branch rests within c; so what is met before a step is met behind it
+  -- a step that closes its branch rests within c; so what is met before a step is met after it
   step_kept : (r : Rested) (st : Step) (cs : List (List Fact)) → IsStep u st → Instance u (facts r) st cs
       → within (of_closing cs (rests_on u r st)) c ≡ true
       → Kept u c a r → KeptSome u c a (map (resting (rests_on u r st)) cs)

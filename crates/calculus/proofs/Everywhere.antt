@@ -1,11 +1,11 @@
 -- What holds of every branch that a walk has open or will begin, and how many splits are pending, whatever a branch and a child are.
-use Prim.Native.Nat.{ℕ, suc, ◌≤◌, ◌<◌}
+use Prim.Native.Nat.{ℕ, ◌≤◌, ◌<◌}
 use native.Mathlib.Omega.{arith}
 use mathlib.Core.List.{List, [], ◌∷◌}
 use lib.ListN.{length}
 use Rattle.lists.specs.Lists.{All}
 use Rattle.lists.proofs.Lists.{all_map}
-use Rattle.calculus.specs.Walk.{Waiting, Walk, working, closed, wait, cut_back, enter}
+use Rattle.calculus.specs.Walk.{Waiting, Walk, working, closed, wait, enter}
 
 module _ {B C : Type 0} (add : B → C → B) where
   -- it holds of each branch that begins with a child still to come

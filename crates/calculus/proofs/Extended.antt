@@ -224,7 +224,7 @@ decimal_enough (suc d) (suc e) k h g = go (ltb k 10) refl (decimal_enough d e (k
         let large : 10 ≤ k = ltb-false k 10 q in
         decimal_more d k large ∙ ap (λ s. s ++ ((zero_digit + k % 10) ∷ [])) (ih (omega arith) (omega arith)) ∙ sym (decimal_more e k large)
 
--- a further digit is written behind the others
+-- a further digit is written after the others
 pub decimal_behind : (v d : ℕ) → 1 ≤ v → d ≤ 9 → decimal (10 * v + d) ≡ decimal v ++ ((zero_digit + d) ∷ [])
 decimal_behind v d h g =
     let q : (10 * v + d) / 10 ≡ v = omega arith in

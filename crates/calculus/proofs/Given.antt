@@ -136,7 +136,7 @@ module _ (u : Question) (w : HeadInRange u) (b : Branch) (r : FactsInRange u b) 
     abbrev Candidate : List ℕ → Type 0
     Candidate = Free u.n (model_value u m len x) (Before x)
 
-    -- a word that is not given stands at or behind the first one
+    -- a word that is not given stands at or after the first one
     behind : (j : ℕ) → ((i : ℕ) → i < j → In (word u.n (L u b m x) i) (before u b m x)) → (t : List ℕ) → Candidate t → Precedes (word u.n (L u b m x) j) t
     behind j k t f = go (dec_lt (place u.n t) j)
       where

@@ -13,7 +13,7 @@ use Rattle.calculus.specs.Derivations.{Leads, ChildLimits, SplitLimits, WithinLi
 use Rattle.calculus.proofs.Leads.{Arrives, arrives_append, leads→walk, walk→leads}
 use Rattle.calculus.proofs.Walks.{State, Pending, StateInRange, one_instance, step_in_range, taken_in_range, one_child}
 
--- a step put behind some, and the others behind it
+-- a step put after some, and the others after it
 moved : {A : Type 0} (f : List A) (x : A) (r all : List A) → all ≡ f ++ (x ∷ r) → all ≡ (f ++ (x ∷ [])) ++ r
 moved f x r all e = e ∙ sym (append_assoc f (x ∷ []) r)
 

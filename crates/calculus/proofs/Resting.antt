@@ -67,7 +67,7 @@ abbrev pub rested_walk : Rested → Walk Branch (List Fact) → Walk Rested Rest
 rested_walk r (working b ps) = working r (rested_pending r ps)
 rested_walk r closed = closed
 
--- the branch with sets behind a step that rests on s
+-- the branch with sets after a step that rests on s
 abbrev pub rested_next : Rested → Set → List (List Fact) → Pending → Rested
 rested_next r s (c ∷ cs) ps = r ++ resting s c
 rested_next r s [] (p ∷ ps) = take (length p.mark) r ++ resting (set_at r (length p.mark)) p.child
@@ -109,7 +109,7 @@ pending_same r q b (p ∷ ps) e (l, t, k, ks, g) =
     same_split : Waiting Branch (List Fact) → Rested → Set → Waiting Rested Rested
     same_split p x s = record { mark = x; child = resting s p.child; rest = map (resting s) p.rest }
 
--- what waits behind a child that was begun
+-- what waits after a child that was begun
 wait_rested : (q : Rested) (s : Set) (c : List Fact) (b : Branch) (cs : List (List Fact)) (ps : Pending) (xs : List (Waiting Rested Rested))
     → length b ≡ length q
     → Adds c
@@ -147,7 +147,7 @@ enter_rested r s b (c ∷ cs) ps e (h, hs) g =
     (pending_same r (r ++ resting s c) b ps
     (ap (λ (n : ℕ). take n r) long ∙ take-length r ∙ sym (take-append_seam r (resting s c)) ∙ ap (λ (n : ℕ). take n (r ++ resting s c)) (sym long)) g))
 
--- the facts of the branch behind it
+-- the facts of the branch after it
 abbrev pub standing : Walk Branch (List Fact) → Branch
 standing (working b ps) = b
 standing closed = []

@@ -1,4 +1,4 @@
--- Small cases of normal forms and of questions that are the same, computed, since TH-L6 also holds of a comparison that finds fewer questions the same.
+-- Small cases of normal forms and of questions that are the same, computed, since ThL6 also holds of a comparison that finds fewer questions the same.
 use mathlib.Core.Path.{◌≡◌, refl}
 use mathlib.Core.Bool.{true, false}
 use Prim.Native.Nat.{ℕ}

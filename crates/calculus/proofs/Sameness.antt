@@ -24,7 +24,7 @@ use Rattle.calculus.proofs.NormalForms.{normal_constraint_met}
 
 -- ---- constraints that are alike say the same
 
--- what a constraint says, by its tag, its operands and its form alone: of a tag from 3 on, by its first two operands and by those behind the first
+-- what a constraint says, by its tag, its operands and its form alone: of a tag from 3 on, by its first two operands and by those after the first
 abbrev SaysOf : Assignment → ℕ → ℕ → ℕ → List ℕ → Type 0
 SaysOf a zero x y s = str a x ≡ str a y
 SaysOf a (suc zero) x y s = str a x ≢ str a y

@@ -188,7 +188,7 @@ children_add u b st cs e = each cs (subst (All OneToThree) (sym (children_shape 
     each [] h = tt
     each (c ∷ cs) (h, hs) = (h, each cs hs)
 
--- the children behind the first add alike
+-- the children after the first add alike
 abbrev pub Alike : List ℕ → Type 0
 Alike [] = Unit {0}
 Alike (c ∷ []) = Unit {0}

@@ -125,7 +125,7 @@ children_of u r st = Option.get_or (children u (facts r) st) []
 abbrev pub enter_resting : Question → Rested → Step → List (List Fact) → List (Waiting Rested Rested) → Walk Rested Rested
 enter_resting u r st cs ss = enter ◌++◌ r (map (resting (rests_on u r st)) cs) ss
 
--- what the steps from a state on give; behind the last closed branch none is taken
+-- what the steps from a state on give; after the last closed branch none is taken
 unfoldable pub core_from : Question → Walk Rested Rested → List Step → Set
 core_from u w [] = []
 core_from u closed (st ∷ sts) = []

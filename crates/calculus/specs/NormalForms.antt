@@ -49,7 +49,7 @@ unfoldable pub first_nonzero : ℤ → List ℤ → ℤ
 first_nonzero c [] = c
 first_nonzero c (k ∷ ks) = elim (is_zero k) [ true ↦ first_nonzero c ks | false ↦ k ]
 
--- coefficients stand behind the constant, that of the lowest column first
+-- coefficients stand after the constant, that of the lowest column first
 abbrev pub leading : List ℤ → ℤ
 leading [] = pos 0
 leading (c ∷ ks) = first_nonzero c ks

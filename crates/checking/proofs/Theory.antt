@@ -1,4 +1,4 @@
--- Demand 3 of the code: it follows from the contract of `check_ticket` as it stands, by TH-1-length, TH-4, TH-5 and TH-L5.
+-- Demand 3 of the code: it follows from the contract of `check_ticket` as it stands, by Th1Length, Th4, Th5 and ThL5.
 use Prim.Native.Nat.{ℕ, suc, ◌+◌, ◌-◌, ◌<◌, ◌≤◌}
 use native.Mathlib.Omega.{arith}
 use native.Mathlib.Decide.{dec_lt}

@@ -6,7 +6,7 @@ use Rattle.format.specs.Demands.{Th1}
 use Rattle.deciding.specs.declared.Outcome.{Outcome}
 use Rattle.deciding.specs.Outcomes.{told}
 
--- TH-1: the outcome that is told is the definition's, with its set, and the buffers are left as demanded
+-- Th1: the outcome that is told is the definition's, with its set, and the buffers are left as demanded
 pub record Promised (ticket : List ℕ) (work work' : List ℤ) (answer answer' : List ℕ) (r : Outcome) : Type 0 where
   pub outcome : format.Outcome
   pub set : Set

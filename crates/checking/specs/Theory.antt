@@ -1,5 +1,5 @@
 -- Demand 3 of the code, as far as it speaks of what is handed out: what `check_ticket` returns and the bytes that it leaves in the answer buffer are true of the
--- ticket. That it accepts the leaves that it should is TH-6, by the equation of its contract (TH-1).
+-- ticket. That it accepts the leaves that it should is Th6, by the equation of its contract (Th1).
 use Rattle.std.specs.Prelude.{ℕ, ◌-◌, ◌≡◌, cond, List, [], ◌++◌, length, drop, ltb, ℤ}
 use Rattle.std.proofs.Math.Option.{some}
 use Rattle.std.proofs.Math.ListN.{get_elem?}

@@ -173,7 +173,7 @@ module _ (b : List ℕ) (s : Progress) where
       grown_behind : GrownIn behind
       grown_behind = enter_grown (br w c) cs (pending w c) adding g.grown
 
-      -- where the code stands behind it
+      -- where the code stands after it
       module _ (x : List ℤ) (d : code.Branch) (state : state_of b u x d ≡ behind) where
         stands_on : working (br x d) (pending x d) ≡ behind
         unfolding state_of

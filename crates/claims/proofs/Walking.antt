@@ -191,7 +191,7 @@ module _ (b : List ℕ) (s : Progress) where
 
   -- ---- a step
 
-  -- the step in a record of m bytes at a position, with the work area v behind it
+  -- the step in a record of m bytes at a position, with the work area v after it
   pub record Stepped (claim : Claim) (w : List ℤ) (c : code.Branch) (i m : ℕ) (v : List ℤ) (a : Action) : Type 0 where
     pub sized : m ≡ size b i
     pub whole : next b i ≤ length b

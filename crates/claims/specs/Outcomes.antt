@@ -1,4 +1,4 @@
--- What the code says of the records behind the claim, in the definitions of the format.
+-- What the code says of the records after the claim, in the definitions of the format.
 use Rattle.std.specs.Prelude.{ℕ, ◌≤◌, ◌≡◌, List, [], map, length, ℤ}
 use Rattle.calculus.specs.Facts.{Fact, Branch}
 use Rattle.calculus.specs.Walk.{closed}
@@ -28,7 +28,7 @@ first_upto Strings constraints = 0
 abbrev pub Loaded : List ℕ → Progress → List ℤ → Type 0
 Loaded b s work = Posed b s × Fine work s.constraints × (branch_of work s.constraints ≡ (asked b s).constraints)
 
--- what reading comes to in a state behind the claim, from record r at a position on
+-- what reading comes to in a state after the claim, from record r at a position on
 abbrev pub outcome_from : List ℕ → Progress → State Branch (List Fact) → ℕ → ℕ → Outcome
 outcome_from b s st r at = outcome_of (steps_on (checker (asked b s)) b (asked b s) st r at)
 

@@ -57,7 +57,7 @@ unfoldable pub SetOf : Claim → Rule → List ℕ → Progress → ℕ → ℕ 
 SetOf NoSolution rule b s at m w count v unions x = RestsOn rule b s (at + 6) m w count v unions x
 SetOf Strings rule b s at m w count v unions x = Unit {0}
 
--- one to three facts came behind the first from, with which there are to: a child's
+-- one to three facts came after the first from, with which there are to: a child's
 abbrev pub Added : ℕ → ℕ → Type 0
 Added from to = (from < to) × (to ≤ from + 3)
 

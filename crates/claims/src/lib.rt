@@ -159,7 +159,7 @@ fn set_of(
     }
 }
 
-// The facts behind the first `from`, which came with a child, rest on a set. Under claim 2 no set is kept.
+// The facts after the first `from`, which came with a child, rest on a set. Under claim 2 no set is kept.
 fn keep_set(claim: Claim, sets: &mut [u64], from: usize, to: usize, set: Words)
     requires { (claim ≡ NoSolution → Added from to) × (to ≤ fact_limit) × Roomy sets.old }
     ensures { claim ≡ NoSolution → Filled sets.old from to set sets.new }
@@ -198,7 +198,7 @@ fn next_record(ticket: &[u8], s: Progress, claim: Claim, at: usize) -> Next
     Next::Step(rule, size)
 }
 
-// Refused: the number and the record. Closed: every branch is closed; the position and the number of the record behind, and the two words of the core. Model: the
+// Refused: the number and the record. Closed: every branch is closed; the position and the number of the record after, and the two words of the core. Model: the
 // position and the number of the model's record, and how many facts stand on the branch.
 #[derive(Drop)]
 pub enum Walked {
@@ -218,7 +218,7 @@ fn ended(next: Next, at: usize, k: usize, count: usize) -> Walked
     }
 }
 
-// The records from the one behind the claim, record r at a position, on the question's constraints: until every branch is closed, or up to the model. The sets of
+// The records from the one after the claim, record r at a position, on the question's constraints: until every branch is closed, or up to the model. The sets of
 // the facts stand in a lent slice.
 pub fn walk(
     ticket: &[u8],

@@ -126,7 +126,7 @@ pub fn nothing_known() -> Known
     }
 }
 
-// What is known of the first `count` facts, from what is known of some of them: the facts behind those are added.
+// What is known of the first `count` facts, from what is known of some of them: the facts after those are added.
 pub fn bring_up(known: Known, work: &[i64], count: usize) -> Known
     requires knows { Knows work.now count known }
     requires count_le_fact_limit { (count ≤ fact_limit) × (row_length * count ≤ length work.now) }

@@ -28,7 +28,7 @@ use Rattle.steps.specs.Offered.{offered}
 use Rattle.steps.proofs.Concluding.{one_child}
 use Rattle.conclusions.specs.Made.{Concludes}
 
--- ---- 8 to 10, and the fact behind the others
+-- ---- 8 to 10, and the fact after the others
 
 module _ (w v : List ℤ) (count : ℕ) (o : Option (List (List Fact))) where
   abbrev Tried : ℕ → Type 0

@@ -16,7 +16,7 @@ unfoldable pub closing_of : Bool → Option (List (List Fact))
 closing_of t = guard t []
 
 -- a step has the children o on the branch of the first count rows of the work area w: r is the first of 8 to 10 that applies to its first child, 0 for
--- none, and then the child's one fact stands behind those of the branch in the work area v, within the limits
+-- none, and then the child's one fact stands after those of the branch in the work area v, within the limits
 pub record Concludes (o : Option (List (List Fact))) (w : List ℤ) (count : ℕ) (v : List ℤ) (r : ℕ) : Type 0 where
   pub fault : r ≡ taken_tried (branch_of w count) (child_in o 1)
   pub added : r ≡ 0 → branch_of v (count + 1) ≡ branch_of w count ++ or_none (child_in o 1)

@@ -89,10 +89,10 @@ pub fn closes(
     }
 }
 
-// ---- rules with one conclusion: the first of 8 to 10 that applies; 0 for none, and then the fact that the step adds stands behind the others. Only Sum can make a number
+// ---- rules with one conclusion: the first of 8 to 10 that applies; 0 for none, and then the fact that the step adds stands after the others. Only Sum can make a number
 // that passes the limit (9).
 
-// Sum: "Adds a ≥ fact", or an equation. It is summed in a row aside: 8 and 9 come before 10, and behind 128 facts there is no stretch to sum in.
+// Sum: "Adds a ≥ fact", or an equation. It is summed in a row aside: 8 and 9 come before 10, and after 128 facts there is no stretch to sum in.
 fn sum(ticket: &[u8], body: usize, size: usize, work: &mut [i64], count: usize) -> usize
     requires formed_sum { FormedSum ticket.now body size }
     requires fine { Fine work.old count }
@@ -207,7 +207,7 @@ fn join(j: usize, k: usize, work: &mut [i64], count: usize) -> usize
     0
 }
 
-// The first of 8 to 10 that applies to a step of a rule with one conclusion; 0 for none, and then its fact stands behind the others.
+// The first of 8 to 10 that applies to a step of a rule with one conclusion; 0 for none, and then its fact stands after the others.
 pub fn conclude(
     ticket: &[u8],
     s: Progress,

@@ -1,4 +1,4 @@
--- The loop that fills a form's row: what holds of the row behind i of n pairs, and what one pair more does to it.
+-- The loop that fills a form's row: what holds of the row after i of n pairs, and what one pair more does to it.
 use Prim.Native.Nat.{ℕ, zero, suc, ◌+◌, ◌*◌, ◌-◌, ◌≤◌, ◌<◌}
 use native.Mathlib.Omega.{arith}
 use mathlib.Core.Path.{◌≡◌, refl, sym, ◌∙◌, ap, ap₂}
@@ -84,7 +84,7 @@ module _ (b : List ℕ) (at n : ℕ) (tag constant sign : ℤ) where
     abbrev coefficient : ℤ
     coefficient = i32 b (at + 6 * i + 2)
 
-    -- the pairs behind it
+    -- the pairs after it
     abbrev rest : List (ℕ × ℤ)
     rest = pairs_at b (at + 6 * (i + 1)) (n - (i + 1))
 

@@ -66,7 +66,7 @@ pub fn fill_below(row: &mut [i64], b: &[u8], at: usize, pairs: usize)
     fill_signed(row, b, TAG_GE, -1 - constant, -1, at + 4, pairs);
 }
 
-// A form related to 0, behind the first k facts.
+// A form related to 0, after the first k facts.
 fn put_form(work: &mut [i64], k: usize, b: &[u8], relation: usize, at: usize, pairs: usize)
     requires k_lt_fact_limit { (k < fact_limit) × (work_numbers ≤ length work.old) }
     requires relation_bound { (relation ≤ 2) × (at + 4 + 6 * pairs ≤ length b.now) }
@@ -78,7 +78,7 @@ fn put_form(work: &mut [i64], k: usize, b: &[u8], relation: usize, at: usize, pa
     fill_form(&mut work[from..to], b, relation, at, pairs);
 }
 
-// The constraint of a record, by its kind and body, behind the first k facts. A kind that is no constraint's does not come here.
+// The constraint of a record, by its kind and body, after the first k facts. A kind that is no constraint's does not come here.
 fn put_constraint(work: &mut [i64], k: usize, b: &[u8], kind: usize, at: usize, size: usize)
     requires k_lt_fact_limit { (k < fact_limit) × (work_numbers ≤ length work.old) }
     requires size_in_bounds { (at + size ≤ length b.now) × (fact_fault b.now variable_limit literal_limit column_limit kind at size ≡ 0) }

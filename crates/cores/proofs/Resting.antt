@@ -69,7 +69,7 @@ gathers_more w one next left s behind whole p e q g =
 pub gathers_done : (w : Words) (left whole : Set) → left ≡ [] → Gathers w left whole → w ≡ words_of whole
 gathers_done w left whole e g = g.words ∙ ap words_of (sym (union_nil g.taken) ∙ ap (union g.taken) (sym e) ∙ g.together)
 
--- ---- Sum's pairs: those left behind i of n
+-- ---- Sum's pairs: those left after i of n
 
 module _ (r : Rested) (b : List ℕ) (at n : ℕ) where
   abbrev pub named_from : ℕ → Set

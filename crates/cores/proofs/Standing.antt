@@ -1,4 +1,4 @@
--- The sets of a branch's facts in the slice: of its first facts, of those that come behind them, and of the question's constraints.
+-- The sets of a branch's facts in the slice: of its first facts, of those that come after them, and of the question's constraints.
 use Prim.Native.Nat.{ℕ, zero, suc, ◌+◌, ◌≤◌, ◌<◌}
 use native.Mathlib.Nat.{add-zero, zero-add}
 use native.Mathlib.Omega.{arith}
@@ -45,7 +45,7 @@ unions_grown m n u x a b up r h e = up (take n r) (stands_first n b h) (e ∙ ap
 
 -- ---- facts that come
 
--- the sets of facts that stay, and of those that come behind them
+-- the sets of facts that stay, and of those that come after them
 pub carried_next : (v v' : List ℕ) (count from to : ℕ) (x : Words) (r : Rested) (s : Set) (c : List Fact)
     → Carries v count r
     → Filled v from to x v'

@@ -218,7 +218,7 @@ fn lengths_set(s: Progress, x: usize, y: usize, work: &[i64], count: usize, sets
     }
 }
 
-// Card: the union of these sets "for each neighbouring pair", of the variable at a position and the others behind it.
+// Card: the union of these sets "for each neighbouring pair", of the variable at a position and the others after it.
 fn neighbour_sets(
     b: &[u8],
     s: Progress,

@@ -35,7 +35,7 @@ module _ (b : List ℕ) (s : Progress) (at r : ℕ) (to : ReadToClaim b s at r) 
   unfolding asked extended_asked
   claimed = claimed→form (record { last = s.last; extended = extended_asked b s; position = at; number = r; ended = to.1; claim_formed = good })
 
-  -- the steps of "the union over all closing steps" are those behind the claim, a record of 8 bytes
+  -- the steps of "the union over all closing steps" are those after the claim, a record of 8 bytes
   pub core_behind : core b ≡ core_in (asked b s) (steps_from b (at + 8))
   unfolding claimed
   core_behind =

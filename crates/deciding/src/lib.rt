@@ -36,9 +36,9 @@ pub enum Outcome {
     Strings,
 }
 
-// ---- behind the steps
+// ---- after the steps
 
-// Behind the last closed branch: the end, with the two numbers of the set. No answer buffer is written.
+// After the last closed branch: the end, with the two numbers of the set. No answer buffer is written.
 fn at_end(ticket: &[u8], at: usize, r: usize, low: u64, high: u64) -> Outcome
     ensures { (s : Progress) (answer : List ℕ) (set : Set) → low ≡ format-cores.low set → high ≡ format-cores.high set
         → Decided (outcome_from ticket.now s (proving closed) r at) set answer answer result }
@@ -50,7 +50,7 @@ fn at_end(ticket: &[u8], at: usize, r: usize, low: u64, high: u64) -> Outcome
     Outcome::NoSolution(low, high)
 }
 
-// The model's record, the end behind it, and the answer, which is written when both are good.
+// The model's record, the end after it, and the answer, which is written when both are good.
 fn at_model(
     ticket: &[u8],
     s: Progress,
@@ -93,7 +93,7 @@ fn at_model(
 
 // ---- the whole ticket
 
-// The steps, and what stands behind them. The sets of the facts are kept in a slice of their own.
+// The steps, and what stands after them. The sets of the facts are kept in a slice of their own.
 fn behind_claim(
     ticket: &[u8],
     s: Progress,
@@ -115,7 +115,7 @@ fn behind_claim(
     }
 }
 
-// The claim and what stands behind it, where reading of the question ended. Record r stands there.
+// The claim and what stands after it, where reading of the question ended. Record r stands there.
 fn behind_question(
     ticket: &[u8],
     s: Progress,

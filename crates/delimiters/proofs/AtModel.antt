@@ -1,4 +1,4 @@
--- The model's record, with a body of m bytes, and the end behind it, by the numbers that were found there, whatever the method.
+-- The model's record, with a body of m bytes, and the end after it, by the numbers that were found there, whatever the method.
 use Prim.Native.Nat.{ℕ, suc, ◌+◌, ◌≤◌}
 use native.Mathlib.Numerals.{add-one}
 use mathlib.Core.Path.{◌≡◌, sym, ◌∙◌, ap}

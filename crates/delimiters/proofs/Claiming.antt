@@ -1,4 +1,4 @@
--- Where a question was read, in whatever manner, and the claim behind it is good, the steps may be read, by whatever method.
+-- Where a question was read, in whatever manner, and the claim after it is good, the steps may be read, by whatever method.
 use Prim.Native.Nat.{ℕ, zero, suc, ◌+◌, ◌≤◌}
 use native.Mathlib.Omega.{arith}
 use native.Mathlib.Numerals.{add-one}
@@ -83,7 +83,7 @@ claim_good b s at e =
 pub claim_ends : (b : List ℕ) (s : format.Progress) (at : ℕ) → claim_fault b s at ≡ 0 → next b at ≡ at + 8
 claim_ends b s at e = omega (arith, (claim_good b s at e).two)
 
--- ---- behind the claim
+-- ---- after the claim
 
 module _ {B C : Type 0} (method : Question → Method B C) (b : List ℕ) (s : Progress) where
   abbrev opened : Claim → State B C

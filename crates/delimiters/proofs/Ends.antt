@@ -81,7 +81,7 @@ module _ {B C : Type 0} (w : Method B C) (b : List ℕ) (u : Question) (r at : �
   pub closed_done : end_fault b at ≡ 0 → steps_on w b u (proving closed) r at ≡ Done u (proving closed) r
   closed_done e = end_done w b u (proving closed) r at (at_end (proving closed) refl) e
 
-  -- claim 2: behind the model
+  -- claim 2: after the model
   module _ (br : B) (m : List ℤ) where
     pub modelled_refused : (c : ℕ) → end_fault b at ≡ suc c → steps_on w b u (modelled br m) r at ≡ Faulty (suc c) r
     modelled_refused c e = end_refused w b u (modelled br m) r at (at_end (modelled br m) refl) c e

@@ -14,7 +14,7 @@ use Rattle.format.specs.Reading.{State, Method, body_fault, last_fault, fault, F
 use Rattle.format.proofs.StepTurns.{steps_done, turn_faulty}
 use Rattle.delimiters.specs.Numbers.{end_form, open_fault}
 
--- a number at a record stands whatever is asked of a step behind it
+-- a number at a record stands whatever is asked of a step after it
 pub open_form : (x y : Bool) (f last step later : ℕ)
     → f ≡ cond x last (need 4 y step)
     → (f ≡ step → f ≡ later)

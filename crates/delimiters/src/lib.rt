@@ -1,4 +1,4 @@
-// The records that delimit a derivation: the claim before it, the model and the end behind it. Nothing here asks for the rules.
+// The records that delimit a derivation: the claim before it, the model and the end after it. Nothing here asks for the rules.
 #![tactic(auto)]
 
 ghost use Rattle.std.specs.Prelude.{◌≡◌, ◌+◌, ◌≤◌, length};
@@ -102,7 +102,7 @@ fn last_fault(length: usize, to: usize, size: usize, later: usize) -> usize
     later
 }
 
-// The number at the record that must be the end, behind the last closed branch or a model; 0 for none.
+// The number at the record that must be the end, after the last closed branch or a model; 0 for none.
 pub fn end_fault(ticket: &[u8], at: usize) -> usize
     ensures { result ≡ end_fault ticket.now at }
 {

@@ -32,7 +32,7 @@ module _ {b : List ℕ} {s : Progress} {w : List ℤ} {c : code.Branch} (h : InO
   rows : branch_of v r.count ≡ br ++ child_on b (asked b s) br at 1
   rows = ap (branch_of v) er ∙ g.rows
 
-  -- the state behind it, by its pending splits
+  -- the state after it, by its pending splits
   with_splits : (ss : List Split)
       → stack r ≡ ss
       → walk_of b (asked b s) (br ++ child_on b (asked b s) br at 1) ss ≡ stepped_on b (asked b s) br (waitings b (asked b s) br (stack c)) at

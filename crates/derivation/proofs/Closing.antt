@@ -61,7 +61,7 @@ module _ {b : List ℕ} {s : Progress} {w : List ℤ} {c : code.Branch} (h : InO
   pends : Pends b (asked b s) br t
   pends = its_pends b (asked b s) br t others ok_top
 
-  -- its mark is behind the question's constraints
+  -- its mark is after the question's constraints
   pub rooted_mark : length (asked b s).constraints ≤ t.mark
   rooted_mark = pends.rooted
 

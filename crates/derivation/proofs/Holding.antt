@@ -45,7 +45,7 @@ module _ {b : List ℕ} {s : Progress} {w : List ℤ} {c : code.Branch} (h : InO
   pub waiting : length (waitings b (asked b s) (branch_of w c.count) (stack c)) ≡ c.depth
   waiting = length_waitings b (asked b s) (branch_of w c.count) (stack c) ∙ length_stack c
 
--- what is asked for where child k of the step in a body of m bytes is put behind count facts
+-- what is asked for where child k of the step in a body of m bytes is put after count facts
 abbrev pub Puts : Rule → List ℕ → Progress → ℕ → ℕ → List ℤ → ℕ → ℕ → Type 0
 Puts r b s body m w count k = ReadyBy r Several b s body m w count × (child_fault b s body m w count k ≡ 0)
 

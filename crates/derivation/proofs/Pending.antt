@@ -29,7 +29,7 @@ rooted_grown u br c h = record {
   first = take-append-le (length u.constraints) br c h.long ∙ h.first;
 }
 
--- and do so on a branch that is cut behind them
+-- and do so on a branch that is cut after them
 pub rooted_cut : (u : Question) (br : Branch) (n : ℕ) → length u.constraints ≤ n → n ≤ length br → Rooted u br → Rooted u (take n br)
 rooted_cut u br n l g h = record {
   long = omega (arith, l, length-take-le n br g);

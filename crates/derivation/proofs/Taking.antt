@@ -80,7 +80,7 @@ module _ (b : List ℕ) (u : Question) (br : Branch) (at m : ℕ) (em : m ≡ si
       → f ≡ all_tried br pending given
   one_tried l c f e pending = e ∙ sym (tried_once br pending given (one_conclusion u br b (at + 6) m l c))
 
-  -- its first child stands behind the branch
+  -- its first child stands after the branch
   pub first_begins : (n : ℕ)
       → Splits b u br at n
       → (w : List ℤ) (k : ℕ)
@@ -163,7 +163,7 @@ module _ (b : List ℕ) (s : Progress) (at m : ℕ) (em : m ≡ size b at) (w : 
   pub by_size : (claim : Claim) (pending f : ℕ) → f ≡ tried_under claim b s (at + 6) m w count pending → f ≡ tried_at claim b s at w count pending
   by_size claim pending f e = e ∙ ap (λ (i : ℕ). tried_under claim b s (at + 6) i w count pending) em
 
-  -- the child taken stands behind the branch
+  -- the child taken stands after the branch
   follows : (v : List ℤ) (k : ℕ) → branch_of v k ≡ with_child b s (at + 6) m w count (child_field b (at + 6)) → Fine v k
       → Follows b (asked b s) (branch_of w count) at v k
   follows v k e f = record { rows = e ∙ ap (λ (i : ℕ). with_child b s (at + 6) i w count (child_field b (at + 6))) em; fine = f }

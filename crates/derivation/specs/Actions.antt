@@ -29,7 +29,7 @@ number_of action.TheVariants.Closes = 0
 number_of (action.TheVariants.Extends k) = 0
 number_of (action.TheVariants.Splits k n) = 0
 
--- the step in the record at a position fits with n children, and the facts of the first stand behind those of the branch, as the first k rows of the work area
+-- the step in the record at a position fits with n children, and the facts of the first stand after those of the branch, as the first k rows of the work area
 -- w
 pub record Begins (b : List ℕ) (u : Question) (br : Branch) (at n : ℕ) (w : List ℤ) (k : ℕ) : Type 0 where
   pub splits : Splits b u br at n
@@ -43,13 +43,13 @@ pub record Branches (b : List ℕ) (at n pending : ℕ) : Type 0 where
   pub few : n < 256
   pub room : pending < pending_limit
 
--- the facts of the child taken stand behind those of the branch, as the first k rows of the work area w
+-- the facts of the child taken stand after those of the branch, as the first k rows of the work area w
 pub record Follows (b : List ℕ) (u : Question) (br : Branch) (at : ℕ) (w : List ℤ) (k : ℕ) : Type 0 where
   pub rows : branch_of w k ≡ br ++ child_on b u br at (child_field b (at + 6))
   pub fine : Fine w k
 
 -- the step in the record at a position, under a claim, on the branch of the first count rows of the work area v with so many splits pending; w is the work
--- area behind it. Under claim 2 no branch closes, and no split is pending
+-- area after it. Under claim 2 no branch closes, and no split is pending
 unfoldable pub Acts : Claim → List ℕ → Question → ℕ → ℕ → List ℤ → ℕ → List ℤ → Action → Type 0
 Acts claim b u at pending v count w (action.TheVariants.Refused n) = n ≡ 0 → ⊥
 Acts NoSolution b u at pending v count w action.TheVariants.Closes = (offered_in b u (branch_of v count) at ≡ some []) × (branch_of w count ≡ branch_of v count)

@@ -31,7 +31,7 @@ pub record Rooted (u : Question) (br : Branch) : Type 0 where
   pub long : length u.constraints ≤ length br
   pub first : take (length u.constraints) br ≡ u.constraints
 
--- a split, by a rule with several conclusions, is pending on a branch that has grown from its mark, behind the question's constraints
+-- a split, by a rule with several conclusions, is pending on a branch that has grown from its mark, after the question's constraints
 pub record Pends (b : List ℕ) (u : Question) (br : Branch) (s : Split) : Type 0 where
   pub rooted : length u.constraints ≤ s.mark
   pub behind : s.mark ≤ length br

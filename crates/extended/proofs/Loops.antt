@@ -76,7 +76,7 @@ module _ (b : List ℕ) (at : ℕ) where
   unfolding u32s
   digits_yes k h l m = along_on is_digit (λ i. i + 4) (u32 b) at k h (ap₂ ◌&&◌ (le-leb zero_digit (u32 b at) l) (le-leb (u32 b at) 57 m))
 
-  -- the first of digits, and those behind it
+  -- the first of digits, and those after it
   pub digits→ : (k : ℕ) → 0 < k → all is_digit (u32s b at k) ≡ true → (zero_digit ≤ u32 b at) × (u32 b at ≤ 57) × (all is_digit (u32s b (at + 4) (k - 1)) ≡ true)
   unfolding u32s
   digits→ zero h e = absurd (omega arith)

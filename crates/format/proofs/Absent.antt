@@ -1,4 +1,4 @@
--- TH-L3-absent: in a ticket that is accepted, or whose need is reported, no record is of kind 11.
+-- ThL3Absent: in a ticket that is accepted, or whose need is reported, no record is of kind 11.
 use Prim.Native.Nat.{ℕ, ◌+◌, ◌<◌, ◌≤◌}
 use native.Mathlib.Omega.{arith}
 use native.Mathlib.Decide.{dec_le}
@@ -48,7 +48,7 @@ from_first b i at ats e = go (dec_le (i + 6) (length b))
         (first, rest ∙ ap (λ j. records b (next b j)) (sym first))
     go (no h) = let none : (at ∷ ats) ≡ [] = e ∙ records_none b i (omega arith) in clash cc
 
--- up to the claim, and behind it
+-- up to the claim, and after it
 reads_none : (m : Manner) → m.greatest < extended_rank → {b : List ℕ} {s t : Progress} {r to q : ℕ} {ats : List ℕ} → Reads m b s r ats t to q
     → (i : ℕ) → ats ≡ records b i → NoneOf b (records b (next b to)) → NoneOf b ats
 reads_none m l {b} (ended {at = at} {ats = ats} k) i e h =

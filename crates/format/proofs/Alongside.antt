@@ -18,7 +18,7 @@ module _ {B C D E : Type 0} (w : Method B C) (x : Method D E) (R : B → D → T
     both_taking : {b : B} {d : D} → R b d → Beside (taking b) (taking d)
     both_modelled : {b : B} {d : D} {m : List ℤ} → R b d → Beside (modelled b m) (modelled d m)
 
-  -- what is asked of the second method: no fault on related branches, and related branches behind a step
+  -- what is asked of the second method: no fault on related branches, and related branches after a step
   pub record Follows : Type 0 where
     pub split : (b : B) (d : D) (ss : List (Waiting B C)) (ts : List (Waiting D E)) (st : Step)
         → R b d

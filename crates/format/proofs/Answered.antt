@@ -1,4 +1,4 @@
--- TH-5: where checking gives strings, they meet every constraint, differ wherever the leaf's classes differ, and are as the model has them.
+-- Th5: where checking gives strings, they meet every constraint, differ wherever the leaf's classes differ, and are as the model has them.
 use Prim.Native.Nat.{ℕ}
 use native.Mathlib.Omega.{arith}
 use mathlib.Core.Path.{refl, sym, subst}

@@ -1,4 +1,4 @@
--- What judging takes for an answer, from bytes below 256, is written as these bytes: TH-3's answers, 15 for what no strings and integers are written as, and 16
+-- What judging takes for an answer, from bytes below 256, is written as these bytes: Th3's answers, 15 for what no strings and integers are written as, and 16
 -- for those out of range.
 use Prim.Native.Nat.{ℕ, zero, suc, ◌+◌, ◌*◌, ◌/◌, ◌%◌, ◌≤◌}
 use native.Mathlib.Omega.{arith}

@@ -1,4 +1,4 @@
--- TH-refusals: 8 to 14 are given at the first record where, in words, they apply.
+-- ThRefusals: 8 to 14 are given at the first record where, in words, they apply.
 use Prim.Native.Nat.{ℕ, zero, suc, ◌+◌, ◌≤◌}
 use native.Mathlib.Omega.{arith}
 use native.Mathlib.Decide.{dec_le}
@@ -345,7 +345,7 @@ module _ (t : List ℕ) (bytes : Bytes t) (c q : ℕ) (l : 8 ≤ c) where
           number = omega (arith, written.number, ap length none);
         }
 
-    -- behind the claim, whichever it is
+    -- after the claim, whichever it is
     claim_applies : outcome_of (steps_on (checker u) t u (begin (checker u) (claim_at t at)) (suc r) (next t at)) ≡ Refused c q → FirstRefusal t c q
     unfolding Standing Arrives LimitsFrom Path PathLimitsFrom
     claim_applies o = go (eqb (claim_at t at) 1) refl o

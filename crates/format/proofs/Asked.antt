@@ -18,7 +18,7 @@ use Rattle.format.specs.Question.{Stopped, Ended, ending, read_from, read_by, re
 use Rattle.format.proofs.RecordFaults.{uncrowded, →uncrowded, not_extended}
 use Rattle.format.proofs.Entries.{ReadInRange, Entry, head, literal, constraint, extended, entry}
 
--- nothing was read yet, or a head and what is in range behind it
+-- nothing was read yet, or a head and what is in range after it
 abbrev pub Ready : Progress → Type 0
 Ready s = (s ≡ unread) ⊎ ((1 ≤ s.last) × ReadInRange s.question)
 
@@ -49,7 +49,7 @@ module _ (b : List ℕ) (s : Progress) (h : Ready s) (at : ℕ) (t : Progress) w
   no_constraint : r ≤ literal_rank → room_for true r count ≡ true
   no_constraint l = ap (λ x. not x || ltb count fact_limit) (le-ltb literal_rank r l)
 
-  -- a record finds room behind fewer than 128
+  -- a record finds room after fewer than 128
   room_behind : count < fact_limit → room_for true r count ≡ true
   room_behind l = room (is_constraint r)
     where
@@ -57,7 +57,7 @@ module _ (b : List ℕ) (s : Progress) (h : Ready s) (at : ℕ) (t : Progress) w
       room true = lt-ltb count fact_limit l
       room false = refl
 
-  -- a constraint that finds room stands behind fewer than 128
+  -- a constraint that finds room stands after fewer than 128
   room_left : literal_rank < r → room_for true r count ≡ true → count < fact_limit
   room_left k e = ltb-true count fact_limit (ap (λ x. not x || ltb count fact_limit) (sym (lt-ltb literal_rank r k)) ∙ e)
 
@@ -199,7 +199,7 @@ pub →whole : (m : Manner) (b : List ℕ) {s : Progress} {at r : ℕ}
 unfolding read_by
 →whole m b l h = ap (by_size m b) l ∙ →reads m b h
 
--- behind the head, the question that is read is in range
+-- after the head, the question that is read is in range
 pub read_in_range : (m : Manner) (b : List ℕ) {s : Progress} {at r : ℕ} → read_in m b ≡ Ended s at r → head_rank ≤ s.last → ReadInRange s.question
 read_in_range m b {s} e h = behind_head s (reads_ready (whole→ m b e).1 (inl refl)) h
 
@@ -233,7 +233,7 @@ form→question b {s} e few =
 pub question_few : (b : List ℕ) {s : Progress} {at r : ℕ} → question b ≡ Ended s at r → length s.question.constraints ≤ fact_limit
 question_few b e = omega (arith, read_few checking_manner refl b e)
 
--- what is read behind a head
+-- what is read after a head
 pub headed_in_law : {A : Type 0} (f : Progress → A) (s : Progress) (at r : ℕ) → leb head_rank s.last ≡ true → headed_in f (Ended s at r) ≡ some (f s)
 headed_in_law f s at r e = rw e
 

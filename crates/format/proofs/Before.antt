@@ -1,4 +1,4 @@
--- TH-L4: a ticket accepted by the rules before L4 is accepted now, with the same answer; and what those rules are.
+-- ThL4: a ticket accepted by the rules before L4 is accepted now, with the same answer; and what those rules are.
 use Prim.Native.Nat.{ℕ, zero, suc, ◌+◌}
 use native.Mathlib.Omega.{arith}
 use mathlib.Core.Path.{◌≡◌, refl, sym, ◌∙◌, ap, ap₂, subst}

@@ -1,5 +1,5 @@
--- A ticket's beginning is read, whatever the method and the manner: where no step on the way has a fault, reading comes to the state behind the steps, at the position
--- and the record behind them.
+-- A ticket's beginning is read, whatever the method and the manner: where no step on the way has a fault, reading comes to the state after the steps, at the position
+-- and the record after them.
 use Prim.Native.Nat.{ℕ, suc, ◌+◌, ◌≤◌}
 use native.Mathlib.Omega.{arith}
 use mathlib.Core.Path.{◌≡◌, refl, sym, ◌∙◌, ap}
@@ -28,7 +28,7 @@ use Rattle.format.proofs.RecordsBehind.{claim_read, end_read, Fine, fine_read}
 use Rattle.format.proofs.WholeTickets.{columns_few, beginning_is, claim_delimits}
 
 module _ {B C : Type 0} (w : Method B C) where
-  -- no step has a fault on the way, and none stands behind the last closed branch or behind the model
+  -- no step has a fault on the way, and none stands after the last closed branch or after the model
   unfoldable pub Faultless : State B C → List (Step × ℕ) → Type 0
   Faultless s [] = Unit {0}
   Faultless (proving (working br ss)) (t ∷ ts) = (w.split_fault br ss t.0 ≡ 0) × Faultless (stepped w (proving (working br ss)) t) ts
@@ -66,7 +66,7 @@ module _ {B C : Type 0} (w : Method B C) where
         steps_done w b u s r at (omega arith) (end_fault w b u s at end) (ap (λ k. eqb k 8) end.is_end)
 
     module _ (few : column_count u ≤ column_limit) (rest : List ℕ) where
-      -- reading goes on behind so many steps
+      -- reading goes on after so many steps
       pub record ComesTo (s : State B C) (r at : ℕ) (ts : List (Step × ℕ)) : Type 0 where
         pub position : ℕ
         pub stands : drop position b ≡ rest

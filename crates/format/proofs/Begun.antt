@@ -61,7 +61,7 @@ zero_more sts st = map-append (λ st. (st, 0)) sts (st ∷ [])
 -- ---- a step that stands at a position
 
 module _ (t : List ℕ) (u : Question) (q : QuestionInRange u) where
-  -- in range, it has its form there, and what is behind it
+  -- in range, it has its form there, and what is after it
   pub split_read : (at : ℕ) (st : Step) (more : List ℕ) → OperandsInRange u st → drop at t ≡ step_record (st, 0) ++ more
       → StepAt t u (λ st c. eqb c 0) at (st, 0) × (drop (next t at) t ≡ more)
   split_read at st more g e = fine_read t u (columns_few u q) (λ st c. eqb c 0) at (st, 0) more (fine_split u st g) e

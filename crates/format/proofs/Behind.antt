@@ -1,4 +1,4 @@
--- Reading behind the claim, whatever the method: it is done exactly when the records have their forms and the method takes every step without fault.
+-- Reading after the claim, whatever the method: it is done exactly when the records have their forms and the method takes every step without fault.
 use Prim.Native.Nat.{ℕ, zero, suc, ◌+◌, ◌*◌, ◌≤◌}
 use native.Mathlib.Omega.{arith}
 use native.Mathlib.Decide.{dec_le}
@@ -100,7 +100,7 @@ formed_children b u ok (at ∷ ats) [] o h = tt
 formed_children b u ok (at ∷ ats) (t ∷ ts) o (h, hs) =
     (subst (λ (s : Step × ℕ). ok s.0 s.1 ≡ true) (sym h.holds) h.child_ok_law, formed_children b u ok ats ts o hs)
 
--- the model is the one behind the steps
+-- the model is the one after the steps
 pub formed_model : (b : List ℕ) (u : Question) (ok : Step → ℕ → Bool) (ats : List ℕ) (ts : List (Step × ℕ)) {m : List ℤ}
     → Formed b u ok ats ts (some m)
     → m ≡ model_at b u (get_or ats (length ts) 0 + 6)
@@ -169,7 +169,7 @@ Taken w (proving closed) (t ∷ ts) o s' = ⊥
 Taken w (taking br) (t ∷ ts) o s' = (w.taken_fault br t.0 t.1 ≡ 0) × Taken w (stepped w (taking br) t) ts o s'
 Taken w (modelled br v) (t ∷ ts) o s' = ⊥
 
--- claim 1 ends with the walk, behind no model
+-- claim 1 ends with the walk, after no model
 pub proving_stays : {B C : Type 0} (w : Method B C) (k : Walk B C) (ts : List (Step × ℕ)) (o : Option (List ℤ)) {s' : State B C}
     → Taken w (proving k) ts o s'
     → ((k' : Walk B C) × (s' ≡ proving k')) × (o ≡ none)
@@ -184,7 +184,7 @@ pub proving_no_model : {B C : Type 0} (w : Method B C) (k : Walk B C) (ts : List
     → ⊥
 proving_no_model w k ts o l m h = let ((k', z), _) = proving_stays w k ts o h in let z : ◌≡◌ {A = ℕ} 0 1 = cc in omega arith
 
--- claim 2 ends with the branch, or behind the model
+-- claim 2 ends with the branch, or after the model
 pub taking_no_walk : {B C : Type 0} (w : Method B C) (br : B) (ts : List (Step × ℕ)) (o : Option (List ℤ)) (k : Walk B C)
     → Taken w (taking br) ts o (proving k)
     → ⊥
@@ -209,7 +209,7 @@ taking_unmodelled w br [] none l h = refl
 taking_unmodelled w br [] (some m) l h = absurd (let z : ◌≡◌ {A = ℕ} 0 1 = cc h.1 in omega arith)
 taking_unmodelled w br (t ∷ ts) o l h = taking_unmodelled w (w.taken br t.0 t.1) ts o l h.1
 
--- the number of the end record behind steps and a model, where there is one, that begin with record r
+-- the number of the end record after steps and a model, where there is one, that begin with record r
 unfoldable pub end_number : ℕ → List (Step × ℕ) → Option (List ℤ) → ℕ
 end_number r [] none = r
 end_number r [] (some m) = suc r
@@ -223,7 +223,7 @@ pub record Read {B C : Type 0} (w : Method B C) (b : List ℕ) (u : Question) (s
   pub taken : Taken w s steps model s'
   pub end_is : q ≡ end_number r steps model
 
--- a number that is none of those that a record's form gives behind the claim
+-- a number that is none of those that a record's form gives after the claim
 pub record NotOfForm (c : ℕ) : Type 0 where
   pub not_3 : 3 ≢ c
   pub not_4 : 4 ≢ c
@@ -285,7 +285,7 @@ module _ {B C : Type 0} (w : Method B C) (b : List ℕ) (u : Question) where
         let a6 = another 6 (all_within value_limit (model_at b u (at + 6))) later n.not_6 a5.1 in
         (record { is_whole = h; is_model = eqb-true _ _ a4.0; fits = a5.0; values = a6.0; holds = refl }, a6.1)
 
-  -- behind the model only the end stands
+  -- after the model only the end stands
   only_end : (br : B) (m : List ℤ) (s' : State B C) (ok : Step → ℕ → Bool) (r : ℕ) (ats : List ℕ) (ts : List (Step × ℕ)) (o : Option (List ℤ))
       → Formed b u ok ats ts o
       → Taken w (modelled br m) ts o s'

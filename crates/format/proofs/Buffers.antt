@@ -1,4 +1,4 @@
--- TH-1's definitions say of the lent buffers what document 01 says, and these keep their lengths.
+-- Th1's definitions say of the lent buffers what document 01 says, and these keep their lengths.
 use Prim.Native.Nat.{ℕ, ◌≤◌}
 use native.Mathlib.Omega.{arith}
 use mathlib.Core.Path.{◌≡◌, refl, ◌∙◌, ap}

@@ -21,7 +21,7 @@ use Rattle.format.proofs.Fields.{signed_low, signed_high}
 
 -- ---- what stands at a position
 
--- behind the first n bytes of it
+-- after the first n bytes of it
 pub behind : (b : List ℕ) (at n : ℕ) (xs rest : List ℕ) → length xs ≡ n → drop at b ≡ xs ++ rest → drop (at + n) b ≡ rest
 behind b at n xs rest l e = sym (drop-drop n at b) ∙ ap (drop n) e ∙ drop_at xs rest n l
 

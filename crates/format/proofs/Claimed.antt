@@ -1,4 +1,4 @@
--- A ticket read to its end, whatever the method: the question, the claim, and what stands behind it.
+-- A ticket read to its end, whatever the method: the question, the claim, and what stands after it.
 use Prim.Native.Nat.{ℕ, zero, suc, ◌≤◌}
 use native.Mathlib.Omega.{arith}
 use mathlib.Core.Path.{◌≡◌, refl, ◌∙◌, ap, subst}
@@ -38,7 +38,7 @@ pub record Claimed (b : List ℕ) (g : Reading) (u : Question) : Type 0 where
 abbrev pub claims_none : {b : List ℕ} {g : Reading} {u : Question} → Claimed b g u → Bool
 claims_none {b} c = eqb (claim_at b c.position) 1
 
--- the records behind it
+-- the records after it
 abbrev pub behind_claim : {b : List ℕ} {g : Reading} {u : Question} → Claimed b g u → List ℕ
 behind_claim {b} c = records b (next b c.position)
 
@@ -46,7 +46,7 @@ behind_claim {b} c = records b (next b c.position)
 abbrev pub number_behind : {b : List ℕ} {g : Reading} {u : Question} → Claimed b g u → ℕ
 number_behind c = suc c.number
 
--- the state behind the claim
+-- the state after the claim
 abbrev pub started : {B C : Type 0} → Method B C → Bool → State B C
 started w x = cond x (proving (working w.root [])) (taking w.root)
 
@@ -65,7 +65,7 @@ claim_headed b last at later e =
     let placed : Bool = leb 1 last && eqb (kind b at) 5 in
     leb-true 1 last (and_both (leb 1 last) (eqb (kind b at) 5) (none_applies 3 placed later (none_applies 2 (whole b at) (need 4 placed later) e).1).0).0
 
--- the claim stands behind a head
+-- the claim stands after a head
 pub claimed_headed : {b : List ℕ} {g : Reading} {u : Question} (c : Claimed b g u) → 1 ≤ c.last
 claimed_headed {b} c =
     claim_headed b c.last c.position

@@ -1,4 +1,4 @@
--- TH-L5: the constraints in the core of an accepted "no solution" alone have no solution; and the two numbers hold its flags.
+-- ThL5: the constraints in the core of an accepted "no solution" alone have no solution; and the two numbers hold its flags.
 use Prim.Native.Nat.{ℕ, zero, suc, ◌+◌, ◌*◌, ◌/◌, ◌%◌, ◌^◌, ◌≤◌}
 use native.Mathlib.Omega.{arith}
 use native.Mathlib.Nat.{zero-div, div-div-eq-div-mul, pow-succ'}

@@ -131,11 +131,11 @@ constraint_in_range b u k at m (on_columns e c i) = subst (FactInRange u) (sym i
 
 -- ---- one record
 
--- how many records behind the head
+-- how many records after the head
 abbrev pub record_count : Progress → ℕ
 record_count s = length s.question.literals + constraint_count s
 
--- a record that t is read behind, where s was read before it
+-- a record that t is read after, where s was read before it
 pub data Entry (b : List ℕ) (s : Progress) (at : ℕ) (t : Progress) : Type 0 where
   head : rank_of (kind b at) ≡ head_rank
       → s.last ≡ 0

@@ -1,4 +1,4 @@
--- TH-L3: a question without kind 11 is read alike by checking and by judging, and one with it is refused by checking and by what a ticket will need.
+-- ThL3: a question without kind 11 is read alike by checking and by judging, and one with it is refused by checking and by what a ticket will need.
 use Prim.Native.Nat.{ℕ, zero, suc, ◌+◌, ◌≤◌}
 use native.Mathlib.Omega.{arith}
 use native.Mathlib.Decide.{ℕ_discrete, dec_le}
@@ -89,7 +89,7 @@ reads_wider {b} (further {s = s} {at = at} k c g) =
     let other = not_extended arithmetic_rank b s at (omega arith) f in
     further k (→uncrowded (taking true extended_rank) b s at (sym (other_kind b s at other) ∙ f) room) (reads_wider g)
 
--- behind a record, the extended constraints before it are none where none stand behind it, and the record is none itself
+-- after a record, the extended constraints before it are none where none stand after it, and the record is none itself
 plain_before : {b : List ℕ} {s t : Progress} {at : ℕ} → Ready s → Entry b s at t → t.extended ≡ [] → (s.extended ≡ []) × (rank_of (kind b at) ≢ extended_rank)
 plain_before {s = s} h (head k l n c x q) e = (ap (λ (s : Progress). s.extended) (before_head s h l), λ z. omega arith)
 plain_before h (literal k l n c x q) e = (sym x ∙ e, λ z. omega arith)
@@ -137,7 +137,7 @@ counted_none = record { nothing_yet = λ _. refl; behind_head = λ h. absurd (om
 pub judged_counted : (b : List ℕ) {s : Progress} {at r : ℕ} → judged_question b ≡ Ended s at r → Counted s r
 judged_counted b e = reads_counted (whole→ judging_manner b e).1 counted_none
 
--- behind kind 11 only kind 11 follows
+-- after kind 11 only kind 11 follows
 reads_behind : {b : List ℕ} {s t : Progress} {r to q : ℕ} {ats : List ℕ} → Reads judging_manner b s r ats t to q → s.last ≡ extended_rank → t.question ≡ s.question
 unfolding question_advanced
 reads_behind (ended k) e = refl
@@ -173,7 +173,7 @@ module _ (limited : Bool) (b : List ℕ) where
       room true e = e
       room false e = refl
 
-  -- the first of kind 11 is refused, behind the other records of the question
+  -- the first of kind 11 is refused, after the other records of the question
   first_refused : {s t : Progress} {r to q : ℕ} {ats : List ℕ} {e : Extended} {es : List Extended}
       → Reads judging_manner b s r ats t to q
       → Counted s r

@@ -80,7 +80,7 @@ terms_rise c low k (z ∷ zs) l (h, hs) n = go (is_zero z) refl (λ low l. terms
         (→and_both (ltb 0 (nat_abs z)) (within number_limit z) (lt-ltb 0 (nat_abs z) (some_number z e)) (le-leb (nat_abs z) number_limit h))))
         (later (k + 1) (omega arith))
 
--- filled in behind the first k columns they are the coefficients again
+-- filled in after the first k columns they are the coefficients again
 terms_fill : (first : List ℤ) (k : ℕ) (zs : List ℤ) → length first ≡ k → fill_coefficients (first ++ zeros (length zs)) (terms_from k zs) ≡ first ++ zs
 unfolding terms_from fill_coefficients
 terms_fill first k [] l = refl
@@ -143,7 +143,7 @@ spread_one c k n first z ts l h e s =
       columns = none_first c k z s.coefficients (λ g. absurd (omega arith)) s.columns;
     }
 
--- the first pair has a coefficient, and stands as well behind a column that it is past
+-- the first pair has a coefficient, and stands as well after a column that it is past
 coefficient : (c low : ℕ) (t : ℕ × ℤ) (ts : List (ℕ × ℤ)) → rising c low (t ∷ ts) ≡ true → coefficient_in_range t.1 ≡ true
 unfolding rising
 coefficient c low t ts e =

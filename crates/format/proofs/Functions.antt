@@ -1,4 +1,4 @@
--- TH-L3-case and TH-L3-decimals: the functions of extended constraints, in the words of the demands.
+-- ThL3Case and ThL3Decimals: the functions of extended constraints, in the words of the demands.
 use mathlib.Core.Path.{refl}
 use native.Mathlib.Omega.{arith}
 use Rattle.calculus.proofs.Extended.{upper_letter, upper_other, upper_append, upper_empty, lower_letter, lower_other, lower_append, lower_empty}

@@ -1,4 +1,4 @@
--- TH-3: judging says all met exactly when the answer's values meet every constraint, and else names the first that they do not meet.
+-- Th3: judging says all met exactly when the answer's values meet every constraint, and else names the first that they do not meet.
 use Prim.Native.Nat.{ℕ, ◌+◌}
 use mathlib.Core.Path.{◌≡◌, refl, sym, ◌∙◌, ap, ap₂, subst}
 use mathlib.Core.Bool.{Bool, true, false, not}

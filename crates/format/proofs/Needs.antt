@@ -1,4 +1,4 @@
--- TH-L2: an accepted ticket meets on its way exactly what its need reports.
+-- ThL2: an accepted ticket meets on its way exactly what its need reports.
 use Prim.Native.Nat.{ℕ, zero, suc, ◌+◌, ◌≤◌}
 use native.Mathlib.Omega.{arith}
 use native.Mathlib.Decide.{ℕ_discrete}

@@ -1,4 +1,4 @@
--- TH-4 and TH-2: what checking accepts under claim 1 is a closed tree, so that no assignment meets all constraints; and in proper form and within the limits a
+-- Th4 and Th2: what checking accepts under claim 1 is a closed tree, so that no assignment meets all constraints; and in proper form and within the limits a
 -- closed tree is accepted.
 use Prim.Native.Nat.{ℕ, ◌≤◌}
 use native.Mathlib.Omega.{arith}

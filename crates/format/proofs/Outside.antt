@@ -24,7 +24,7 @@ use Rattle.format.specs.Answer.{integers_at, assignment_of, outside}
 use Rattle.format.proofs.Faults.{not_both}
 use Rattle.format.proofs.Limits.{→within, within→}
 
--- none, or that of a string, or that of the integers, which is behind the strings
+-- none, or that of a string, or that of the integers, which is after the strings
 abbrev pub FirstOutside : ℕ → List (List ℕ) → List ℤ → Option ℕ → Type 0
 FirstOutside n ss zs none = All (Over n) ss × All (Small value_limit) zs
 FirstOutside n ss zs (some k) = FirstWithout (Over n) ss (some k) ⊎ ((k ≡ length ss) × All (Over n) ss × (All (Small value_limit) zs → ⊥))

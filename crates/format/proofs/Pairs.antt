@@ -1,4 +1,4 @@
--- Pairs read one by one: what is left behind i of n.
+-- Pairs read one by one: what is left after i of n.
 use Prim.Native.Nat.{ℕ, suc, ◌+◌, ◌*◌, ◌-◌, ◌≤◌, ◌<◌}
 use native.Mathlib.Omega.{arith}
 use mathlib.Core.Path.{◌≡◌}

@@ -45,7 +45,7 @@ unfolding skip
 skip_add b zero k at = ap (λ m. skip b m at) (let z : 0 + k ≡ k = omega arith in z)
 skip_add b (suc j) k at = ap (λ m. skip b m at) (let z : suc j + k ≡ suc (j + k) = omega arith in z) ∙ skip_add b j k (next b at)
 
--- a record ends before those behind it
+-- a record ends before those after it
 pub skip_room : (b : List ℕ) (j k at : ℕ) → j < k → next b (skip b j at) ≤ skip b k at
 unfolding skip
 skip_room b j zero at h = absurd (omega arith)
@@ -96,7 +96,7 @@ pub constraints_snoc : (b : List ℕ) (k at : ℕ) → constraints_at b (suc k) 
 unfolding constraints_at skip
 constraints_snoc b k at = values_along_snoc (next b) (constraint_at b) at k
 
--- constraints of kinds 3 and 4, and extended ones behind them, are those of all records
+-- constraints of kinds 3 and 4, and extended ones after them, are those of all records
 pub constraints_join : (b : List ℕ) (j k at : ℕ)
     → ((i : ℕ) → i < j → basic (fact_at b (skip b i at)) ≡ constraint_at b (skip b i at))
     → ((i : ℕ) → i < k → extended (extended_at b (skip b i (skip b j at))) ≡ constraint_at b (skip b i (skip b j at)))

@@ -1,4 +1,4 @@
--- Every accepted ticket is of proper form and within the limits, so that TH-2 and TH-6 speak of it.
+-- Every accepted ticket is of proper form and within the limits, so that Th2 and Th6 speak of it.
 use Prim.Native.Nat.{ℕ}
 use mathlib.Core.Path.{◌≡◌, refl, sym, ◌∙◌, ap, subst}
 use mathlib.Core.Bool.{true, false}

@@ -14,7 +14,7 @@ use Rattle.lists.proofs.Lists.{in_middle}
 use Rattle.calculus.specs.Limits.{alphabet_limit, literal_limit, fact_limit}
 use Rattle.calculus.specs.Facts.{Question, Fact, same, not_same, is_literal, arithmetic}
 use Rattle.calculus.specs.Extended.{Extended, Names}
-use Rattle.format.specs.Records.{size, kind}
+use Rattle.format.specs.Records.{kind}
 use Rattle.format.specs.Question.{head_rank, literal_rank, string_rank, arithmetic_rank, extended_rank, rank_of, Progress}
 use Rattle.format.specs.Question.{is_constraint, Manner, room_for, finds_room, question_fault}
 use Rattle.format.specs.Question.{read_on}
@@ -27,7 +27,7 @@ use Rattle.format.proofs.QuestionRecords.{asking, reached, Formed, literal_forme
 
 -- ---- records one after another
 
--- reading comes from s at record r to t at the record n further, behind the bytes, with a last rank that has a property
+-- reading comes from s at record r to t at the record n further, after the bytes, with a last rank that has a property
 pub record Arrives (m : Manner) (b : List ℕ) (s : Progress) (r at : ℕ) (P : ℕ → Type 0) (t : ℕ → Progress) (n : ℕ) (bytes : List ℕ) : Type 0 where
   pub last : ℕ
   pub holds : P last
@@ -68,7 +68,7 @@ module _ {A : Type 0} (m : Manner) (b : List ℕ) (write : A → List ℕ) (S : 
 
 -- ---- room
 
--- a record that is a constraint finds room behind fewer than 128, where 10 is looked for
+-- a record that is a constraint finds room after fewer than 128, where 10 is looked for
 pub room_by : (limited : Bool) (r count : ℕ) → (limited ≡ true → literal_rank < r → count < fact_limit) → room_for limited r count ≡ true
 room_by false r count h = refl
 room_by true r count h = go (dec_lt literal_rank r)
@@ -116,7 +116,7 @@ range_any n p q ls cs ds (not_same x y) h = h
 range_any n p q ls cs ds (is_literal x l) h = h
 range_any n p q ls cs ds (arithmetic r e) h = record { size = h.size; numbers = h.numbers; columns = h.columns }
 
--- behind the last rank and what is done, the literals left may be read; so may the constraints, more of which may follow; so may the extended constraints
+-- after the last rank and what is done, the literals left may be read; so may the constraints, more of which may follow; so may the extended constraints
 pub record LiteralsLeft (n last : ℕ) (done ls : List (List ℕ)) : Type 0 where
   pub has_head : head_rank ≤ last
   pub at_most : last ≤ literal_rank

@@ -1,4 +1,4 @@
--- A record of a question in range has no fault of its form where it stands, and what is read behind it.
+-- A record of a question in range has no fault of its form where it stands, and what is read after it.
 use Prim.Native.Nat.{ℕ, ◌+◌, ◌<◌, ◌≤◌}
 use native.Mathlib.Omega.{arith}
 use mathlib.Core.Path.{◌≡◌, refl, sym, ◌∙◌, ap, ap₂, subst}
@@ -33,7 +33,7 @@ asking n p q ls cs = record { n = n; p = p; q = q; literals = ls; constraints = 
 abbrev pub reached : ℕ → Question → List Extended → Progress
 reached last u es = record { last = last; question = u; extended = es }
 
--- the record at a position has no fault of its form, and what is read behind it
+-- the record at a position has no fault of its form, and what is read after it
 pub record Formed (greatest : ℕ) (b : List ℕ) (s : Progress) (at : ℕ) (bytes : List ℕ) (t : Progress) : Type 0 where
   pub six_there : at + 6 ≤ length b
   pub not_ending : ending (kind b at) ≡ false
@@ -89,7 +89,7 @@ head_formed greatest b n p q rest hn kn hp hq e =
     (ap (head_fault b 6) (length_head n p q) ∙ head_fine b 6 n p q hn kn hp hq h)
     (ap₂ (λ n (t : ℕ × ℕ). reached head_rank (asking n t.0 t.1 [] []) []) h.n_is (ap₂ (λ (p q : ℕ). (p, q)) h.p_is h.q_is))
 
--- a literal behind a head and other literals
+-- a literal after a head and other literals
 pub literal_formed : (greatest : ℕ) (b : List ℕ) (n p q : ℕ) (ls : List (List ℕ)) (last at : ℕ) (s rest : List ℕ)
     → n ≤ alphabet_limit → literal_rank ≤ greatest → head_rank ≤ last → last ≤ literal_rank
     → LiteralInRange n s → (In s ls → ⊥) → length ls < literal_limit → drop at b ≡ literal_record s ++ rest
@@ -153,7 +153,7 @@ known b (not_same x y) = known_string b
 known b (is_literal x l) = known_string b
 known b (arithmetic r e) = known_arithmetic b
 
--- a constraint behind a head, the literals and other constraints
+-- a constraint after a head, the literals and other constraints
 pub constraint_formed : (greatest : ℕ) (b : List ℕ) (u : Question) (last at : ℕ) (f : Fact) (rest : List ℕ)
     → Counts u → arithmetic_rank ≤ greatest → head_rank ≤ last → last ≤ fact_rank f → ConstraintInRange u f → drop at b ≡ constraint_record f ++ rest
     → Formed greatest b (reached last u []) at (constraint_record f) (reached (fact_rank f) (with_fact u f) [])
@@ -174,7 +174,7 @@ constraint_formed greatest b u last at f rest c g h l range e =
     (ap₂ (λ r (t : Question × List Extended). reached r t.0 t.1) k.rank
     (ap₂ (λ (u : Question) (es : List Extended). (u, es)) (k.after u (at + 6) (length body) ∙ ap (with_fact u) fact.is_fact) (k.extended [] (at + 6)))))
 
--- an extended one behind all others
+-- an extended one after all others
 pub extended_formed : (greatest : ℕ) (b : List ℕ) (u : Question) (es : List Extended) (last at : ℕ) (e : Extended) (rest : List ℕ)
     → Counts u → extended_rank ≤ greatest → head_rank ≤ last → last ≤ extended_rank → Names u e → drop at b ≡ extended_record e ++ rest
     → Formed greatest b (reached last u es) at (extended_record e) (reached extended_rank u (es ++ (e ∷ [])))

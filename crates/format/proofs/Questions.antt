@@ -113,7 +113,7 @@ module _ (m : Manner) (b : List ℕ) (small : Bytes b) where
 
   -- ---- 10
 
-  -- where kind 11 is not taken, what stands behind 128 constraints is one more, in range
+  -- where kind 11 is not taken, what stands after 128 constraints is one more, in range
   pub record Crowded (r : ℕ) : Type 0 where
     pub looked_for : m.limited ≡ true
     pub question : Question
@@ -146,7 +146,7 @@ module _ (m : Manner) (b : List ℕ) (small : Bytes b) where
       go true false ex ey z = (refl, ltb-true literal_rank r ex, ltb-false count fact_limit ey)
 
   module _ (plain : m.greatest < extended_rank) (few : length b ≤ ticket_bytes) where
-    -- a constraint without fault of its form, behind as many as there may be
+    -- a constraint without fault of its form, after as many as there may be
     constraint_crowds : (s : Progress) (r at rank : ℕ) → WrittenTo b s r at → form_fault m.greatest b s at ≡ 0 → Known b (kind b at) rank
         → m.limited ≡ true → constraint_count s ≤ fact_limit → fact_limit ≤ constraint_count s → Crowded r
     constraint_crowds s r at rank w fine k limited most full =

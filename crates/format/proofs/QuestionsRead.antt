@@ -15,7 +15,7 @@ use Rattle.lists.proofs.Lists.{all_map, all_left, all_right}
 use Rattle.calculus.specs.Limits.{ticket_bytes, alphabet_limit, fact_limit}
 use Rattle.calculus.specs.Facts.{Question, Fact}
 use Rattle.calculus.specs.Extended.{Extended, Names}
-use Rattle.format.specs.Records.{size, kind}
+use Rattle.format.specs.Records.{kind}
 use Rattle.format.specs.Question.{head_rank, literal_rank, string_rank, arithmetic_rank, extended_rank, rank_of, Progress, unread}
 use Rattle.format.specs.Question.{is_constraint, Manner, room_for, question_fault}
 use Rattle.format.specs.Question.{with_fact, Ended, Stopped, or_crowded, ending, read_on, read_in, form_manner}
@@ -52,11 +52,11 @@ extended_in m u es g room = record { arithmetic_taken = omega arith; extended_ta
 pub form_in : (u : Question) → ReadIn form_manner u []
 form_in u = plain_in form_manner u (omega arith) (λ e. absurd (true≢false (sym e)))
 
--- the number of the record behind the question
+-- the number of the record after the question
 abbrev pub behind_question : Question → List Extended → ℕ
 behind_question u es = 1 + length u.literals + length u.constraints + length es
 
--- reading stands behind the question, where further constraints may follow in order of kind
+-- reading stands after the question, where further constraints may follow in order of kind
 pub record ReadsTo (m : Manner) (b : List ℕ) (u : Question) (es : List Extended) (P : ℕ → Type 0) : Type 0 where
   pub last : ℕ
   pub has_head : head_rank ≤ last
@@ -93,7 +93,7 @@ module _ (m : Manner) (b : List ℕ) (u : Question) where
   abbrev facts : List ℕ
   facts = constraint_part u
 
-  -- reading comes to the first literal, from there to the first constraint, and from there behind the constraints
+  -- reading comes to the first literal, from there to the first constraint, and from there after the constraints
   abbrev ToLiterals : Type 0
   ToLiterals = Formed m.greatest b unread 0 heads (reached head_rank (asking u.n u.p u.q [] []) [])
 

@@ -61,14 +61,14 @@ sort_of b greatest last literals k place =
         let none = rank_none k e1 e2 e3 e4 e5 in
         absurd (omega (arith, none, (behind_head greatest last literals (rank_of k) place (λ z. omega arith)).at_least))
 
--- what is read behind a record of kind k
+-- what is read after a record of kind k
 advanced_is : (b : List ℕ) (s : Progress) (at k : ℕ) → kind b at ≡ k
     → question_advanced b s at ≡ reached (rank_of k) (question_after b s.question k (at + 6) (size b at)) (extended_after b s.extended k (at + 6))
 unfolding question_advanced
 advanced_is b s at k e =
     ap (λ k. reached (rank_of k) (question_after b s.question k (at + 6) (size b at)) (extended_after b s.extended k (at + 6))) e
 
--- ---- what holds behind a record
+-- ---- what holds after a record
 
 -- up to a position the bytes are those of what was read, which is in range; r is the number of the next record
 pub record WrittenTo (b : List ℕ) (s : Progress) (r at : ℕ) : Type 0 where
@@ -269,7 +269,7 @@ module _ (b : List ℕ) (small : Bytes b) where
       (constraint_behind s.question s.last r at k rank (subst (λ es. WrittenTo b (reached s.last s.question es) r at) no-extended w)
       known-kind l is all f)
 
-  -- a record without fault of its form behind what was read
+  -- a record without fault of its form after what was read
   module _ (greatest : ℕ) (s : Progress) (r at : ℕ) (f : form_fault greatest b s at ≡ 0) where
     abbrev Next : Type 0
     Next = WrittenTo b (question_advanced b s at) (suc r) (next b at)

@@ -72,7 +72,7 @@ module _ (b : List ℕ) (zs : List ℤ) (few : length zs ≤ variable_limit) whe
 
 -- ---- the answer's values
 
--- the strings ss are read from a position on, and the integers zs behind them
+-- the strings ss are read from a position on, and the integers zs after them
 record Back (b : List ℕ) (ss : List (List ℕ)) (zs : List ℤ) (at : ℕ) : Type 0 where
   strings : texts b (length ss) at ≡ ss
   integers : integers_at b (length zs) (skip b (length ss) at) ≡ zs

@@ -115,7 +115,7 @@ extended_kind_law k e = go (eqb k head_kind) (eqb k literal_kind) (eqb k string_
     go false false false false true f e = eqb-true k extended_kind f
     go false false false false false f e = absurd (omega arith)
 
--- a rank in its place: the head is the first, and others stand behind it
+-- a rank in its place: the head is the first, and others stand after it
 pub record Behind (greatest last literals r : ℕ) : Type 0 where
   pub head_read : head_rank ≤ last
   pub at_least : literal_rank ≤ r

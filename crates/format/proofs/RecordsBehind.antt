@@ -1,4 +1,4 @@
--- The claim, the steps, the model and the end as bytes, both ways: the records behind a position have their forms exactly when the bytes there are written from values
+-- The claim, the steps, the model and the end as bytes, both ways: the records after a position have their forms exactly when the bytes there are written from values
 -- in range.
 use Prim.Native.Nat.{ℕ, ◌+◌, ◌*◌, ◌≤◌}
 use native.Mathlib.Omega.{arith}
@@ -150,7 +150,7 @@ module _ (b : List ℕ) (u : Question) (few : column_count u ≤ column_limit) (
 
 -- ---- steps, the model where there is one, and the end
 
--- behind the steps
+-- after the steps
 abbrev pub ending_bytes : Option (List ℤ) → List ℕ
 ending_bytes none = end_record
 ending_bytes (some m) = model_record m ++ end_record

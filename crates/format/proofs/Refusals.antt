@@ -130,7 +130,7 @@ module _ (P : ℕ → Type 0) (formal : (c : ℕ) → 3 ≤ c → c ≤ 7 → P 
         go false e = two (leb-false (length b) ticket_bytes e)
         go true e = from_number unread 0 (records b 0)
 
-  -- ---- behind it
+  -- ---- after it
 
   module _ {B C : Type 0} (w : Method B C) (finds : Finds P w) (u : Question) where
     step_number : (child_ok : Bool) (at m : ℕ) {later : ℕ} → Holds P later → Holds P (step_fault b u child_ok later at m)

@@ -1,4 +1,4 @@
--- TH-L2: which tickets there is a report for, and which give 11, in words.
+-- ThL2: which tickets there is a report for, and which give 11, in words.
 use Prim.Native.Nat.{ℕ, ◌+◌, ◌≤◌}
 use native.Mathlib.Omega.{arith}
 use mathlib.Core.Path.{◌≡◌, refl, sym, ◌∙◌, ap, subst}

@@ -35,7 +35,7 @@ module _ (u : Question) where
 
   -- ---- claim 1
 
-  -- what is taken behind some steps
+  -- what is taken after some steps
   taken_behind : (first others : List Step) (w middle : Walk ℕ ℕ) (s : State ℕ ℕ) → Walking w first middle
       → Taken (by_shape u) (proving w) (with_child_zero (first ++ others)) none s
       → Taken (by_shape u) (proving middle) (with_child_zero others) none s

@@ -1,4 +1,4 @@
--- TH-L1: the part that judging shows lies within its side, and is the record concerned. TH-L3-counted: every constraint is a record of its number.
+-- ThL1: the part that judging shows lies within its side, and is the record concerned. ThL3Counted: every constraint is a record of its number.
 use Prim.Native.Nat.{ℕ, zero, suc, ◌+◌, ◌<◌, ◌≤◌}
 use native.Mathlib.Omega.{arith}
 use mathlib.Core.Path.{◌≡◌, refl, sym, ◌∙◌, ap, ap₂, subst}
@@ -83,7 +83,7 @@ module _ (b v : List ℕ) where
 
 -- ---- constraints
 
--- constraint k of a question that stands is the record behind the head, the literals and the constraints before it
+-- constraint k of a question that stands is the record after the head, the literals and the constraints before it
 module _ (b : List ℕ) (t : Numbers) (to : ℕ) (stands : StandsTo b t to) (head : head_rank ≤ t.last) where
   abbrev asked : Question
   asked = (read_to b t).question

@@ -84,7 +84,7 @@ module _ (b : List ℕ) (s : Numbers) (at : ℕ) (h : StandsTo b s at) where
       by k (on_strings e f q) g = sym (rw (ne_eqb (kind b here) extended_kind (λ z. omega arith)))
       by k (on_columns e f q) g = sym (rw (ne_eqb (kind b here) extended_kind (λ z. omega arith)))
 
-  -- all constraints stand one behind another
+  -- all constraints stand one after another
   pub all_constraints : constraints_of (read_to b s).question (read_to b s).extended ≡ constraints_at b (s.constraints + s.extended) from
   all_constraints =
       constraints_join b s.constraints s.extended from basic_at
@@ -129,7 +129,7 @@ module _ (b : List ℕ) (s : Numbers) (at : ℕ) (w : NextAt b s at) where
   behind : (rank ≡ head_rank → ⊥) → Behind w.greatest s.last (length (texts b s.literals literals_from)) rank
   behind x = behind_head _ _ _ _ no_fault.in_place_law x
 
-  -- where the next record stands: behind the literals, before any constraint; behind the constraints, before any extended one; behind these
+  -- where the next record stands: after the literals, before any constraint; after the constraints, before any extended one; after these
   literal_here : rank ≡ literal_rank → (at ≡ skip b s.literals literals_from) × (s.constraints ≡ 0) × (s.extended ≡ 0)
   unfolding skip
   literal_here k =

@@ -1,4 +1,4 @@
--- One turn of reading behind the claim, by position: the laws that a loop over its records needs.
+-- One turn of reading after the claim, by position: the laws that a loop over its records needs.
 use Prim.Native.Nat.{ℕ, zero, suc, ◌+◌, ◌≤◌, ◌<◌}
 use native.Mathlib.Omega.{arith}
 use mathlib.Core.Path.{◌≡◌, refl, sym, ◌∙◌, ap, ap₂}

@@ -223,7 +223,7 @@ module _ (b : List ℕ) (u : Question) (few : column_count u ≤ column_limit) (
 
 -- ---- the record of a step
 
--- the step with its child field is read at a position, and what stands behind it
+-- the step with its child field is read at a position, and what stands after it
 pub record StepRead (b : List ℕ) (u : Question) (at : ℕ) (t : Step × ℕ) (rest : List ℕ) : Type 0 where
   pub is_whole : whole b at ≡ true
   pub is_step : kind b at ≡ 6

@@ -1,4 +1,4 @@
--- TH-6: in proper form, within the limits and every step proper, strings are given exactly when demand 3 accepts the leaf.
+-- Th6: in proper form, within the limits and every step proper, strings are given exactly when demand 3 accepts the leaf.
 use Prim.Native.Nat.{ℕ, ◌+◌, ◌≤◌}
 use native.Mathlib.Omega.{arith}
 use mathlib.Core.Path.{◌≡◌, sym, ◌∙◌, ap, ap₂, subst}

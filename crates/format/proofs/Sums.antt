@@ -37,7 +37,7 @@ dot_set (x ∷ row) (z ∷ vs) (suc j) k h e =
 
 -- ---- pairs with rising columns
 
--- what the range of the first pair says, and of those behind it
+-- what the range of the first pair says, and of those after it
 pub record Ranged (c low : ℕ) (t : ℕ × ℤ) (ts : List (ℕ × ℤ)) : Type 0 where
   pub low_enough : low ≤ t.0
   pub column : t.0 < c

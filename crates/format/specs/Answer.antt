@@ -37,7 +37,7 @@ record_is b at k m = whole b at && (eqb (kind b at) k && eqb (size b at) m)
 abbrev pub string_form : List ℕ → ℕ → Bool
 string_form b at = whole b at && (eqb (kind b at) 9 && (eqb (size b at % 4) 0 && leb (size b at) (4 * length_limit)))
 
--- p records of strings from a position on, then one of q integers, then the end record, and nothing behind
+-- p records of strings from a position on, then one of q integers, then the end record, and nothing after
 unfoldable pub answer_form : List ℕ → ℕ → ℕ → ℕ → Bool
 answer_form b zero q at = record_is b at 10 (4 * q) && (record_is b (next b at) 8 0 && eqb (next b (next b at)) (length b))
 answer_form b (suc p) q at = string_form b at && answer_form b p q (next b at)

@@ -175,7 +175,7 @@ equation_cases =
 abbrev pub extended_question : List (List ℕ) → List (List ℕ)
 extended_question cs = (head_record 128 5 2 ∷ cs) ++ (end_record ∷ [])
 
--- behind a constraint that is met: s is t in upper case, w is s in lower case, a is x read in decimal, y is c in decimal, x is equal to or before y; over the
+-- after a constraint that is met: s is t in upper case, w is s in lower case, a is x read in decimal, y is c in decimal, x is equal to or before y; over the
 -- strings s, t, w, x, y and the integers a, c
 abbrev pub all_functions : List (List ℕ)
 all_functions =
@@ -204,7 +204,7 @@ extended_cases =
     ∷ judged all_functions (capitals ∷ small_letters ∷ small_letters ∷ (49 ∷ 48 ∷ 53 ∷ []) ∷ (51 ∷ 48 ∷ []) ∷ []) (pos 105 ∷ negsuc 29 ∷ []) (Unmet 4)
     -- and "105" does not stand before the empty string
     ∷ judged all_functions (capitals ∷ small_letters ∷ small_letters ∷ (49 ∷ 48 ∷ 53 ∷ []) ∷ [] ∷ []) (pos 105 ∷ negsuc 29 ∷ []) (Unmet 5)
-    -- equal strings are in order, and a proper prefix comes first; without kind 4, and behind kind 3
+    -- equal strings are in order, and a proper prefix comes first; without kind 4, and after kind 3
     ∷ judged (extended_question (extended_fields 4 1 2 ∷ extended_fields 4 4 3 ∷ extended_fields 4 3 4 ∷ []))
     (capitals ∷ small_letters ∷ small_letters ∷ (49 ∷ 48 ∷ 53 ∷ []) ∷ (49 ∷ 48 ∷ []) ∷ []) (pos 0 ∷ pos 0 ∷ []) (Unmet 2)
     ∷ judged (extended_question (string_record 0 1 2 ∷ extended_fields 0 1 2 ∷ [])) (capitals ∷ small_letters ∷ small_letters ∷ [] ∷ [] ∷ []) (pos 0 ∷ pos 0 ∷ [])
@@ -215,6 +215,6 @@ extended_cases =
     ∷ judged (extended_question (extended_fields 3 0 2 ∷ [])) [] [] (Refusal 6 1)
     ∷ judged (extended_question (extended_fields 5 0 0 ∷ [])) [] [] (Refusal 6 1)
     ∷ judged (extended_question (record_bytes 11 (u16_bytes (0 ∷ 0 ∷ [])) ∷ [])) [] [] (Refusal 5 1)
-    -- a constraint of kind 4 does not stand behind
+    -- a constraint of kind 4 does not stand after
     ∷ judged (extended_question (extended_fields 0 0 0 ∷ arithmetic_fields 0 (pos 0) [] ∷ [])) [] [] (Refusal 4 2)
     ∷ []

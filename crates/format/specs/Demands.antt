@@ -1,7 +1,7 @@
--- The demands as statements about bytes. TH-1 is what checking promises of its result and the lent buffers. All others are theorems about the definitions, for every
--- list of bytes: TH-1-small and on, TH-form, TH-put, TH-asked and TH-refusals say in words what is refused and what is read; TH-2 to TH-6 are demands 2 and 3; TH-L1
--- and on those of the change requests (02). The code's promises that are not on this page: checking's, checking/specs `Promised` by TH-1, and what follows from it,
--- checking/specs `Theory`; judging's, judging/specs `Finds` (what TH-3 and TH-L1 speak of); a ticket's need and the sameness of questions, equations with `needed`
+-- The demands as statements about bytes. Th1 is what checking promises of its result and the lent buffers. All others are theorems about the definitions, for every
+-- list of bytes: Th1Small and on, ThForm, ThPut, ThAsked and ThRefusals say in words what is refused and what is read; Th2 to Th6 are demands 2 and 3; ThL1
+-- and on those of the change requests (02). The code's promises that are not on this page: checking's, checking/specs `Promised` by Th1, and what follows from it,
+-- checking/specs `Theory`; judging's, judging/specs `Finds` (what Th3 and ThL1 speak of); a ticket's need and the sameness of questions, equations with `needed`
 -- and `sameness`, in needs/src and sameness/src; the replies of the entries in C, nuldwich/specs/Replies; the program's lines, lines/specs/Reports.
 use Rattle.std.specs.Prelude.{ℕ, ◌+◌, ◌*◌, ◌/◌, ◌%◌, ◌^◌, ◌<◌, ◌≤◌, ◌≡◌, true, false, cond, ◌≢◌, ◌⊎◌, List, [], ◌∷◌, ◌++◌, map, length, take, drop, replicate, get_or, eqb, ℤ, pos, negsuc, nat_abs}
 use Rattle.std.proofs.Math.Option.{some}
@@ -41,7 +41,7 @@ use Rattle.format.specs.Judging.{Submission, Rejected, Submitted, submission, Ju
 use Rattle.format.specs.Judging.{Side, of_question, of_answer, Shown, shown_by, part_within}
 use Rattle.format.specs.Sameness.{Which, second, by_which, SameRefused, Same, Different, sameness}
 
--- ---- TH-1, demand 1: what checking promises of its result with its set, of the work area and of the answer buffer
+-- ---- Th1, demand 1: what checking promises of its result with its set, of the work area and of the answer buffer
 
 -- "A refusal or an accepted "no solution" writes nothing to the answer buffer, and strings write nothing past the answer's length"
 abbrev pub answer_written : Outcome → List ℕ
@@ -143,17 +143,17 @@ ThAsked = (b : List ℕ) → Bytes b → (u : Question) (es : List Extended)
 abbrev pub ThRefusals : Type 0
 ThRefusals = (work answer : ℕ) (t : List ℕ) → LargeEnough work answer → Bytes t → (c r : ℕ) → 8 ≤ c → c ≤ 14 → Iff (verdict work answer t ≡ Refused c r) (FirstRefusal t c r)
 
--- ---- TH-2, demand 2: a derivation of proper form within the limits is accepted exactly when its steps are one closed tree of instances
+-- ---- Th2, demand 2: a derivation of proper form within the limits is accepted exactly when its steps are one closed tree of instances
 
 abbrev pub Th2 : Type 0
 Th2 = (work answer : ℕ) (t : List ℕ) (u : Question) → LargeEnough work answer → ProperNoSolution t u → WithinLimits u (steps t)
     → Iff (verdict work answer t ≡ NoSolution) (Closes u u.constraints (steps t))
 
--- what TH-2 asks of a ticket holds of each that is accepted, so it leaves none out
+-- what Th2 asks of a ticket holds of each that is accepted, so it leaves none out
 abbrev pub Th2Covers : Type 0
 Th2Covers = (work answer : ℕ) (t : List ℕ) → verdict work answer t ≡ NoSolution → (u : Question) × ProperNoSolution t u × WithinLimits u (steps t)
 
--- ---- TH-3, demand 2: judging says what the theory says
+-- ---- Th3, demand 2: judging says what the theory says
 
 -- an assignment meets all of some constraints, of the question and extended
 abbrev pub MetAll : Question → Assignment → List Constraint → Type 0
@@ -219,7 +219,7 @@ abbrev pub Th3Outside : Type 0
 Th3Outside = (b v : List ℕ) (u : Question) (es : List Extended) (r : ℕ) → Bytes v → Asks b u es
     → Iff (submission b v ≡ Rejected 16 r) ((a : Assignment) × AnswerHeld u a × (v ≡ encode a) × OutsideAt u a r)
 
--- ---- TH-L1: judging shows the record concerned
+-- ---- ThL1: judging shows the record concerned
 
 -- a record of a side's bytes, by its number in reading
 pub record ShowsRecord (side : Side) (bytes : List ℕ) (r : ℕ) (s : Shown) : Type 0 where
@@ -227,7 +227,7 @@ pub record ShowsRecord (side : Side) (bytes : List ℕ) (r : ℕ) (s : Shown) : 
   pub from_is : get_elem? (records bytes 0) r ≡ some s.from
   pub to_is : s.to ≡ next bytes s.from
 
--- what is shown of the question b and the answer v lies within them, so a record shown is whole. For an unmet constraint it is the record behind the head,
+-- what is shown of the question b and the answer v lies within them, so a record shown is whole. For an unmet constraint it is the record after the head,
 -- the literals and the constraints before it, which is read as that constraint; for 16 it is the answer's record of that number; for 15 the whole answer; for
 -- every other outcome the empty part at the question's first byte
 pub record Shows (b v : List ℕ) (g : Submission) (s : Shown) : Type 0 where
@@ -242,7 +242,7 @@ pub record Shows (b v : List ℕ) (g : Submission) (s : Shown) : Type 0 where
 abbrev pub ThL1 : Type 0
 ThL1 = (b v : List ℕ) → Shows b v (submission b v) (shown_by b v (submission b v))
 
--- ---- TH-L2: "Every ticket that checking accepts must meet exactly these three numbers on its way"
+-- ---- ThL2: "Every ticket that checking accepts must meet exactly these three numbers on its way"
 
 -- accepted under a claim, "1 for no solution, 2 for strings"
 abbrev pub AcceptedAs : ℕ → Outcome → Type 0
@@ -326,9 +326,9 @@ ThL2Limits = (work answer claim : ℕ) (t : List ℕ) (r : Report) → AcceptedA
 abbrev pub ThL2Numbers : Type 0
 ThL2Numbers = (t : List ℕ) (c r : ℕ) → needed t ≡ NeedRefused c r → ((2 ≤ c) × (c ≤ 7)) ⊎ (c ≡ 11)
 
--- ---- TH-L3: extended constraints are judged, and are judging's alone
+-- ---- ThL3: extended constraints are judged, and are judging's alone
 
--- "counted as constraints": where judging's reading ended behind a head, every record between the literals and that place is a constraint, by its number, and
+-- "counted as constraints": where judging's reading ended after a head, every record between the literals and that place is a constraint, by its number, and
 -- there are at most 128
 pub record Counts (b : List ℕ) (u : Question) (es : List Extended) (r : ℕ) : Type 0 where
   pub all_counted : r ≡ 1 + length u.literals + length (constraints_of u es)
@@ -353,7 +353,7 @@ pub record ReadsAlike (b : List ℕ) : Type 0 where
 abbrev pub ThL3 : Type 0
 ThL3 = (b : List ℕ) → ReadsAlike b
 
--- a ticket whose question judging takes, with extended constraints, is refused at the first of them, behind the head, the literals and the other constraints
+-- a ticket whose question judging takes, with extended constraints, is refused at the first of them, after the head, the literals and the other constraints
 abbrev pub ThL3Refused : Type 0
 ThL3Refused = (work answer : ℕ) (t : List ℕ) (u : Question) (e : Extended) (es : List Extended) → LargeEnough work answer
     → Asks t u (e ∷ es)
@@ -375,7 +375,7 @@ pub record Turns (f : List ℕ → List ℕ) (first to : ℕ) : Type 0 where
 abbrev pub ThL3Case : Type 0
 ThL3Case = Turns upper 97 65 × Turns lower 65 97
 
--- "in decimal": a number below 10 is its digit, and every other one has a last digit behind the rest; "empty for negatives". A string is read as the number
+-- "in decimal": a number below 10 is its digit, and every other one has a last digit after the rest; "empty for negatives". A string is read as the number
 -- that it is the decimal of, "−1 if .. not numeric".
 pub record Decimals : Type 0 where
   pub one_digit : (d : ℕ) → d < 10 → from_int (pos d) ≡ (48 + d) ∷ []
@@ -387,7 +387,7 @@ pub record Decimals : Type 0 where
 abbrev pub ThL3Decimals : Type 0
 ThL3Decimals = Decimals
 
--- ---- TH-L4: "A ticket accepted before is accepted now, within the same limits", under either claim and with the same answer; TH-4 says of a "no" what it said
+-- ---- ThL4: "A ticket accepted before is accepted now, within the same limits", under either claim and with the same answer; Th4 says of a "no" what it said
 
 abbrev pub ThL4 : Type 0
 ThL4 = (work answer : ℕ) (t : List ℕ)
@@ -405,7 +405,7 @@ pub record RulesBefore (u : Question) (b : Branch) : Type 0 where
 abbrev pub ThL4Before : Type 0
 ThL4Before = (u : Question) (b : Branch) → RulesBefore u b
 
--- ---- TH-4, demand 3: whatever the bytes, where checking says "no solution", no assignment meets all constraints
+-- ---- Th4, demand 3: whatever the bytes, where checking says "no solution", no assignment meets all constraints
 
 -- no assignment of the question meets all of these constraints
 abbrev pub NoneMeets : Question → Branch → Type 0
@@ -417,7 +417,7 @@ NoAssignment u = NoneMeets u u.constraints
 abbrev pub Th4 : Type 0
 Th4 = (work answer : ℕ) (t : List ℕ) → verdict work answer t ≡ NoSolution → (u : Question) × (question_of t ≡ some u) × NoAssignment u
 
--- ---- TH-L5: "The constraints in that set, without the others, must have no solution either"; and every number in it is that of a constraint
+-- ---- ThL5: "The constraints in that set, without the others, must have no solution either"; and every number in it is that of a constraint
 
 -- the set that comes with the outcome
 abbrev pub returned_set : ℕ → ℕ → List ℕ → Set
@@ -440,7 +440,7 @@ bit k n = (n / 2 ^ k) % 2
 abbrev pub ThL5Words : Type 0
 ThL5Words = (s : Set) (k : ℕ) → k < 64 → (bit k (low s) ≡ flag (get_or s k false)) × (bit k (high s) ≡ flag (get_or s (64 + k) false))
 
--- ---- TH-L6: "Two questions found the same must have the same solutions"
+-- ---- ThL6: "Two questions found the same must have the same solutions"
 
 -- an assignment of the question that meets all its constraints
 abbrev pub Solves : Question → List Extended → Assignment → Type 0
@@ -482,7 +482,7 @@ ThL6Divisor = (e : List ℤ) → DividedOut e
 abbrev pub ThL6Sign : Type 0
 ThL6Sign = (e : List ℤ) → PositiveLead e
 
--- ---- TH-5, demand 3: whatever the bytes, where checking gives strings, they meet every constraint and differ wherever the leaf's classes differ
+-- ---- Th5, demand 3: whatever the bytes, where checking gives strings, they meet every constraint and differ wherever the leaf's classes differ
 
 -- a are the strings and integers whose bytes `answer_after` puts into the answer buffer
 pub record Answered (t : List ℕ) (u : Question) (a : Assignment) : Type 0 where
@@ -508,7 +508,7 @@ pub record Answered (t : List ℕ) (u : Question) (a : Assignment) : Type 0 wher
 abbrev pub Th5 : Type 0
 Th5 = (work answer : ℕ) (t : List ℕ) (a : Assignment) → verdict work answer t ≡ Strings a → (u : Question) × Answered t u a
 
--- ---- TH-6, demand 3: a ticket of proper form for strings within the limits, every step proper, is accepted exactly when the leaf is settled,
+-- ---- Th6, demand 3: a ticket of proper form for strings within the limits, every step proper, is accepted exactly when the leaf is settled,
 -- the model meets its facts and no length passes 64
 
 abbrev pub Th6 : Type 0
@@ -516,7 +516,7 @@ Th6 = (work answer : ℕ) (t : List ℕ) (u : Question) (m : List ℤ) (leaf : B
     → PathWithinLimits u (steps_with_child t) → Path u u.constraints (steps_with_child t) leaf
     → Iff ((a : Assignment) × (verdict work answer t ≡ Strings a)) (Settled u leaf m × All (MeetsArithmetic m) leaf × ShortLengths u m)
 
--- what TH-6 asks of a ticket holds of each that is accepted; with TH-5's path and leaf it leaves none out
+-- what Th6 asks of a ticket holds of each that is accepted; with Th5's path and leaf it leaves none out
 abbrev pub Th6Covers : Type 0
 Th6Covers = (work answer : ℕ) (t : List ℕ) (a : Assignment) → verdict work answer t ≡ Strings a
     → (u : Question) × (m : List ℤ) × ProperStrings t u m × PathWithinLimits u (steps_with_child t)

@@ -94,7 +94,7 @@ answer_shown v = record { side = of_answer; from = 0; to = length v }
 abbrev pub refusal_shown : List ℕ → ℕ → ℕ → Shown
 refusal_shown v c r = cond (eqb c 15) (answer_shown v) (cond (eqb c 16) (record_shown of_answer v (skip v r 0)) nothing_shown)
 
--- "from the question for an unmet constraint": the record of that constraint stands behind the literals and the constraints before it
+-- "from the question for an unmet constraint": the record of that constraint stands after the literals and the constraints before it
 abbrev pub unmet_shown : List ℕ → Question → Option ℕ → Shown
 unmet_shown b u none = nothing_shown
 unmet_shown b u (some k) = record_shown of_question b (skip b k (constraints_from b (length u.literals)))

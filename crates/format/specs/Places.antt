@@ -6,7 +6,7 @@ use Rattle.calculus.specs.Extended.{Extended, Constraint, basic, extended}
 use Rattle.format.specs.Records.{size, kind, next}
 use Rattle.format.specs.Question.{extended_kind, Progress, text_of, body_fact, extended_of}
 
--- the position behind k records
+-- the position after k records
 unfoldable pub skip : List ℕ → ℕ → ℕ → ℕ
 skip b k at = place_after (next b) at k
 
@@ -36,7 +36,7 @@ extendeds_at b k at = values_along (next b) (extended_at b) at k
 unfoldable pub constraints_at : List ℕ → ℕ → ℕ → List Constraint
 constraints_at b k at = values_along (next b) (constraint_at b) at k
 
--- the first literal stands behind the head, at position 14, the first constraint behind the literals, and the first extended one behind the others
+-- the first literal stands after the head, at position 14, the first constraint after the literals, and the first extended one after the others
 abbrev pub literals_from : ℕ
 literals_from = 14
 
@@ -46,7 +46,7 @@ constraints_from b literals = skip b literals literals_from
 abbrev pub extended_from : List ℕ → ℕ → ℕ → ℕ
 extended_from b literals constraints = skip b constraints (constraints_from b literals)
 
--- what was read, in numbers: the last rank, n, p and q, and how many literals, behind them constraints, and behind these extended ones stand in the bytes
+-- what was read, in numbers: the last rank, n, p and q, and how many literals, after them constraints, and after these extended ones stand in the bytes
 pub record Numbers : Type 0 where
   pub last : ℕ
   pub n : ℕ

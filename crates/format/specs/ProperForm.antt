@@ -35,7 +35,7 @@ ProperNoSolution b u = (w : Walk ℕ ℕ) × (r : ℕ) × (ticket_form b ≡ Don
 abbrev pub ProperStrings : List ℕ → Question → List ℤ → Type 0
 ProperStrings b u m = (k : ℕ) × (r : ℕ) × (ticket_form b ≡ Done u (modelled k m) r)
 
--- ---- the steps of a ticket, each with its child field: the records behind the claim, up to the first that is no step
+-- ---- the steps of a ticket, each with its child field: the records after the claim, up to the first that is no step
 
 unfoldable pub steps_at : List ℕ → List ℕ → List (Step × ℕ)
 steps_at b [] = []

@@ -55,7 +55,7 @@ rank_of k =
     (cond (eqb k extended_kind) extended_rank
     0))))
 
--- constraints stand behind the literals, extended ones too
+-- constraints stand after the literals, extended ones too
 abbrev pub is_constraint : ℕ → Bool
 is_constraint r = ltb literal_rank r
 
@@ -217,7 +217,7 @@ form_manner = record { limited = false; greatest = arithmetic_rank }
 
 -- ---- one record
 
--- "They stand in order of kind"; "4 when a kind is unknown or out of its place (a 16th literal .. included)": a record of rank r behind the rank last and so
+-- "They stand in order of kind"; "4 when a kind is unknown or out of its place (a 16th literal .. included)": a record of rank r after the rank last and so
 -- many literals, where ranks up to the greatest are taken
 abbrev pub rank_in_place : ℕ → ℕ → ℕ → ℕ → Bool
 rank_in_place greatest last literals r =
@@ -240,14 +240,14 @@ question_body_fault b u k at m =
 unfoldable pub form_fault : ℕ → List ℕ → Progress → ℕ → ℕ
 form_fault greatest b s at = need 3 (whole b at) (need 4 (in_place greatest s (kind b at)) (question_body_fault b s.question (kind b at) (at + 6) (size b at)))
 
--- "At most 128 facts stand on a branch": where 10 is looked for, a constraint of any kind must find room behind those before it
+-- "At most 128 facts stand on a branch": where 10 is looked for, a constraint of any kind must find room after those before it
 abbrev pub room_for : Bool → ℕ → ℕ → Bool
 room_for limited r constraints = not limited || (not (is_constraint r) || ltb constraints fact_limit)
 
 abbrev pub finds_room : Manner → Progress → ℕ → Bool
 finds_room m s k = room_for m.limited (rank_of k) (constraint_count s)
 
--- 10 behind the numbers of the form
+-- 10 after the numbers of the form
 abbrev pub or_crowded : ℕ → Bool → ℕ
 or_crowded zero room = need 10 room 0
 or_crowded (suc c) room = suc c
@@ -313,7 +313,7 @@ question_form b = read_in form_manner b
 abbrev pub head_read : Progress → Bool
 head_read s = leb head_rank s.last
 
--- what f gives of what was read behind a head
+-- what f gives of what was read after a head
 abbrev pub headed_in : {A : Type 0} → (Progress → A) → Reading → Option A
 headed_in f (Stopped c r) = none
 headed_in f (Ended s at r) = cond (head_read s) (some (f s)) none

@@ -1,4 +1,4 @@
--- Reading behind the question: the claim, the steps, the model and the end, record by record, whatever a step is taken for.
+-- Reading after the question: the claim, the steps, the model and the end, record by record, whatever a step is taken for.
 -- Checking takes steps as facts; proper form and what a ticket will need take them by their shapes.
 use Rattle.std.specs.Prelude.{ℕ, zero, suc, ◌+◌, ◌*◌, Bool, true, false, cond, ◌&&◌, List, [], ◌∷◌, length, leb, eqb, ℤ}
 use Rattle.calculus.specs.Limits.{value_limit}
@@ -10,7 +10,7 @@ use Rattle.format.specs.Records.{size, kind, next, whole, records, need}
 use Rattle.format.specs.Question.{Progress, Reading, Stopped, Ended, head_read}
 use Rattle.format.specs.StepForms.{rule, child_field, length_fits, operands_in_range, step_at, child_in_range}
 
--- what stands behind the claim: the walk under claim 1; the branch under claim 2; the leaf and its model.
+-- what stands after the claim: the walk under claim 1; the branch under claim 2; the leaf and its model.
 -- B is a branch, C a child.
 pub data State (B C : Type 0) : Type 0 where
   proving : Walk B C → State B C
@@ -35,14 +35,14 @@ pub record Method (B C : Type 0) : Type 0 where
   pub leaf_fault : B → List ℤ → ℕ
 
 -- the state once a step is taken, with its child field: under claim 1 its first child is entered, or the branch closes and the next child begins; under claim 2
--- the child taken is added. Behind the last closed branch and behind the model no step may stand.
+-- the child taken is added. After the last closed branch and after the model no step may stand.
 abbrev pub stepped : {B C : Type 0} → Method B C → State B C → Step × ℕ → State B C
 stepped w (proving (working br ss)) t = proving (enter w.add br (w.children br t.0) ss)
 stepped w (proving closed) t = proving closed
 stepped w (taking br) t = taking (w.taken br t.0 t.1)
 stepped w (modelled br v) t = modelled br v
 
--- ---- one record behind the claim: a body of m bytes at a position
+-- ---- one record after the claim: a body of m bytes at a position
 
 -- a step: 5, then 6, an unknown rule and child number included, then what taking it gives
 abbrev pub step_fault : List ℕ → Question → Bool → ℕ → ℕ → ℕ → ℕ
@@ -83,7 +83,7 @@ advanced w b u (proving k) at = stepped w (proving k) (step_with_child b at)
 advanced w b u (taking br) at = cond (eqb (kind b at) 6) (stepped w (taking br) (step_with_child b at)) (modelled br (model_at b u (at + 6)))
 advanced w b u (modelled br v) at = modelled br v
 
--- ---- the records behind the claim
+-- ---- the records after the claim
 
 -- Faulty: the refusal's number and record. Done: read to its end, with the question, the last state and the number of the end record.
 pub data Ticket (B C : Type 0) : Type 0 where
@@ -115,7 +115,7 @@ claim_fault b s at =
 abbrev pub begin : {B C : Type 0} → Method B C → ℕ → State B C
 begin w claim = cond (eqb claim 1) (proving (working w.root [])) (taking w.root)
 
--- behind the question, at the claim's position and record
+-- after the question, at the claim's position and record
 abbrev pub read_claim : {B C : Type 0} → (Question → Method B C) → List ℕ → Progress → ℕ → ℕ → Ticket B C
 read_claim method b s at r = elim (claim_fault b s at) [
   | suc c ↦ Faulty (suc c) r

@@ -36,7 +36,7 @@ pub data LeafRefused (u : Question) (leaf : Branch) (m : List ℤ) : ℕ → Typ
 
 -- ---- in a ticket
 
--- a ticket of at most 32,768 bytes begins with a question in range, a claim and some steps; behind them the rest begins with record r
+-- a ticket of at most 32,768 bytes begins with a question in range, a claim and some steps; after them the rest begins with record r
 pub record Begins (t : List ℕ) (u : Question) (claim : ℕ) (ts : List (Step × ℕ)) (rest : List ℕ) (r : ℕ) : Type 0 where
   pub bytes : t ≡ beginning u claim ts ++ rest
   pub few_bytes : length t ≤ ticket_bytes

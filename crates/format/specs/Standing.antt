@@ -33,7 +33,7 @@ ConstraintAt b p q k at = FactAt b p q k at ⊎ ExtendedAt b p q at
 -- the numbers read and where their records stand
 pub record StandsTo (b : List ℕ) (s : Numbers) (at : ℕ) : Type 0 where
   pub within : at ≤ length b
-  -- behind the head there is a character
+  -- after the head there is a character
   pub some_character : head_rank ≤ s.last → 1 ≤ s.n
   pub few_characters : s.n ≤ alphabet_limit
   pub few_strings : s.p ≤ variable_limit
@@ -41,7 +41,7 @@ pub record StandsTo (b : List ℕ) (s : Numbers) (at : ℕ) : Type 0 where
   pub few_literals : s.literals ≤ literal_limit
   -- each constraint takes bytes
   pub counted : s.constraints + s.extended ≤ at
-  -- nothing was read yet, or the literals stand where the head ends, the constraints behind the literals and the extended ones behind these, up to here
+  -- nothing was read yet, or the literals stand where the head ends, the constraints after the literals and the extended ones after these, up to here
   pub nothing_yet : s.last ≡ 0 → at ≡ 0
   pub head_ends : head_rank ≤ s.last → next b 0 ≡ literals_from
   pub ends_here : head_rank ≤ s.last → at ≡ skip b s.extended (extended_from b s.literals s.constraints)

@@ -72,7 +72,7 @@ child_field b at = u16 b (at + 2)
 abbrev pub length_fits : List ℕ → ℕ → ℕ → Bool
 length_fits b at m = fits_form (form_for (rule b at)) m
 
--- how many pairs a body of m bytes has behind its rule, child and first i32
+-- how many pairs a body of m bytes has after its rule, child and first i32
 abbrev pub pairs_in : ℕ → ℕ
 pairs_in m = (m - 8) / 6
 

@@ -70,13 +70,13 @@ constraint_record (arithmetic r e) = arithmetic_record r e
 unfoldable pub extended_record : Extended → List ℕ
 extended_record e = record_bytes 11 (u16_bytes (function_number e ∷ fields_of e))
 
--- "Kinds 1 to 4 are the question", and kind 11 behind them (02, L3)
+-- "Kinds 1 to 4 are the question", and kind 11 after them (02, L3)
 unfoldable pub question_bytes : Question → List Extended → List ℕ
 question_bytes u es =
     head_record u.n u.p u.q
     ++ (flat_map literal_record u.literals ++ (flat_map constraint_record u.constraints ++ flat_map extended_record es))
 
--- ---- the records behind the question
+-- ---- the records after the question
 
 -- "5 claim, once: u16, 1 for no solution, 2 for strings"
 abbrev pub claim_record : ℕ → List ℕ
@@ -136,7 +136,7 @@ with_child_zero sts = map (λ st. (st, 0)) sts
 abbrev pub beginning : Question → ℕ → List (Step × ℕ) → List ℕ
 beginning u claim ts = question_bytes u [] ++ (claim_record claim ++ step_records ts)
 
--- "record from 0": the number of the one behind the head, the literals, the constraints, the claim and these steps
+-- "record from 0": the number of the one after the head, the literals, the constraints, the claim and these steps
 abbrev pub record_behind : {A : Type 0} → Question → List A → ℕ
 record_behind u steps = 2 + length u.literals + length u.constraints + length steps
 
@@ -169,7 +169,7 @@ ConstraintInRange u (not_same x y) = Variable u x × Variable u y
 ConstraintInRange u (is_literal x l) = Variable u x × (l ≤ length u.literals)
 ConstraintInRange u (arithmetic r e) = FormInRange u e
 
--- "They stand in order of kind": behind an arithmetic constraint there are arithmetic ones alone
+-- "They stand in order of kind": after an arithmetic constraint there are arithmetic ones alone
 abbrev pub IsArithmetic : Fact → Type 0
 IsArithmetic (same x y) = ⊥
 IsArithmetic (not_same x y) = ⊥
@@ -231,7 +231,7 @@ pub record ModelInRange (u : Question) (m : List ℤ) : Type 0 where
   pub size : length m ≡ column_count u
   pub numbers : All (Small value_limit) m
 
--- no "step follows the last closed branch": no beginning of the steps that has a step behind it is a whole tree, each taken as if it fitted; the number that a
+-- no "step follows the last closed branch": no beginning of the steps that has a step after it is a whole tree, each taken as if it fitted; the number that a
 -- branch begins with does not matter there
 abbrev pub NoStepPast : Question → List Step → Type 0
 NoStepPast u sts = (first others : List Step) → sts ≡ first ++ others → ClosedBy (AsIfFitted u.n) ◌+◌ 0 first → others ≡ []

@@ -1,4 +1,4 @@
--- Demand 2 of the code: what judge_answer says is what the theory says (TH-3), and what show gives of it is the record concerned (TH-L1).
+-- Demand 2 of the code: what judge_answer says is what the theory says (Th3), and what show gives of it is the record concerned (ThL1).
 use mathlib.Core.Path.{◌≡◌, sym, subst}
 use mathlib.Core.List.{List}
 use Prim.Native.Nat.{ℕ}

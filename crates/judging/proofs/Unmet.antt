@@ -64,7 +64,7 @@ module _ (b v : List ℕ) (s : Progress) (a : Assignment) where
   -- ---- what is found
 
   module _ (posed : Posed b s) where
-    -- the constraints stand one behind another
+    -- the constraints stand one after another
     in_line : constraints_of u es ≡ constraints_at b count from
     unfolding asked extended_asked
     in_line = all_constraints b (numbers_of s) posed.to posed.stands

@@ -63,6 +63,6 @@ pair_with u ls m x z c y = pair_by (same_class ls (var_node x) (var_node y)) z (
 unfoldable pub pair_fits : Question → List ℕ → List ℤ → ℕ → ℕ → Bool
 pair_fits u ls m x y = pair_with u ls m x (model_value u m len x) (model_value u m code x) y
 
--- the rules for a variable, itself and with every variable before it: those behind it are tested with it in their turn
+-- the rules for a variable, itself and with every variable before it: those after it are tested with it in their turn
 abbrev pub by_earlier : Question → List ℕ → List ℤ → ℕ → Bool
 by_earlier u ls m x = var_fits u ls m x && all_below x (pair_fits u ls m x)

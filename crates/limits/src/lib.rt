@@ -27,7 +27,7 @@ pub const LITERAL_NUMBERS: usize = LITERAL_LIMIT + 1;
 // A node for each variable and for each literal, the empty one included.
 pub const NODE_COUNT: usize = 2 * VARIABLE_LIMIT;
 
-// The first literal stands behind the head, at position 14.
+// The first literal stands after the head, at position 14.
 pub const LITERALS_FROM: usize = 14;
 
 // "1 to 64 characters"; "14 when a length passes 64"

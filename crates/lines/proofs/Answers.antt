@@ -55,7 +55,7 @@ module _ (s t : List ℕ) where
     longer : at + 6 + size s at ≤ length (s ++ t)
     longer = omega (arith, length-append s t)
 
-  -- the lines of the records, whatever stands behind the first part, are those of its strings and integers
+  -- the lines of the records, whatever stands after the first part, are those of its strings and integers
   lines_read : (p q k at : ℕ) → answer_form s p q at ≡ true
       → record_lines (s ++ t) k (records (s ++ t) at) ≡ string_lines k (texts s p at) ++ (integer_lines 0 (integers_at s q (skip s p at)) ++ end_line)
   unfolding answer_form texts skip string_lines

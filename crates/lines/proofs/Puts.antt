@@ -1,4 +1,4 @@
--- Texts put into a buffer, one behind another.
+-- Texts put into a buffer, one after another.
 use Prim.Native.Nat.{ℕ, ◌+◌, ◌<◌}
 use native.Mathlib.Numerals.{add-one}
 use native.Mathlib.Omega.{arith}

@@ -1,4 +1,4 @@
-// The program's lines, put into a buffer one behind another. Each function takes the position to write at and answers the one behind.
+// The program's lines, put into a buffer one after another. Each function takes the position to write at and answers the one after.
 #![tactic(auto)]
 
 ghost use Rattle.std.specs.Prelude.{◌≡◌, [], ◌∷◌, ◌++◌, ◌+◌, ◌*◌, ◌≤◌, ◌<◌, length};
@@ -79,7 +79,7 @@ fn put_integer(out: &mut [u8], at: usize, v: usize) -> usize
     put_decimal(out, i, 4294967296 - v)
 }
 
-// A number behind a space.
+// A number after a space.
 fn put_spaced(out: &mut [u8], at: usize, n: usize) -> usize
     requires { at + 21 ≤ length out.old }
     ensures put { Put out.old at (32 ∷ decimal n) out.new result }
@@ -104,7 +104,7 @@ fn put_refused(out: &mut [u8], at: usize, number: usize, at_record: usize) -> us
     put_byte(out, l, b'\n')
 }
 
-// The count characters at a position of the answer, each behind a space.
+// The count characters at a position of the answer, each after a space.
 fn put_characters(out: &mut [u8], at: usize, answer: &[u8], from: usize, count: usize) -> usize
     requires { (from + 4 * count ≤ length answer.now) × (at + 21 * count ≤ length out.old) }
     ensures put { Put out.old at (spaced (u32s answer.now from count)) out.new result }

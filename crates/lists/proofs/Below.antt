@@ -2,9 +2,9 @@
 use Prim.Native.Nat.{ℕ, zero, suc, ◌<◌}
 use native.Mathlib.Omega.{arith}
 use native.Mathlib.Decide.{ℕ_discrete}
-use mathlib.Core.Path.{◌≡◌, subst}
+use mathlib.Core.Path.{◌≡◌, refl, ap₂, subst}
 use mathlib.Core.Logic.{◌⊎◌, inl, inr}
-use mathlib.Core.Bool.{Bool, ◌||◌}
+use mathlib.Core.Bool.{Bool, ◌&&◌, ◌||◌}
 use lib.Dec.{T}
 use Rattle.lists.specs.Lists.{all_below, any_below}
 use Rattle.lists.proofs.Tests.{and→, →and, or→, →or_left, →or_right}
@@ -36,3 +36,8 @@ all_below→ (suc m) t h i g = let (s, r) = and→ (t m) (all_below m t) h in be
 pub →all_below : (m : ℕ) (t : ℕ → Bool) → ((i : ℕ) → i < m → T (t i)) → T (all_below m t)
 →all_below zero t h = tt
 →all_below (suc m) t h = →and (t m) (all_below m t) (h m (omega arith)) (→all_below m t (λ i g. h i (omega arith)))
+
+-- two tests that agree everywhere agree below a bound
+pub all_below_same : (m : ℕ) (s t : ℕ → Bool) → ((i : ℕ) → s i ≡ t i) → all_below m s ≡ all_below m t
+all_below_same zero s t e = refl
+all_below_same (suc m) s t e = ap₂ ◌&&◌ (e m) (all_below_same m s t e)

@@ -69,7 +69,7 @@ module _ {A : Type 0} (test : A → Bool) where
   pub lowest_taken : (b : List A) (m k : ℕ) → lowest test (take m b) ≡ some k → lowest test b ≡ some k
   lowest_taken b m k e = subst (λ c. lowest test c ≡ some k) (take-append-drop m b) (lowest_kept (take m b) (drop m b) k e)
 
-  -- where there is none, those behind count
+  -- where there is none, those after count
   pub lowest_behind : (b : List A) (f : A) → lowest test b ≡ none → test f ≡ false → lowest test (b ++ (f ∷ [])) ≡ none
   unfolding lowest
   lowest_behind [] f e p = ap (λ t. turn t none) p
@@ -95,7 +95,7 @@ module _ {A : Type 0} (test : A → Bool) where
 
 -- ---- the first element without a property
 
--- none, or one behind others that have it
+-- none, or one after others that have it
 abbrev pub FirstWithout : {A : Type 0} → (A → Type 0) → List A → Option ℕ → Type 0
 FirstWithout {A} P b none = All P b
 FirstWithout {A} P b (some k) = (f : A) × (get_elem? b k ≡ some f) × (P f → ⊥) × All P (take k b)

@@ -1,4 +1,4 @@
--- Runs of stores into a list, one behind another.
+-- Runs of stores into a list, one after another.
 use mathlib.Core.Path.{◌≡◌, ◌∙◌}
 use mathlib.Core.List.{List, [], ◌∷◌, ◌++◌}
 use Prim.Native.Nat.{ℕ, suc, ◌+◌, ◌≤◌}
@@ -7,7 +7,7 @@ use lib.ListN.{length, drop, set}
 use lib.Seq.{sets, sets-eq}
 
 module _ {A : Type 0} where
-  -- what is stored behind the first run is stored with it
+  -- what is stored after the first run is stored with it
   pub sets_sets : (w v b : List A) (at : ℕ) → sets (sets b at w) (at + length w) v ≡ sets b at (w ++ v)
   sets_sets [] v b at = rw add-zero
   sets_sets (x ∷ w) v b at = rw (add-suc, ← suc-add) (sets_sets w v (set b at x) (suc at))

@@ -69,7 +69,7 @@ abbrev pub up_to : {A : Type 0} → (ℕ → A) → ℕ → List A
 up_to f zero = []
 up_to f (suc k) = up_to f k ++ (f k ∷ [])
 
--- the place behind k others, the first of which is a: go leads from each to the next
+-- the place after k others, the first of which is a: go leads from each to the next
 abbrev pub place_after : {A : Type 0} → (A → A) → A → ℕ → A
 place_after go a zero = a
 place_after go a (suc k) = place_after go (go a) k

@@ -25,7 +25,7 @@ use strings::give_strings;
 // The table of strings: a row for each string variable that there may be.
 const TABLE_CHARACTERS: usize = LENGTH_LIMIT * VARIABLE_LIMIT;
 
-// "an i32 for each column", filled into 48 zeros; behind the last column they stay.
+// "an i32 for each column", filled into 48 zeros; after the last column they stay.
 fn read_model(model: &mut [i64], ticket: &[u8], at: usize, columns: usize)
     requires { (model.old ≡ zeros column_limit) × (columns ≤ column_limit) × (at + 4 * columns ≤ length ticket.now) }
     ensures { model.new ≡ i32s ticket.now at columns ++ zeros (column_limit - columns) }

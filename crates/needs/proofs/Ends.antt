@@ -1,4 +1,4 @@
--- What a ticket needs where its steps end: behind the last closed branch, and at the model.
+-- What a ticket needs where its steps end: after the last closed branch, and at the model.
 use Prim.Native.Nat.{ℕ, ◌+◌, ◌≤◌, max}
 use native.Mathlib.Omega.{arith}
 use native.Mathlib.Nat.{max-zero, max-eq_left}
@@ -50,7 +50,7 @@ module _ (b : List ℕ) (u : Question) (st : State ℕ ℕ) (m : Report) (r at :
       ∙ ap (λ ts. Needs (joined m (report (λ k. k) (by_shape u) st ts))) none
       ∙ ap Needs (stays u st m h p)
 
--- ---- behind the last closed branch
+-- ---- after the last closed branch
 
 module _ (b : List ℕ) (u : Question) (m : Report) (r at : ℕ) where
   pub end_refused : (c : ℕ) → c ≡ end_fault b at → (c ≡ 0 → ⊥) → need_from b u (proving closed) m r at ≡ NeedRefused c r

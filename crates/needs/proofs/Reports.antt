@@ -31,14 +31,14 @@ max_twice m f g =
     le_antisymm (max-le (max-le (le-max_left m (max f g)) (le_trans (le-max_left f g) (le-max_right m (max f g)))) (le-max_right m (max f g)))
     (max-le (le_trans (le-max_left m f) (le-max_left (max m f) (max f g))) (le-max_right (max m f) (max f g)))
 
--- ---- a report and the states behind
+-- ---- a report and the states after
 
 pub report_same : {a b c x y z : ℕ} → a ≡ x → b ≡ y → c ≡ z
     → ◌≡◌ {A = Report} (record { steps = a; facts = b; pending = c }) (record { steps = x; facts = y; pending = z })
 report_same e f g = rw (e, f, g)
 
 module _ (b : List ℕ) (u : Question) where
-  -- the states behind the first
+  -- the states after the first
   abbrev behind : State ℕ ℕ → List (Step × ℕ) → List (State ℕ ℕ)
   behind s [] = []
   behind s (t ∷ ts) = states_met (by_shape u) (stepped (by_shape u) s t) ts

@@ -35,7 +35,7 @@ unfolding pending_of
 pending_length ms es ls zero = refl
 pending_length ms es ls (suc d) = ap suc (pending_length ms es ls d)
 
--- a split is stored behind the first d
+-- a split is stored after the first d
 pub pended : (ms es ls : List ℕ) (d mark facts more : ℕ) → Lent ms es ls d
     → pending_of (set ms d mark) (set es d facts) (set ls d more) (d + 1) ≡ waiting mark facts more ∷ pending_of ms es ls d
 unfolding pending_of
@@ -67,7 +67,7 @@ module _ (ms es ls : List ℕ) where
     abbrev cut : Walk ℕ ℕ
     cut = cut_back ◌+◌ (pending_of ms es ls (suc d))
 
-    -- the walk with so many children behind the next
+    -- the walk with so many children after the next
     abbrev next : ℕ → Walk ℕ ℕ
     next k = working (mark + facts) (wait mark (replicate k facts) (pending_of ms es ls d))
 

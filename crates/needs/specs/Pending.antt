@@ -1,4 +1,4 @@
--- Pending splits as the code holds them: of each its mark, how many facts each child to come adds, and how many children stand behind the next.
+-- Pending splits as the code holds them: of each its mark, how many facts each child to come adds, and how many children stand after the next.
 use Rattle.std.specs.Prelude.{ℕ, zero, suc, ◌/◌, ◌<◌, List, [], ◌∷◌, length, get_or, replicate}
 use Rattle.calculus.specs.Limits.{ticket_bytes}
 use Rattle.calculus.specs.Walk.{Waiting, Walk, working, closed}
@@ -17,7 +17,7 @@ pending_of marks each left (suc d) = waiting (get_or marks d 0) (get_or each d 0
 abbrev pub deepest : ℕ
 deepest = ticket_bytes / 10
 
--- the slices have room for one split more behind the first so many
+-- the slices have room for one split more after the first so many
 abbrev pub Lent : List ℕ → List ℕ → List ℕ → ℕ → Type 0
 Lent marks each left depth = (depth < length marks) × (depth < length each) × (depth < length left)
 

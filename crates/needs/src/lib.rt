@@ -25,12 +25,12 @@ use question::{NEEDING, Progress, Reading, read_question};
 use records::{Found, read_at, u16_at, u32_at};
 use steps::{CHILD_FIELD, Rule, child_count, child_facts, record_fault, rule_of};
 
-// ---- pending splits: three slices of numbers, for each split its mark, how many facts each child to come adds, and how many children stand behind the next
+// ---- pending splits: three slices of numbers, for each split its mark, how many facts each child to come adds, and how many children stand after the next
 
 // A step takes ten bytes at least: where one is taken, at most so many splits but one are pending.
 const PENDING_ROOM: usize = TICKET_BYTES / 10 + 1;
 
-// A split pends behind the first depth.
+// A split pends after the first depth.
 fn pend(
     mark: usize,
     facts: usize,
@@ -187,7 +187,7 @@ fn greater(a: usize, b: usize) -> usize
 
 // ---- all steps
 
-// Refused: the number and the record. Closed: every branch is closed; the position and the number of the record behind. Model: the position and the number of
+// Refused: the number and the record. Closed: every branch is closed; the position and the number of the record after. Model: the position and the number of
 // the model's record. With both the report so far.
 #[derive(Drop)]
 enum Walked {
@@ -196,7 +196,7 @@ enum Walked {
     Model(usize, usize, Report),
 }
 
-// The records from the one behind the claim, record r at a position, on the question's constraints: until every branch is closed, or up to the model.
+// The records from the one after the claim, record r at a position, on the question's constraints: until every branch is closed, or up to the model.
 fn walk(
     ticket: &[u8],
     s: Progress,
@@ -253,7 +253,7 @@ pub enum Need {
     Needs(Report),
 }
 
-// Behind the last closed branch: the end.
+// After the last closed branch: the end.
 fn at_end(ticket: &[u8], at: usize, r: usize, report: Report) -> Need
     ensures { (s : Progress) → need_of result ≡ need_from ticket.now (asked ticket.now s) (proving closed) (report_is report) r at }
 {
@@ -264,7 +264,7 @@ fn at_end(ticket: &[u8], at: usize, r: usize, report: Report) -> Need
     Need::Needs(report)
 }
 
-// The model's record, of which 5 and 6 are tested, and the end behind it.
+// The model's record, of which 5 and 6 are tested, and the end after it.
 fn at_model(ticket: &[u8], s: Progress, at: usize, r: usize, report: Report) -> Need
     requires { ModelHere ticket.now s at r }
     ensures { (facts : ℕ) → facts ≤ report.facts
@@ -282,7 +282,7 @@ fn at_model(ticket: &[u8], s: Progress, at: usize, r: usize, report: Report) -> 
     Need::Needs(report)
 }
 
-// The steps, and what stands behind them.
+// The steps, and what stands after them.
 fn behind_claim(ticket: &[u8], s: Progress, claim: Claim, at: usize, r: usize) -> Need
     requires { Within ticket.now s at r }
     ensures { need_of result ≡ need_started claim ticket.now s r at }
@@ -297,7 +297,7 @@ fn behind_claim(ticket: &[u8], s: Progress, claim: Claim, at: usize, r: usize) -
     }
 }
 
-// The claim and what stands behind it, where reading of the question ended. Record r stands there.
+// The claim and what stands after it, where reading of the question ended. Record r stands there.
 fn behind_question(ticket: &[u8], s: Progress, at: usize, r: usize) -> Need
     requires { ReadTo ticket.now s at r }
     ensures { need_of result ≡ need_claimed ticket.now s at r }

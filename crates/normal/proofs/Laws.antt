@@ -131,7 +131,7 @@ module _ (row : List ℤ) (k : ℕ) (h : k ≡ tag_of (fact_of row)) (g : k ≤ 
   pub row_within : fact_within (fact_of row) ≡ all_within number_limit (drop 1 row)
   row_within = ap fact_within (row_relation row k h g)
 
-  -- another form behind the tag
+  -- another form after the tag
   form_put : (e : List ℤ) → fact_of (get_or row 0 (pos 0) ∷ e) ≡ arithmetic (relation_of k) e
   form_put e = row_relation (get_or row 0 (pos 0) ∷ e) k (h ∙ tag_kept row (get_or row 0 (pos 0) ∷ e) refl) g
 
@@ -191,7 +191,7 @@ literal_normal (arithmetic ne e) h = absurd (omega arith)
 
 -- ---- the rows of the work area
 
--- a row's stretch is lent and comes back: the numbers behind it are as they were
+-- a row's stretch is lent and comes back: the numbers after it are as they were
 pub behind_filled : (w₀ w row : List ℤ) (k : ℕ)
     → row_length * k + row_length ≤ length w
     → length row ≡ row_length

@@ -134,7 +134,7 @@ unfoldable pub numbers_to : ℕ → List ℕ
 numbers_to zero = []
 numbers_to (suc k) = numbers_to k ++ (k ∷ [])
 
--- one step under claim 1, or claim 2, over three strings and one integer, behind i0 ≥ 0: record 3
+-- one step under claim 1, or claim 2, over three strings and one integer, after i0 ≥ 0: record 3
 abbrev pub proving : List ℕ → Outcome → Pin
 proving step o = outcome (head_record 100 3 1 ∷ arithmetic_fields 0 (pos 0) ((0, pos 1) ∷ []) ∷ claim_record 1 ∷ step ∷ end_record ∷ []) o
 
@@ -323,7 +323,7 @@ first_of_two =
     ∷ outcome (head_record 100 1 0 ∷ claim_record 1 ∷ (replicate 64 (step_fields (8 ∷ 0 ∷ 0 ∷ [])) ++ (branch_fields 0 (pos 1000000000) [] ∷ []))) (Refused 9 66)
     -- 6 and 10: a 129th constraint out of range
     ∷ outcome (head_record 100 1 0 ∷ (replicate 128 (string_record 0 0 0) ++ (string_record 3 0 0 ∷ []))) (Refused 6 129)
-    -- 4 and 11: a byte behind the end; 5 and 11: an end with a body
+    -- 4 and 11: a byte after the end; 5 and 11: an end with a body
     ∷ checking 6400 4268 (ticket (head_record 100 0 0 ∷ claim_record 1 ∷ end_record ∷ (0 ∷ []) ∷ [])) (Refused 4 2)
     ∷ outcome (head_record 100 0 0 ∷ claim_record 1 ∷ record_bytes 8 (0 ∷ []) ∷ []) (Refused 5 2)
     -- 6 and 12: a value past its limit that breaks a fact
@@ -336,11 +336,11 @@ first_of_two =
 
 -- ---- 3 to 5 where nothing else applies, each at its record
 
--- a branch that closes at once, and what stands behind
+-- a branch that closes at once, and what stands after
 abbrev pub behind_closed : List (List ℕ) → Outcome → Pin
 behind_closed rs o = outcome ((head_record 100 0 0 ∷ arithmetic_fields 0 (negsuc 0) [] ∷ claim_record 1 ∷ step_fields (4 ∷ 0 ∷ 0 ∷ []) ∷ []) ++ rs) o
 
--- a model of no columns, and what stands behind
+-- a model of no columns, and what stands after
 abbrev pub behind_model : List (List ℕ) → Outcome → Pin
 behind_model rs o = outcome ((head_record 100 0 0 ∷ claim_record 2 ∷ model_record [] ∷ []) ++ rs) o
 
@@ -368,7 +368,7 @@ sites =
     ∷ outcome (head_record 100 0 1 ∷ claim_record 2 ∷ model_record [] ∷ []) (Refused 5 2)
     ∷ []
 
--- ---- judging, over one string and one integer: the answer's bytes, from its string, its integers, and what stands behind
+-- ---- judging, over one string and one integer: the answer's bytes, from its string, its integers, and what stands after
 
 abbrev pub answering : List ℕ → List ℤ → List ℕ → Judgement → Pin
 answering s zs more j =
@@ -384,7 +384,7 @@ judgements =
     ∷ answering (1 ∷ 100 ∷ []) (pos 0 ∷ []) [] (Refusal 16 0)
     ∷ answering [] (pos 100000001 ∷ []) [] (Refusal 16 1)
     ∷ answering [] (negsuc 100000000 ∷ []) [] (Refusal 16 1)
-    -- 15 and 16: a character out of range, and a byte behind
+    -- 15 and 16: a character out of range, and a byte after
     ∷ answering (100 ∷ []) (pos 0 ∷ []) (0 ∷ []) (Refusal 15 0)
     -- "one with no head before it gives 4"
     ∷ judged (ticket (end_record ∷ [])) [] (Refusal 4 0)

@@ -1,4 +1,4 @@
--- A question that was read behind its head may be worked on, and what it gives besides what its standing says.
+-- A question that was read after its head may be worked on, and what it gives besides what its standing says.
 use Prim.Native.Nat.{ℕ, zero, suc, ◌+◌, ◌/◌, ◌≤◌}
 use native.Mathlib.Nat.{div-le_of_le-mul}
 use native.Mathlib.Numerals.{add-one}

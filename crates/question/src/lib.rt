@@ -323,7 +323,7 @@ fn extended_fault(b: &[u8], p: usize, q: usize, at: usize, size: usize) -> usize
 
 // ---- kinds and their order
 
-// "They stand in order of kind": the ranks of the records in this order; 0 stands before the head. Kinds 1 to 4 are their own ranks, and kind 11 stands behind.
+// "They stand in order of kind": the ranks of the records in this order; 0 stands before the head. Kinds 1 to 4 are their own ranks, and kind 11 stands after.
 pub const HEAD_RANK: usize = KIND_HEAD;
 
 const LITERAL_RANK: usize = KIND_LITERAL;
@@ -385,7 +385,7 @@ pub struct Progress {
     pub extended: usize,
 }
 
-// "They stand in order of kind"; "4 when a kind is unknown or out of its place (a 16th literal .. included)": a record of a rank behind the rank last and so many
+// "They stand in order of kind"; "4 when a kind is unknown or out of its place (a 16th literal .. included)": a record of a rank after the rank last and so many
 // literals, where ranks up to the greatest are taken.
 fn in_place(greatest: usize, last: usize, literals: usize, rank: usize) -> bool
     ensures { result ≡ rank_in_place greatest last literals rank }
@@ -424,7 +424,7 @@ fn body_fault(b: &[u8], s: Progress, kind: usize, at: usize, size: usize) -> usi
     }
 }
 
-// "At most 128 facts stand on a branch": where 10 is looked for, a constraint must find room behind those before it.
+// "At most 128 facts stand on a branch": where 10 is looked for, a constraint must find room after those before it.
 fn has_room(limited: bool, rank: usize, constraints: usize) -> bool
     ensures { result ≡ room_for limited rank constraints }
 {
@@ -437,7 +437,7 @@ fn has_room(limited: bool, rank: usize, constraints: usize) -> bool
     constraints < FACT_LIMIT
 }
 
-// The first number that applies to a whole record, 10 behind the others.
+// The first number that applies to a whole record, 10 after the others.
 fn record_fault(m: Manner, b: &[u8], s: Progress, kind: usize, at: usize, size: usize) -> usize
     requires stands_to { StandsTo b.now s at }
     requires kind_value { (kind ≡ kind_at b.now at) × (size ≡ size_at b.now at) × (at + 6 + size ≤ length b.now) }
@@ -593,7 +593,7 @@ pub fn read_question(m: Manner, b: &[u8]) -> Reading
 
 // ---- literals by number
 
-// The position behind k records from a position on.
+// The position after k records from a position on.
 pub fn behind_records(b: &[u8], k: usize, from: usize) -> usize
     requires { skip b.now k from ≤ length b.now }
     ensures { result ≡ skip b.now k from }
@@ -607,7 +607,7 @@ pub fn behind_records(b: &[u8], k: usize, from: usize) -> usize
     j
 }
 
-// The position behind l literals.
+// The position after l literals.
 pub fn behind_literals(b: &[u8], l: usize) -> usize
     requires { skip b.now l literals_from ≤ length b.now }
     ensures { result ≡ skip b.now l literals_from }

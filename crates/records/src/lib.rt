@@ -139,7 +139,7 @@ pub fn read_at(b: &[u8], at: usize) -> Found
     next_record(reader_at(b, at))
 }
 
-// The positions of count records from a position on, and of what stands behind them.
+// The positions of count records from a position on, and of what stands after them.
 pub fn record_places(b: &[u8], from: usize, count: usize) -> [usize; VARIABLE_LIMIT + 1]
     requires { (count ≤ variable_limit) × (skip b.now count from ≤ length b.now) }
     ensures { Placed b.now from count result }

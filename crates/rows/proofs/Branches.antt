@@ -71,7 +71,7 @@ branch_take w (suc k) m h = go (λ l. branch_take w k m l) (dec_lt m (suc k))
         let e : m ≡ suc k = omega arith in
         take_all m (branch_of w (suc k)) (rw (length_branch w (suc k)) (omega arith)) ∙ ap (λ (i : ℕ). branch_of w i) (sym e)
 
--- where facts were put behind the first k, these are as they were
+-- where facts were put after the first k, these are as they were
 pub branch_grown : (w v : List ℤ) (k m : ℕ) (c : List Fact) → branch_of v m ≡ branch_of w k ++ c → (k ≤ m) × (branch_of v k ≡ branch_of w k)
 branch_grown w v k m c e =
     let long : k ≤ m = omega (arith, sym (length_branch v m) ∙ ap length e ∙ length-append (branch_of w k) c, length_branch w k) in

@@ -78,7 +78,7 @@ pub fine_start : (w : List ℤ) → work_numbers ≤ length w → Fine w 0
 unfolding branch_of facts_within
 fine_start w h = record { few = omega arith; room = h; small = refl }
 
--- facts within the limit are put behind k others
+-- facts within the limit are put after k others
 pub fine_added : (w v : List ℤ) (k m : ℕ) (c : List Fact)
     → Fine w k
     → length v ≡ length w
@@ -144,7 +144,7 @@ module _ (z : ℤ) (n : ℕ) (h : nat_abs z ≤ n) (room : n ≤ 400000000000000
   pub under_is : to_z w64 (of_z w64 (negsuc 0 -ℤ to_z w64 (of_z w64 z))) ≡ (negsuc 0 *ℤ z) +ℤ negsuc 0
   under_is = to_z-of_z under_fits ∙ ap (λ x. negsuc 0 -ℤ x) (to_z-of_z fits) ∙ +ℤ_comm (negsuc 0) (neg_ℤ z) ∙ ap (λ x. x +ℤ negsuc 0) (sym (minus_one_*ℤ z))
 
--- number j of a row behind its tag
+-- number j of a row after its tag
 pub behind_tag : (row : List ℤ) (j : ℕ) → all_within number_limit (drop 1 row) ≡ true → 1 ≤ j → nat_abs (get_or row j (pos 0)) ≤ number_limit
 behind_tag [] j e h = omega arith
 behind_tag (x ∷ row) zero e h = absurd (omega arith)

@@ -123,7 +123,7 @@ tag_relation (pos (suc (suc (suc (suc (suc zero)))))) a b e h = absurd (omega ar
 tag_relation (pos (suc (suc (suc (suc (suc (suc n))))))) a b e h = refl
 tag_relation (negsuc n) a b e h = refl
 
--- a row of tag 0, 1 or 2 is ≥, = or ≠ of the form behind its tag
+-- a row of tag 0, 1 or 2 is ≥, = or ≠ of the form after its tag
 pub row_relation : (row : List ℤ) (k : ℕ) → k ≡ tag_of (fact_of row) → k ≤ 2 → fact_of row ≡ arithmetic (relation_of k) (drop 1 row)
 unfolding fact_of
 row_relation row k e h =

@@ -18,7 +18,7 @@ abbrev pub index : ℤ → ℕ
 index z = index_below variable_limit z
 
 -- what a row says by its tag: 0 is ≥, 1 is =, 3 is variable ≈ variable, 4 is ≉, 5 is variable ≈ literal, any other is ≠.
--- Of an arithmetic fact the form e stands behind the tag; of a string fact the operands a and b.
+-- Of an arithmetic fact the form e stands after the tag; of a string fact the operands a and b.
 unfoldable pub tagged : ℤ → ℕ → ℕ → List ℤ → Fact
 tagged (pos zero) a b e = arithmetic ge e
 tagged (pos (suc zero)) a b e = arithmetic eq e
@@ -40,6 +40,6 @@ row_at w k = take row_length (drop (row_length * k) w)
 unfoldable pub branch_of : List ℤ → ℕ → Branch
 branch_of w k = up_to (λ j. fact_of (row_at w j)) k
 
--- the fact f was put behind the first k facts
+-- the fact f was put after the first k facts
 abbrev pub Behind : List ℤ → ℕ → Fact → List ℤ → Type 0
 Behind w k f w' = branch_of w' (k + 1) ≡ branch_of w k ++ (f ∷ [])

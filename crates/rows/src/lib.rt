@@ -21,7 +21,7 @@ use limits::{COLUMN_LIMIT, LITERAL_NUMBERS, NUMBER_MAX, NUMBER_MIN, ROW_LENGTH, 
 // What the row says.
 pub const TAG: usize = 0;
 
-// Of an arithmetic fact: the constant of its form, and the coefficient of column 0, with the other columns behind it.
+// Of an arithmetic fact: the constant of its form, and the coefficient of column 0, with the other columns after it.
 pub const CONSTANT: usize = 1;
 
 pub const COEFFICIENTS: usize = 2;
@@ -167,7 +167,7 @@ fn fill_difference(row: &mut [i64], relation: usize, i: usize, j: usize)
 
 // ---- new facts, each in its own stretch of the work area
 
-// A string fact behind the first k facts.
+// A string fact after the first k facts.
 pub fn put_string(work: &mut [i64], k: usize, relation: usize, a: usize, b: usize)
     requires k_lt_fact_limit { (k < fact_limit) × (work_numbers ≤ length work.old) }
     requires relation_bound { (relation ≤ 2) × (a < variable_limit) × (b < variable_limit) }
@@ -178,7 +178,7 @@ pub fn put_string(work: &mut [i64], k: usize, relation: usize, a: usize, b: usiz
     fill_string(&mut work[from..to], relation, a, b);
 }
 
-// A constant and one coefficient related to 0, behind the first k facts.
+// A constant and one coefficient related to 0, after the first k facts.
 pub fn put_single(
     work: &mut [i64],
     k: usize,
@@ -196,7 +196,7 @@ pub fn put_single(
     fill_single(&mut work[from..to], relation, constant, column, coefficient);
 }
 
-// The difference of two columns related to 0, behind the first k facts.
+// The difference of two columns related to 0, after the first k facts.
 pub fn put_difference(work: &mut [i64], k: usize, relation: usize, i: usize, j: usize)
     requires k_lt_fact_limit { (k < fact_limit) × (work_numbers ≤ length work.old) }
     requires relation_bound { (relation ≤ 2) × (i < column_limit) × (j < column_limit) }
@@ -225,7 +225,7 @@ fn copy_row(work: &mut [i64], k: usize, earlier: usize)
     }
 }
 
-// e = 0, of the earlier row of e, behind the first k facts.
+// e = 0, of the earlier row of e, after the first k facts.
 pub fn put_equation(work: &mut [i64], k: usize, earlier: usize)
     requires { (earlier < k) × (k < fact_limit) × (work_numbers ≤ length work.old) }
     ensures { Behind work.old k (arithmetic eq (drop 1 (row_at work.old earlier))) work.new }
@@ -234,7 +234,7 @@ pub fn put_equation(work: &mut [i64], k: usize, earlier: usize)
     work[ROW_LENGTH * k + TAG] = TAG_EQ as i64;
 }
 
-// Row k becomes −e behind the tag of ≥, of the earlier row of e.
+// Row k becomes −e after the tag of ≥, of the earlier row of e.
 fn copy_negative(work: &mut [i64], k: usize, earlier: usize)
     requires earlier_lt_k { (earlier < k) × (k < fact_limit) × (work_numbers ≤ length work.old) }
     requires earlier_value { all_within number_limit (drop 1 (row_at work.old earlier)) ≡ true }
@@ -252,7 +252,7 @@ fn copy_negative(work: &mut [i64], k: usize, earlier: usize)
     }
 }
 
-// e − 1 ≥ 0, of the earlier row of e, behind the first k facts.
+// e − 1 ≥ 0, of the earlier row of e, after the first k facts.
 pub fn put_above(work: &mut [i64], k: usize, earlier: usize)
     requires earlier_lt_k { (earlier < k) × (k < fact_limit) × (work_numbers ≤ length work.old) }
     requires earlier_value { all_within number_limit (drop 1 (row_at work.old earlier)) ≡ true }
@@ -264,7 +264,7 @@ pub fn put_above(work: &mut [i64], k: usize, earlier: usize)
     work[ROW_LENGTH * k + CONSTANT] = c - 1;
 }
 
-// −e − 1 ≥ 0, of the earlier row of e, behind the first k facts.
+// −e − 1 ≥ 0, of the earlier row of e, after the first k facts.
 pub fn put_below(work: &mut [i64], k: usize, earlier: usize)
     requires earlier_lt_k { (earlier < k) × (k < fact_limit) × (work_numbers ≤ length work.old) }
     requires earlier_value { all_within number_limit (drop 1 (row_at work.old earlier)) ≡ true }
@@ -290,7 +290,7 @@ pub fn in_limit(x: i64) -> bool
     true
 }
 
-// Is every number behind the tag within the limit?
+// Is every number after the tag within the limit?
 fn form_within(row: &[i64]) -> bool
     requires { length row.now ≡ row_length }
     ensures { result ≡ all_within number_limit (drop 1 row.now) }
@@ -317,7 +317,7 @@ pub fn fact_within(row: &[i64]) -> bool
     form_within(row)
 }
 
-// A row becomes another one, up to the first number behind its tag that passes the limit. Is there none?
+// A row becomes another one, up to the first number after its tag that passes the limit. Is there none?
 fn fill_within(out: &mut [i64], row: &[i64]) -> bool
     requires { (length out.old ≡ row_length) × (length row.now ≡ row_length) }
     ensures value { result ≡ all_within number_limit (drop 1 row.now) }
@@ -337,7 +337,7 @@ fn fill_within(out: &mut [i64], row: &[i64]) -> bool
     true
 }
 
-// The given row of an arithmetic fact, behind the first k facts, where all its numbers are within the limit. Are they?
+// The given row of an arithmetic fact, after the first k facts, where all its numbers are within the limit. Are they?
 pub fn put_within(work: &mut [i64], k: usize, row: &[i64]) -> bool
     requires { (k < fact_limit) × (work_numbers ≤ length work.old) × (length row.now ≡ row_length) × (tag_of (fact_of row.now) ≤ 2) }
     ensures value { result ≡ fact_within (fact_of row.now) }

@@ -171,7 +171,7 @@ facts_at_law w k j h = element_map basic (branch_of w k) j (branch_at w k j h)
 
 -- ---- counting
 
--- at the join behind a test: one more is found where it was taken
+-- at the join after a test: one more is found where it was taken
 pub one_more : {A B : Type 0} {r : Bool} {found more : ℕ}
     → (A → r ≡ true)
     → (B → r ≡ false)

@@ -53,7 +53,7 @@ module _ (agree : ℕ → ℕ → Bool) (u : Question) (fs : List Fact) (es : Li
       ∙ ap₂ ◌&&◌ (every_alike basic _ _ (λ f. ap₂ agree (fact_occurs u u fs es f) (fact_occurs u v gs ds f)) fs)
       (every_alike extended _ _ (λ e. ap₂ agree (extended_occurs u u fs es e) (extended_occurs u v gs ds e)) es)
 
--- the normal forms of a question's facts, and its extended constraints behind them
+-- the normal forms of a question's facts, and its extended constraints after them
 abbrev pub normal_facts : Question → List Constraint
 normal_facts u = map basic (map normal u.constraints)
 

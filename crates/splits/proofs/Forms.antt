@@ -110,7 +110,7 @@ c_valid_size s x (suc zero) h g = ap (λ (cs : List (List Fact)). length (or_non
 c_valid_size s x (suc (suc zero)) h g = ap (λ (cs : List (List Fact)). length (or_none (child_at cs 2))) (one_range s x)
 c_valid_size s x (suc (suc (suc k))) h g = absurd (omega arith)
 
--- ---- facts put one behind the other
+-- ---- facts put one after the other
 
 pub put_two : (v w x : List ℤ) (k : ℕ) (f g : Fact)
     → branch_of w (k + 1) ≡ branch_of v k ++ (f ∷ [])

@@ -26,7 +26,7 @@ with_length : (x : ℕ) (ys : List ℕ) (more : List (List Fact)) → length (pa
 with_length x [] more = omega arith
 with_length x (y ∷ ys) more = omega (arith, with_length x ys more)
 
--- the variable at a position, with the others behind it
+-- the variable at a position, with the others after it
 module _ (b : List ℕ) (i others : ℕ) (more : List (List Fact)) where
   split_first : pair_children (u16s b i (others + 1)) more ≡ pair_children_with (u16 b i) (u16s b (i + 2) others) (pair_children (u16s b (i + 2) others) more)
   split_first = ap (λ l. pair_children l more) (u16s_one_more b i others)

@@ -1,4 +1,4 @@
--- Children as the code puts them behind the first count facts of a branch.
+-- Children as the code puts them after the first count facts of a branch.
 use Rattle.std.specs.Prelude.{ℕ, ◌+◌, Bool, List, [], ◌∷◌, ◌++◌, drop, ℤ, pos, negsuc, neg_ℤ}
 use Rattle.calculus.specs.Facts.{Fact, Branch, arithmetic, ge, eq, ne}
 use Rattle.calculus.specs.Children.{child_at, apart_children, pair_children}

@@ -74,7 +74,7 @@ fn all_differ(b: &[u8], at: usize, count: usize) -> bool
     true
 }
 
-// Card: "for each neighbouring pair a fact states their lengths' difference = 0", of the variable at a position and the others behind it.
+// Card: "for each neighbouring pair a fact states their lengths' difference = 0", of the variable at a position and the others after it.
 fn lengths_agree(
     b: &[u8],
     s: Progress,
@@ -152,7 +152,7 @@ pub fn fits(
     }
 }
 
-// ---- children with one fact, behind the first count facts
+// ---- children with one fact, after the first count facts
 
 // Branch: "Children e ≥ 0; −e−1 ≥ 0", of the form at a position, in a row's stretch with any contents.
 fn fill_branch(row: &mut [i64], b: &[u8], at: usize, pairs: usize, k: usize)
@@ -314,7 +314,7 @@ fn put_coded(work: &mut [i64], count: usize, len: usize, code: usize, low: usize
     rows::put_single(work, count + 2, GE, high as i64, code, -1);
 }
 
-// C-Valid's child k behind the facts of the branch; the number of facts then.
+// C-Valid's child k after the facts of the branch; the number of facts then.
 fn put_c_valid(work: &mut [i64], count: usize, s: Progress, x: usize, k: usize) -> usize
     requires k_bound { (count + k + 1 ≤ fact_limit) × (work_numbers ≤ length work.old) × (1 ≤ k) × (k ≤ 2) × (x < variable_limit) }
     requires p_le_variable_limit { (s.p ≤ variable_limit) × (s.q ≤ variable_limit) × (1 ≤ s.n) × (s.n ≤ alphabet_limit) }
@@ -330,7 +330,7 @@ fn put_c_valid(work: &mut [i64], count: usize, s: Progress, x: usize, k: usize) 
     count + 3
 }
 
-// Child k, which was tried, behind the facts of the branch; the number of facts then.
+// Child k, which was tried, after the facts of the branch; the number of facts then.
 pub fn put_child(
     ticket: &[u8],
     s: Progress,

@@ -1,4 +1,4 @@
--- The numbers 5 and 6 of a step's body, and what comes behind them.
+-- The numbers 5 and 6 of a step's body, and what comes after them.
 use Prim.Native.Nat.{ℕ, ◌+◌, ◌≤◌}
 use native.Mathlib.Omega.{arith}
 use mathlib.Core.Path.{◌≡◌, refl, sym, ◌∙◌, ap, ap₂}
@@ -57,7 +57,7 @@ module _ (b : List ℕ) (u : Question) (ok : Bool) (body m : ℕ) where
   pub child_passed : 0 ≡ step_fault b u ok 0 body m → ok ≡ true
   child_passed e = let (_, _, k) = chain_none (length_fits b body m) in_range ok e in k
 
-  -- ---- behind 5 and 6
+  -- ---- after 5 and 6
 
   pub applies : (f later : ℕ) → f ≡ step_fault b u ok 0 body m → (f ≡ 0 → ⊥) → f ≡ step_fault b u ok later body m
   applies f later e n = chain_later (length_fits b body m) (in_range && ok) f e n later

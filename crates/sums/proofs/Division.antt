@@ -54,7 +54,7 @@ exact_test x n h f = go (eqb (of_z w64 (quot_z x (pos n) *ℤ pos n)) (of_z w64 
 
 -- ---- a row
 
--- the row that division gives, behind the tag 0
+-- the row that division gives, after the tag 0
 abbrev pub quotients : List ℤ → ℕ → List ℤ
 quotients row n = pos 0 ∷ floor_div (get_or row 1 (pos 0)) n ∷ floor_div_all (drop 2 row) n
 
@@ -129,7 +129,7 @@ exactly_one row h =
     exactly_is row 1 h
     ∙ eqℤ_yes (pos 1 *ℤ floor_div c 1) c (one_*ℤ (floor_div c 1) ∙ floor_one c)
 
--- ---- the tag, and the form behind it
+-- ---- the tag, and the form after it
 
 -- a row with a known tag
 pub tag_first : (row : List ℤ) (z : ℤ) → length row ≡ 50 → get_or row 0 (pos 0) ≡ z → row ≡ z ∷ drop 1 row

@@ -1,4 +1,4 @@
--- The fact that a Sum adds: whether every fact named is an equation, what is left of that behind i of n pairs, and the tag of the fact's row.
+-- The fact that a Sum adds: whether every fact named is an equation, what is left of that after i of n pairs, and the tag of the fact's row.
 use Prim.Native.Nat.{ℕ, ◌+◌, ◌*◌, ◌-◌, ◌≤◌, ◌<◌}
 use mathlib.Core.Path.{◌≡◌, refl, sym, ◌∙◌, ap, ap₂}
 use mathlib.Core.Bool.{Bool, true, false, cond, ◌&&◌}

@@ -1,4 +1,4 @@
--- The loop of rule 1: what holds of the sum behind i of n pairs, and what one pair more does to it.
+-- The loop of rule 1: what holds of the sum after i of n pairs, and what one pair more does to it.
 use Prim.Native.Nat.{ℕ, zero, suc, ◌+◌, ◌*◌, ◌-◌, ◌≤◌, ◌<◌}
 use native.Mathlib.Omega.{arith}
 use mathlib.Core.Path.{◌≡◌, refl, sym, ◌∙◌, ap, subst}
@@ -29,7 +29,7 @@ unfolding pairs_at
 first_pair b at k = refl
 
 module _ (w : List ℤ) (count : ℕ) (b : List ℕ) (at n : ℕ) where
-  -- behind i pairs the sum has its tag 0, and what is left to add makes it the whole sum
+  -- after i pairs the sum has its tag 0, and what is left to add makes it the whole sum
   pub record Summing (sum : List ℤ) (i : ℕ) : Type 0 where
     pub bound : i ≤ n
     pub long : length sum ≡ 50

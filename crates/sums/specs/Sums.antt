@@ -7,7 +7,7 @@ use Rattle.calculus.specs.Rules.{guard, then, sum_of, divided, sum_relation}
 use Rattle.rows.specs.Rows.{fact_of}
 use Rattle.rows.specs.Work.{tag_of}
 
--- a row's form times m added to a sum behind its tag
+-- a row's form times m added to a sum after its tag
 unfoldable pub added : List ℤ → ℤ → List ℤ → List ℤ
 added sum m row = take 1 sum ++ plus (drop 1 sum) (scale m (drop 1 row))
 

@@ -9,7 +9,7 @@ use Rattle.format.specs.Fields.{bytes_of}
 use Rattle.format.specs.Answer.{record_bytes}
 use Rattle.format.proofs.Encoded.{length_bytes}
 
--- length and kind, and then the body, stored behind each other are the record
+-- length and kind, and then the body, stored one after the other, are the record
 pub record_put : (b : List ℕ) (at m k : ℕ) (body : List ℕ)
     → m ≡ length body
     → sets (sets b at (bytes_of 4 m ++ bytes_of 2 k)) (at + 6) body ≡ sets b at (record_bytes k body)

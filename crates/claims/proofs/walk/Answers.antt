@@ -204,7 +204,7 @@ broughtOf t = t.grounds_upto-grounds.result
 abbrev setOf : Taken → Words
 setOf t = t.set_of-set.result
 
--- the work area behind it
+-- the work area after it
 abbrev workOf : Taken → List ℤ
 workOf t = t.take_step.new.work
 

@@ -14,7 +14,7 @@ use Rattle.format.proofs.Fields.{signed_low, signed_high}
 use Rattle.records.proofs.Signed.{signed_bound}
 use Rattle.judging.proofs.number_at.Goals as goal
 
--- half the range put on top, and taken off behind the wrap
+-- half the range put on top, and taken off after the wrap
 turned-back : (u : ℕ) → u < 4294967296 → to_z w64 ((u + 2147483648) % 4294967296) -ℤ pos 2147483648 ≡ signed u
 turned-back u h = ap (λ (z : ℤ). z -ℤ pos 2147483648) (to_z_low w64 ((u + 2147483648) % 4294967296) (omega arith)) ∙ go (dec_lt u 2147483648)
   where

@@ -149,7 +149,7 @@ take_step-requires c =
 fits : (n : ℕ) → n ≤ ticket_bytes → Fits w64 n
 fits n h = omega arith
 
--- the slices behind it
+-- the slices after it
 abbrev marksOf : After-take_step → List ℕ
 marksOf c = c.take_step.new.marks
 

@@ -29,7 +29,7 @@ module _ (m : Manner) (b : List ℕ) (s : Progress) (at k n : ℕ) (w : (k ≡ k
   misplaced : t ≡ false → 4 ≡ question_fault (manner_of m) b (progress_of b s) at
   misplaced e = out_of_place (manner_of m) b (progress_of b s) at k n w.0 w.1 w.2 (same_place false e)
 
-  -- the literals are compared with a further one behind the head only
+  -- the literals are compared with a further one after the head only
   literals_there : StandsTo b s at → t ≡ true → rank_of k ≡ literal_rank → skip b s.literals literals_from ≤ length b
   literals_there h e z =
       let rank : r ≡ literal_rank = er ∙ z in

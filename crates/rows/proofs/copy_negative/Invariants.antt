@@ -7,7 +7,7 @@ use Rattle.calculus.specs.LinearForms.{scale}
 use Rattle.rows.specs.Rows.{row_at}
 use Rattle.rows.proofs.copy_negative.Given as goal
 
--- −e behind the tag of ≥, of row i
+-- −e after the tag of ≥, of row i
 abbrev pub negative : List ℤ → ℕ → List ℤ
 negative w i = pos 0 ∷ scale (negsuc 0) (drop 1 (row_at w i))
 

@@ -15,7 +15,7 @@ use Rattle.sameness.specs.Ready.{literal_named}
 use Rattle.sameness.proofs.rows_alike.Goals as goal
 use Rattle.sameness.proofs.rows_alike.Goals.{After-literal_at-then-tag-eq-TAG_LITERAL, Else-tag-tag_of, Else-variable_at}
 
--- behind the first test the two rows have one tag
+-- after the first test the two rows have one tag
 module _ (c : Else-tag-tag_of) where
   abbrev row : List ℤ
   row = c.args.row.now
@@ -30,7 +30,7 @@ module _ (c : Else-tag-tag_of) where
   other_tag : c.tag_of-tag.result ≡ tag_of (fact_of other)
   other_tag = c.if-tag-tag_of.false ∙ c.tag_of.ensures
 
--- behind the third test they have one first operand as well
+-- after the third test they have one first operand as well
 firsts : (c : Else-variable_at) →
     index (get_or (row (goal.at.Else-variable_at c).Else-tag-tag_of) 1 (pos 0)) ≡ index (get_or (other (goal.at.Else-variable_at c).Else-tag-tag_of) 1 (pos 0))
 firsts c = sym c.variable_at.ensures.value ∙ c.if-variable_at.false ∙ c.variable_at-2.ensures.value

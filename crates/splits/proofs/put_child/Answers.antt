@@ -40,7 +40,7 @@ there s = taken_fits (before s.requires.ready_by.ready) (taken s) s.requires.k_v
 roomy : (s : Start) → s.args.count + length (or_none (taken s)) ≤ fact_limit
 roomy s = omega (arith, length_branch s.args.work.now s.args.count, taken_room (before s.requires.ready_by.ready) (taken s) s.requires.k_value)
 
--- behind its facts the rows are fine
+-- after its facts the rows are fine
 fine : (s : Start) (v : List ℤ) (r : ℕ) → length v ≡ length s.args.work.now → branch_of v r ≡ before s.requires.ready_by.ready ++ or_none (taken s) → Fine v r
 fine s v r l e =
     let h = s.requires.ready_by.ready in

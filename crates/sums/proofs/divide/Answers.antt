@@ -81,7 +81,7 @@ inexact : (c : Then-q-d)
     → ⊥
 inexact c e = c.if-q-d.true (ap (of_z w64) (back (goal.at.Then-q-d c).After-x-1 ∙ e))
 
--- behind the loop: every column is divided
+-- after the loop: every column is divided
 module _ (c : After-loop-j) where
   exit : c.loop-j.row ≡ partly c.args.row.now (n (goal.at.After-loop-j c).Start)
   exit =
