@@ -272,13 +272,14 @@ shape_of-sets-in-Refused c = same-sets (goal.at.shape_of-sets-in-Refused c).At-l
 pub returns-in-Refused : goal.returns-in-Refused
 unfolding LeafAt CoreAt Acts
 returns-in-Refused c =
+    let here = (goal.at.returns-in-Refused c).After-take_step in
     let b = bytes (goal.at.returns-in-Refused c).At-loop-rule in
     let a = c.args in
     let o = c.loop-rule in
     let e = c.in-Refused.is in
-    let st = stepped (goal.at.returns-in-Refused c).After-take_step in record {
-      walked = going_refused b a.s (going (goal.at.returns-in-Refused c).After-take_step) _ st.whole _ (ap number_of (sym e) ∙ st.number)
-          (subst (Acts a.claim b (asked b a.s) o.i o.b.depth o.work o.b.count (workOf (goal.at.returns-in-Refused c).After-take_step)) e st.acts);
+    let st = stepped here in record {
+      walked = going_refused b a.s (going here) _ st.whole _ (ap number_of (sym e) ∙ st.number)
+          (subst (Acts a.claim b (asked b a.s) o.i o.b.depth o.work o.b.count (workOf here)) e st.acts);
       leaf = tt;
       core = tt;
     }
@@ -296,17 +297,18 @@ shape_of-sets-then-depth-eq0 c = same-sets (goal.at.shape_of-sets-then-depth-eq0
 pub returns-then-depth-eq0 : goal.returns-then-depth-eq0
 unfolding LeafAt CoreAt
 returns-then-depth-eq0 c =
+    let here = (goal.at.returns-then-depth-eq0 c).After-take_step in
     let a = c.args in
     let b = a.ticket.now in
     let q = c.in-Closes.is in
     let all =
     ap (λ (x : Grounds). x.core) c.with_closing-grounds.ensures
-    ∙ gathering_all b a.s a.claim (gathering (goal.at.returns-then-depth-eq0 c).After-take_step)
-    (stepped (goal.at.returns-then-depth-eq0 c).After-take_step) (resting (goal.at.returns-then-depth-eq0 c).After-take_step) q
+    ∙ gathering_all b a.s a.claim (gathering here)
+    (stepped here) (resting here) q
     (no_split c.loop-rule.b c.if-depth-eq0.true) in
     record {
       walked =
-          going_closed b a.s a.claim (going (goal.at.returns-then-depth-eq0 c).After-take_step) (stepped (goal.at.returns-then-depth-eq0 c).After-take_step) q
+          going_closed b a.s a.claim (going here) (stepped here) q
           c.if-depth-eq0.true _ _ _;
       leaf = tt;
       core = (ap (λ (x : Words). x.low) all, ap (λ (x : Words). x.high) all);
@@ -336,14 +338,15 @@ latest-split-requires c =
 
 pub set_at-set-requires : goal.set_at-set-requires
 set_at-set-requires c =
+    let here = (goal.at.set_at-set-requires c).After-take_step in
     let q = c.in-Closes.is in
     let deep = open_depth c.loop-rule.b c.if-depth-eq0.false in
     let a = c.args in
     let latest = c.latest-split in
     let below =
-    fact_at_mark a.ticket.now a.s a.claim (gathering (goal.at.set_at-set-requires c).After-take_step)
-    (going (goal.at.set_at-set-requires c).After-take_step) (stepped (goal.at.set_at-set-requires c).After-take_step) q deep latest.result latest.ensures in
-    (omega (arith, few_facts (opened (goal.at.set_at-set-requires c).After-take_step q).0, below), roomy (goal.at.set_at-set-requires c).At-loop-rule)
+    fact_at_mark a.ticket.now a.s a.claim (gathering here)
+    (going here) (stepped here) q deep latest.result latest.ensures in
+    (omega (arith, few_facts (opened here q).0, below), roomy (goal.at.set_at-set-requires c).At-loop-rule)
 
 pub next_child-b-requires : goal.next_child-b-requires
 next_child-b-requires c =
@@ -439,6 +442,7 @@ all-roots l =
 
 pub loop-rule-preserved : goal.loop-rule-preserved
 loop-rule-preserved c =
+    let here = (goal.at.loop-rule-preserved c).After-take_step in
     let a = c.args in
     let b = bytes (goal.at.loop-rule-preserved c).At-loop-rule in
     let o = c.loop-rule in
@@ -452,51 +456,51 @@ loop-rule-preserved c =
           let split = w.latest-split in
           let mark = split.result.mark in
           let known =
-          subst (λ (x : Known). Knows (workOf (goal.at.loop-rule-preserved c).After-take_step) mark x) (sym w.set_back-known.ensures)
-          (knows_back (workOf (goal.at.loop-rule-preserved c).After-take_step) o.b.count mark (labelsOf (goal.at.loop-rule-preserved c).After-take_step)
-          c.first_known-first.result (opened (goal.at.loop-rule-preserved c).After-take_step q).1
-          (subst (λ (x : Split). Knows (workOf (goal.at.loop-rule-preserved c).After-take_step) x.mark c.first_known-first.result) (sym split.ensures)
-          (first_there (goal.at.loop-rule-preserved c).After-take_step q deep))) in (
+          subst (λ (x : Known). Knows (workOf here) mark x) (sym w.set_back-known.ensures)
+          (knows_back (workOf here) o.b.count mark (labelsOf here)
+          c.first_known-first.result (opened here q).1
+          (subst (λ (x : Split). Knows (workOf here) x.mark c.first_known-first.result) (sym split.ensures)
+          (first_there here q deep))) in (
             going_same b a.s w.work-is w.b-is w.known-is
-                (going_next b a.s a.claim (going (goal.at.loop-rule-preserved c).After-take_step) (stepped (goal.at.loop-rule-preserved c).After-take_step)
+                (going_next b a.s a.claim (going here) (stepped here)
                 q _ w.next_child-b.result w.set_back-known.result w.next_child-b.ensures.state w.next_child-b.ensures.holds
-                (known_below b a.s (workOf (goal.at.loop-rule-preserved c).After-take_step) _ mark w.next_child-b.result w.set_back-known.result
+                (known_below b a.s (workOf here) _ mark w.next_child-b.result w.set_back-known.result
                 w.next_child-b.ensures.below known)
-                (w.next_child-b.auto.work ∙ same-work (goal.at.loop-rule-preserved c).After-take_step)),
+                (w.next_child-b.auto.work ∙ same-work here)),
             gathering_same b a.s w.work-is refl w.b-is (w.known-is ∙ w.set_back-known.ensures)
                 (w.grounds-is
                 ∙ w.grounds_back-grounds.ensures
-                ∙ ap (λ (x : Grounds). grounds_back x (labelsOf (goal.at.loop-rule-preserved c).After-take_step).upto mark) w.with_closing-grounds.ensures)
+                ∙ ap (λ (x : Grounds). grounds_back x (labelsOf here).upto mark) w.with_closing-grounds.ensures)
                 (gathering_next b a.s q deep split.result split.ensures _ w.next_child-b.result w.next_child-b.ensures.state a.claim
-                (gathering (goal.at.loop-rule-preserved c).After-take_step) (going (goal.at.loop-rule-preserved c).After-take_step)
-                (stepped (goal.at.loop-rule-preserved c).After-take_step)
-                (resting (goal.at.loop-rule-preserved c).After-take_step) n _
+                (gathering here) (going here)
+                (stepped here)
+                (resting here) n _
                 (λ e. filled_as w.count-is (ap (λ (x : code.Branch). x.count) w.b-is) (w.set-is ∙ w.set_at-set.ensures) (filled e))
                 c.first_known-first.result c.first_known-first.ensures.upto_value),
             same,
           )
       | in-Extends w ↦ (
         going_same b a.s w.work-is w.b-is w.known-is
-            (going_one b a.s a.claim _ (going (goal.at.loop-rule-preserved c).After-take_step) (stepped (goal.at.loop-rule-preserved c).After-take_step)
-            w.in-Extends.is w.extend-b.result w.extend-b.ensures.0 w.extend-b.ensures.1 (same-work (goal.at.loop-rule-preserved c).After-take_step)),
+            (going_one b a.s a.claim _ (going here) (stepped here)
+            w.in-Extends.is w.extend-b.result w.extend-b.ensures.0 w.extend-b.ensures.1 (same-work here)),
         gathering_same b a.s w.work-is refl w.b-is w.known-is w.grounds-is
             (gathering_one b a.s _ w.in-Extends.is w.extend-b.result w.extend-b.ensures.0 w.extend-b.ensures.1 a.claim
-            (gathering (goal.at.loop-rule-preserved c).After-take_step) (going (goal.at.loop-rule-preserved c).After-take_step)
-            (stepped (goal.at.loop-rule-preserved c).After-take_step)
-            (resting (goal.at.loop-rule-preserved c).After-take_step) n _
+            (gathering here) (going here)
+            (stepped here)
+            (resting here) n _
             (λ e. filled_as w.count-is (ap (λ (x : code.Branch). x.count) w.b-is) w.set-is (filled e))),
         same,
       )
       | in-Splits w ↦ (
         going_same b a.s w.work-is w.b-is w.known-is
-            (going_more b a.s a.claim _ _ (going (goal.at.loop-rule-preserved c).After-take_step) (stepped (goal.at.loop-rule-preserved c).After-take_step)
+            (going_more b a.s a.claim _ _ (going here) (stepped here)
             w.in-Splits.is w.extend-b-in-Splits.result w.extend-b-in-Splits.ensures.0 (w.extend-b-in-Splits.ensures.1 ∙ w.mark.ensures.1)
-            (same-work (goal.at.loop-rule-preserved c).After-take_step)),
+            (same-work here)),
         gathering_same b a.s w.work-is refl w.b-is w.known-is w.grounds-is
             (gathering_several b a.s _ _ w.in-Splits.is w.extend-b-in-Splits.result w.extend-b-in-Splits.ensures.0
-            (w.extend-b-in-Splits.ensures.1 ∙ w.mark.ensures.1) a.claim (gathering (goal.at.loop-rule-preserved c).After-take_step)
-            (going (goal.at.loop-rule-preserved c).After-take_step)
-            (stepped (goal.at.loop-rule-preserved c).After-take_step) (resting (goal.at.loop-rule-preserved c).After-take_step) n _
+            (w.extend-b-in-Splits.ensures.1 ∙ w.mark.ensures.1) a.claim (gathering here)
+            (going here)
+            (stepped here) (resting here) n _
             (λ e. filled_as w.count-is (ap (λ (x : code.Branch). x.count) w.b-is) w.set-is (filled e))),
         same,
       )

@@ -89,154 +89,174 @@ module _ (c : After-u16_at-y) where
 
 pub bounds-places-x : goal.bounds-places-x
 bounds-places-x c =
-    place-there (goal.at.bounds-places-x c).After-u16_at-y (x (goal.at.bounds-places-x c).After-u16_at-y)
-    (first_string (goal.at.bounds-places-x c).After-u16_at-y (λ e. omega (arith, e, c.in-0.is)))
+    let here = (goal.at.bounds-places-x c).After-u16_at-y in
+    place-there here (x here)
+    (first_string here (λ e. omega (arith, e, c.in-0.is)))
 
 pub bounds-places-y : goal.bounds-places-y
 bounds-places-y c =
-    place-there (goal.at.bounds-places-y c).After-u16_at-y (y (goal.at.bounds-places-y c).After-u16_at-y)
-    (second_string (goal.at.bounds-places-y c).After-u16_at-y (λ e. omega (arith, e, c.in-0.is)))
+    let here = (goal.at.bounds-places-y c).After-u16_at-y in
+    place-there here (y here)
+    (second_string here (λ e. omega (arith, e, c.in-0.is)))
 
 pub cased-requires : goal.cased-requires
 cased-requires c =
+    let here = (goal.at.cased-requires c).After-u16_at-y in
     let is = c.in-0.is in (
-      text_there (goal.at.cased-requires c).After-u16_at-y (x (goal.at.cased-requires c).After-u16_at-y)
-          (first_string (goal.at.cased-requires c).After-u16_at-y (λ e. omega (arith, e, is))),
-      text_there (goal.at.cased-requires c).After-u16_at-y (y (goal.at.cased-requires c).After-u16_at-y)
-          (second_string (goal.at.cased-requires c).After-u16_at-y (λ e. omega (arith, e, is))),
+      text_there here (x here)
+          (first_string here (λ e. omega (arith, e, is))),
+      text_there here (y here)
+          (second_string here (λ e. omega (arith, e, is))),
     )
 
 pub returns-in-0 : goal.returns-in-0
 returns-in-0 c =
-    let is = tested (goal.at.returns-in-0 c).After-u16_at-y c.in-0.is in
+    let here = (goal.at.returns-in-0 c).After-u16_at-y in
+    let is = tested here c.in-0.is in
     c.cased.ensures
-    ∙ ap₂ (λ i j. eq_string (text_at (v (goal.at.returns-in-0 c).After-u16_at-y) (get_or (places (goal.at.returns-in-0 c).After-u16_at-y) i 0))
-    (upper (text_at (v (goal.at.returns-in-0 c).After-u16_at-y) (get_or (places (goal.at.returns-in-0 c).After-u16_at-y) j 0))))
-    (x-is (goal.at.returns-in-0 c).After-u16_at-y) (y-is (goal.at.returns-in-0 c).After-u16_at-y)
-    ∙ functions.upper_met (b (goal.at.returns-in-0 c).After-u16_at-y) (v (goal.at.returns-in-0 c).After-u16_at-y)
-    (s (goal.at.returns-in-0 c).After-u16_at-y) (places (goal.at.returns-in-0 c).After-u16_at-y) (values (goal.at.returns-in-0 c).After-u16_at-y)
-    c.requires.0 (at (goal.at.returns-in-0 c).After-u16_at-y) c.requires.2
+    ∙ ap₂ (λ i j. eq_string (text_at (v here) (get_or (places here) i 0))
+    (upper (text_at (v here) (get_or (places here) j 0))))
+    (x-is here) (y-is here)
+    ∙ functions.upper_met (b here) (v here)
+    (s here) (places here) (values here)
+    c.requires.0 (at here) c.requires.2
     (λ e. omega (arith, e, is)) (λ e. omega (arith, e, is)) is
 
 pub bounds-places-x-in-1 : goal.bounds-places-x-in-1
 bounds-places-x-in-1 c =
-    place-there (goal.at.bounds-places-x-in-1 c).After-u16_at-y (x (goal.at.bounds-places-x-in-1 c).After-u16_at-y)
-    (first_string (goal.at.bounds-places-x-in-1 c).After-u16_at-y (λ e. omega (arith, e, c.in-1.is)))
+    let here = (goal.at.bounds-places-x-in-1 c).After-u16_at-y in
+    place-there here (x here)
+    (first_string here (λ e. omega (arith, e, c.in-1.is)))
 
 pub bounds-places-y-in-1 : goal.bounds-places-y-in-1
 bounds-places-y-in-1 c =
-    place-there (goal.at.bounds-places-y-in-1 c).After-u16_at-y (y (goal.at.bounds-places-y-in-1 c).After-u16_at-y)
-    (second_string (goal.at.bounds-places-y-in-1 c).After-u16_at-y (λ e. omega (arith, e, c.in-1.is)))
+    let here = (goal.at.bounds-places-y-in-1 c).After-u16_at-y in
+    place-there here (y here)
+    (second_string here (λ e. omega (arith, e, c.in-1.is)))
 
 pub cased-requires-in-1 : goal.cased-requires-in-1
 cased-requires-in-1 c =
+    let here = (goal.at.cased-requires-in-1 c).After-u16_at-y in
     let is = c.in-1.is in (
-      text_there (goal.at.cased-requires-in-1 c).After-u16_at-y (x (goal.at.cased-requires-in-1 c).After-u16_at-y)
-          (first_string (goal.at.cased-requires-in-1 c).After-u16_at-y (λ e. omega (arith, e, is))),
-      text_there (goal.at.cased-requires-in-1 c).After-u16_at-y (y (goal.at.cased-requires-in-1 c).After-u16_at-y)
-          (second_string (goal.at.cased-requires-in-1 c).After-u16_at-y (λ e. omega (arith, e, is))),
+      text_there here (x here)
+          (first_string here (λ e. omega (arith, e, is))),
+      text_there here (y here)
+          (second_string here (λ e. omega (arith, e, is))),
     )
 
 pub returns-in-1 : goal.returns-in-1
 returns-in-1 c =
-    let is = tested (goal.at.returns-in-1 c).After-u16_at-y c.in-1.is in
+    let here = (goal.at.returns-in-1 c).After-u16_at-y in
+    let is = tested here c.in-1.is in
     c.cased-in-1.ensures
-    ∙ ap₂ (λ i j. eq_string (text_at (v (goal.at.returns-in-1 c).After-u16_at-y) (get_or (places (goal.at.returns-in-1 c).After-u16_at-y) i 0))
-    (lower (text_at (v (goal.at.returns-in-1 c).After-u16_at-y) (get_or (places (goal.at.returns-in-1 c).After-u16_at-y) j 0))))
-    (x-is (goal.at.returns-in-1 c).After-u16_at-y) (y-is (goal.at.returns-in-1 c).After-u16_at-y)
-    ∙ functions.lower_met (b (goal.at.returns-in-1 c).After-u16_at-y) (v (goal.at.returns-in-1 c).After-u16_at-y)
-    (s (goal.at.returns-in-1 c).After-u16_at-y) (places (goal.at.returns-in-1 c).After-u16_at-y) (values (goal.at.returns-in-1 c).After-u16_at-y)
-    c.requires.0 (at (goal.at.returns-in-1 c).After-u16_at-y) c.requires.2
+    ∙ ap₂ (λ i j. eq_string (text_at (v here) (get_or (places here) i 0))
+    (lower (text_at (v here) (get_or (places here) j 0))))
+    (x-is here) (y-is here)
+    ∙ functions.lower_met (b here) (v here)
+    (s here) (places here) (values here)
+    c.requires.0 (at here) c.requires.2
     (λ e. omega (arith, e, is)) (λ e. omega (arith, e, is)) is
 
 pub bounds-places-y-in-2 : goal.bounds-places-y-in-2
 bounds-places-y-in-2 c =
-    place-there (goal.at.bounds-places-y-in-2 c).After-u16_at-y (y (goal.at.bounds-places-y-in-2 c).After-u16_at-y)
-    (second_string (goal.at.bounds-places-y-in-2 c).After-u16_at-y (λ e. omega (arith, e, c.in-2.is)))
+    let here = (goal.at.bounds-places-y-in-2 c).After-u16_at-y in
+    place-there here (y here)
+    (second_string here (λ e. omega (arith, e, c.in-2.is)))
 
 pub bounds-values-x : goal.bounds-values-x
 bounds-values-x c =
-    value_there (goal.at.bounds-values-x c).After-u16_at-y (x (goal.at.bounds-values-x c).After-u16_at-y)
-    (first_integer (goal.at.bounds-values-x c).After-u16_at-y c.in-2.is)
+    let here = (goal.at.bounds-values-x c).After-u16_at-y in
+    value_there here (x here)
+    (first_integer here c.in-2.is)
 
 pub reads_as-requires : goal.reads_as-requires
-reads_as-requires c = (
-  text_there (goal.at.reads_as-requires c).After-u16_at-y (y (goal.at.reads_as-requires c).After-u16_at-y)
-      (second_string (goal.at.reads_as-requires c).After-u16_at-y (λ e. omega (arith, e, c.in-2.is))),
-  value_small (b (goal.at.reads_as-requires c).After-u16_at-y) (v (goal.at.reads_as-requires c).After-u16_at-y)
-      (s (goal.at.reads_as-requires c).After-u16_at-y) (places (goal.at.reads_as-requires c).After-u16_at-y)
-      (values (goal.at.reads_as-requires c).After-u16_at-y) c.requires.0 (x (goal.at.reads_as-requires c).After-u16_at-y),
-)
+reads_as-requires c =
+    let here = (goal.at.reads_as-requires c).After-u16_at-y in (
+      text_there here (y here)
+          (second_string here (λ e. omega (arith, e, c.in-2.is))),
+      value_small (b here) (v here)
+          (s here) (places here)
+          (values here) c.requires.0 (x here),
+    )
 
 pub returns-in-2 : goal.returns-in-2
 returns-in-2 c =
+    let here = (goal.at.returns-in-2 c).After-u16_at-y in
     c.reads_as.ensures
-    ∙ ap₂ (λ i j. eqℤ (to_z w64 (of_z w64 (get_or (values (goal.at.returns-in-2 c).After-u16_at-y) i (pos 0))))
-    (to_int (text_at (v (goal.at.returns-in-2 c).After-u16_at-y) (get_or (places (goal.at.returns-in-2 c).After-u16_at-y) j 0))))
-    (x-is (goal.at.returns-in-2 c).After-u16_at-y) (y-is (goal.at.returns-in-2 c).After-u16_at-y)
-    ∙ functions.value_met (b (goal.at.returns-in-2 c).After-u16_at-y) (v (goal.at.returns-in-2 c).After-u16_at-y)
-    (s (goal.at.returns-in-2 c).After-u16_at-y) (places (goal.at.returns-in-2 c).After-u16_at-y) (values (goal.at.returns-in-2 c).After-u16_at-y)
-    c.requires.0 (at (goal.at.returns-in-2 c).After-u16_at-y) c.requires.2
-    (tested (goal.at.returns-in-2 c).After-u16_at-y c.in-2.is)
+    ∙ ap₂ (λ i j. eqℤ (to_z w64 (of_z w64 (get_or (values here) i (pos 0))))
+    (to_int (text_at (v here) (get_or (places here) j 0))))
+    (x-is here) (y-is here)
+    ∙ functions.value_met (b here) (v here)
+    (s here) (places here) (values here)
+    c.requires.0 (at here) c.requires.2
+    (tested here c.in-2.is)
 
 pub bounds-places-x-in-3 : goal.bounds-places-x-in-3
 bounds-places-x-in-3 c =
-    place-there (goal.at.bounds-places-x-in-3 c).After-u16_at-y (x (goal.at.bounds-places-x-in-3 c).After-u16_at-y)
-    (first_string (goal.at.bounds-places-x-in-3 c).After-u16_at-y (λ e. omega (arith, e, c.in-3.is)))
+    let here = (goal.at.bounds-places-x-in-3 c).After-u16_at-y in
+    place-there here (x here)
+    (first_string here (λ e. omega (arith, e, c.in-3.is)))
 
 pub bounds-values-y : goal.bounds-values-y
 bounds-values-y c =
-    value_there (goal.at.bounds-values-y c).After-u16_at-y (y (goal.at.bounds-values-y c).After-u16_at-y)
-    (second_integer (goal.at.bounds-values-y c).After-u16_at-y c.in-3.is)
+    let here = (goal.at.bounds-values-y c).After-u16_at-y in
+    value_there here (y here)
+    (second_integer here c.in-3.is)
 
 pub written_as-requires : goal.written_as-requires
-written_as-requires c = (
-  text_there (goal.at.written_as-requires c).After-u16_at-y (x (goal.at.written_as-requires c).After-u16_at-y)
-      (first_string (goal.at.written_as-requires c).After-u16_at-y (λ e. omega (arith, e, c.in-3.is))),
-  value_small (b (goal.at.written_as-requires c).After-u16_at-y) (v (goal.at.written_as-requires c).After-u16_at-y)
-      (s (goal.at.written_as-requires c).After-u16_at-y) (places (goal.at.written_as-requires c).After-u16_at-y)
-      (values (goal.at.written_as-requires c).After-u16_at-y) c.requires.0 (y (goal.at.written_as-requires c).After-u16_at-y),
-)
+written_as-requires c =
+    let here = (goal.at.written_as-requires c).After-u16_at-y in (
+      text_there here (x here)
+          (first_string here (λ e. omega (arith, e, c.in-3.is))),
+      value_small (b here) (v here)
+          (s here) (places here)
+          (values here) c.requires.0 (y here),
+    )
 
 pub returns-in-3 : goal.returns-in-3
 returns-in-3 c =
+    let here = (goal.at.returns-in-3 c).After-u16_at-y in
     c.written_as.ensures
-    ∙ ap₂ (λ i j. eq_string (text_at (v (goal.at.returns-in-3 c).After-u16_at-y) (get_or (places (goal.at.returns-in-3 c).After-u16_at-y) i 0))
-    (from_int (to_z w64 (of_z w64 (get_or (values (goal.at.returns-in-3 c).After-u16_at-y) j (pos 0))))))
-    (x-is (goal.at.returns-in-3 c).After-u16_at-y) (y-is (goal.at.returns-in-3 c).After-u16_at-y)
-    ∙ functions.decimal_met (b (goal.at.returns-in-3 c).After-u16_at-y) (v (goal.at.returns-in-3 c).After-u16_at-y)
-    (s (goal.at.returns-in-3 c).After-u16_at-y) (places (goal.at.returns-in-3 c).After-u16_at-y) (values (goal.at.returns-in-3 c).After-u16_at-y)
-    c.requires.0 (at (goal.at.returns-in-3 c).After-u16_at-y) c.requires.2
-    (tested (goal.at.returns-in-3 c).After-u16_at-y c.in-3.is)
+    ∙ ap₂ (λ i j. eq_string (text_at (v here) (get_or (places here) i 0))
+    (from_int (to_z w64 (of_z w64 (get_or (values here) j (pos 0))))))
+    (x-is here) (y-is here)
+    ∙ functions.decimal_met (b here) (v here)
+    (s here) (places here) (values here)
+    c.requires.0 (at here) c.requires.2
+    (tested here c.in-3.is)
 
 pub bounds-places-x-in_default : goal.bounds-places-x-in_default
 bounds-places-x-in_default c =
-    place-there (goal.at.bounds-places-x-in_default c).After-u16_at-y (x (goal.at.bounds-places-x-in_default c).After-u16_at-y)
-    (first_string (goal.at.bounds-places-x-in_default c).After-u16_at-y c.in_default.in_default-own.rest.0.1)
+    let here = (goal.at.bounds-places-x-in_default c).After-u16_at-y in
+    place-there here (x here)
+    (first_string here c.in_default.in_default-own.rest.0.1)
 
 pub bounds-places-y-in_default : goal.bounds-places-y-in_default
 bounds-places-y-in_default c =
-    place-there (goal.at.bounds-places-y-in_default c).After-u16_at-y (y (goal.at.bounds-places-y-in_default c).After-u16_at-y)
-    (second_string (goal.at.bounds-places-y-in_default c).After-u16_at-y c.in_default.in_default-own.rest.1)
+    let here = (goal.at.bounds-places-y-in_default c).After-u16_at-y in
+    place-there here (y here)
+    (second_string here c.in_default.in_default-own.rest.1)
 
 pub precedes-requires : goal.precedes-requires
 precedes-requires c =
+    let here = (goal.at.precedes-requires c).After-u16_at-y in
     let others = c.in_default.in_default-own.rest in (
-      text_there (goal.at.precedes-requires c).After-u16_at-y (x (goal.at.precedes-requires c).After-u16_at-y)
-          (first_string (goal.at.precedes-requires c).After-u16_at-y others.0.1),
-      text_there (goal.at.precedes-requires c).After-u16_at-y (y (goal.at.precedes-requires c).After-u16_at-y)
-          (second_string (goal.at.precedes-requires c).After-u16_at-y others.1),
+      text_there here (x here)
+          (first_string here others.0.1),
+      text_there here (y here)
+          (second_string here others.1),
     )
 
 pub returns-in_default : goal.returns-in_default
 returns-in_default c =
+    let here = (goal.at.returns-in_default c).After-u16_at-y in
     let others = c.in_default.in_default-own.rest in
     c.precedes.ensures
-    ∙ ap₂ (λ i j. precedes (text_at (v (goal.at.returns-in_default c).After-u16_at-y) (get_or (places (goal.at.returns-in_default c).After-u16_at-y) i 0))
-    (text_at (v (goal.at.returns-in_default c).After-u16_at-y) (get_or (places (goal.at.returns-in_default c).After-u16_at-y) j 0)))
-    (x-is (goal.at.returns-in_default c).After-u16_at-y) (y-is (goal.at.returns-in_default c).After-u16_at-y)
-    ∙ functions.order_met (b (goal.at.returns-in_default c).After-u16_at-y) (v (goal.at.returns-in_default c).After-u16_at-y)
-    (s (goal.at.returns-in_default c).After-u16_at-y) (places (goal.at.returns-in_default c).After-u16_at-y)
-    (values (goal.at.returns-in_default c).After-u16_at-y) c.requires.0 (at (goal.at.returns-in_default c).After-u16_at-y) c.requires.2
-    (not_tested (goal.at.returns-in_default c).After-u16_at-y others.0.1) (not_tested (goal.at.returns-in_default c).After-u16_at-y others.1)
-    (not_tested (goal.at.returns-in_default c).After-u16_at-y others.0.0.0.1) (not_tested (goal.at.returns-in_default c).After-u16_at-y others.0.0.1)
+    ∙ ap₂ (λ i j. precedes (text_at (v here) (get_or (places here) i 0))
+    (text_at (v here) (get_or (places here) j 0)))
+    (x-is here) (y-is here)
+    ∙ functions.order_met (b here) (v here)
+    (s here) (places here)
+    (values here) c.requires.0 (at here) c.requires.2
+    (not_tested here others.0.1) (not_tested here others.1)
+    (not_tested here others.0.0.0.1) (not_tested here others.0.0.1)

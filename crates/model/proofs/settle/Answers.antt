@@ -68,14 +68,15 @@ leaf_fault-fault-requires c =
 
 pub returns : goal.returns
 returns c =
+    let here = (goal.at.returns c).Else-form-ne0 in
     let read-model = c.read_model in
     let labels = c.labels-labels in
     let b = c.args.ticket.now in
     let places = c.args.places.now in
     let br = branch_of c.args.work.now c.args.count in
-    let n : c.args.size ≡ 4 * (c.args.s.q + (c.args.s.p + c.args.s.p)) = fits (goal.at.returns c).Else-form-ne0 in record {
-      fault = settled_fault b places c.args.s c.requires.0 c.requires.3 c.args.at labels.result _ (small (goal.at.returns c).Else-form-ne0) read-model.ensures br c.args.size
+    let n : c.args.size ≡ 4 * (c.args.s.q + (c.args.s.p + c.args.s.p)) = fits here in record {
+      fault = settled_fault b places c.args.s c.requires.0 c.requires.3 c.args.at labels.result _ (small here) read-model.ensures br c.args.size
           c.leaf_fault-fault.result n labels.ensures c.leaf_fault-fault.ensures;
-      settled = settled_answers b places c.args.s c.requires.0 c.requires.3 c.args.at labels.result _ (small (goal.at.returns c).Else-form-ne0) read-model.ensures br c.args.size
+      settled = settled_answers b places c.args.s c.requires.0 c.requires.3 c.args.at labels.result _ (small here) read-model.ensures br c.args.size
           c.leaf_fault-fault.result n labels.ensures c.leaf_fault-fault.ensures;
     }

@@ -219,15 +219,17 @@ shape_of-left-in-Closed c =
 
 pub returns-in-Closed : goal.returns-in-Closed
 returns-in-Closed c =
+    let after_take_step = (goal.at.returns-in-Closed c).After-take_step in
+    let else_fault_ne0 = (goal.at.returns-in-Closed c).Else-fault-ne0 in
     let b = bytes (goal.at.returns-in-Closed c).At-loop-kind in
     let a = c.args in
     let met = c.with_state-report in
     let counted = c.with_step-report in
-    going_closed b a.s c.loop-kind.invariant.0 met.result met.ensures _ (fit (goal.at.returns-in-Closed c).Else-fault-ne0)
-    (all_there b c.loop-kind.i _ _ (whole (goal.at.returns-in-Closed c).In-Whole)) (step (goal.at.returns-in-Closed c).Else-fault-ne0)
-    (clean (goal.at.returns-in-Closed c).Else-fault-ne0)
-    counted.result counted.ensures (marksOf (goal.at.returns-in-Closed c).After-take_step) (eachOf (goal.at.returns-in-Closed c).After-take_step)
-    (left_of (goal.at.returns-in-Closed c).After-take_step) _ c.take_step.ensures c.in-Closed.is
+    going_closed b a.s c.loop-kind.invariant.0 met.result met.ensures _ (fit else_fault_ne0)
+    (all_there b c.loop-kind.i _ _ (whole (goal.at.returns-in-Closed c).In-Whole)) (step else_fault_ne0)
+    (clean else_fault_ne0)
+    counted.result counted.ensures (marksOf after_take_step) (eachOf after_take_step)
+    (left_of after_take_step) _ c.take_step.ensures c.in-Closed.is
 
 pub overflow_add-i : goal.overflow_add-i
 overflow_add-i c =
@@ -248,17 +250,19 @@ loop-kind-smaller c =
 
 pub loop-kind-preserved : goal.loop-kind-preserved
 loop-kind-preserved c =
+    let after_take_step = (goal.at.loop-kind-preserved c).After-take_step in
+    let else_fault_ne0 = (goal.at.loop-kind-preserved c).Else-fault-ne0 in
     let b = bytes (goal.at.loop-kind-preserved c).At-loop-kind in
     let a = c.args in
     let met = c.with_state-report in
     let counted = c.with_step-report in (
-      going_open b a.s c.loop-kind.invariant.0 met.result met.ensures _ (fit (goal.at.loop-kind-preserved c).Else-fault-ne0)
-          (all_there b c.loop-kind.i _ _ (whole (goal.at.loop-kind-preserved c).In-Whole)) (step (goal.at.loop-kind-preserved c).Else-fault-ne0)
-          (clean (goal.at.loop-kind-preserved c).Else-fault-ne0)
-          counted.result counted.ensures (marksOf (goal.at.loop-kind-preserved c).After-take_step) (eachOf (goal.at.loop-kind-preserved c).After-take_step)
-          (left_of (goal.at.loop-kind-preserved c).After-take_step) _ _ _ c.take_step.ensures c.in-Open.is
-          (same-marks (goal.at.loop-kind-preserved c).After-take_step)
-          (same-each (goal.at.loop-kind-preserved c).After-take_step)
-          (same_left (goal.at.loop-kind-preserved c).After-take_step),
+      going_open b a.s c.loop-kind.invariant.0 met.result met.ensures _ (fit else_fault_ne0)
+          (all_there b c.loop-kind.i _ _ (whole (goal.at.loop-kind-preserved c).In-Whole)) (step else_fault_ne0)
+          (clean else_fault_ne0)
+          counted.result counted.ensures (marksOf after_take_step) (eachOf after_take_step)
+          (left_of after_take_step) _ _ _ c.take_step.ensures c.in-Open.is
+          (same-marks after_take_step)
+          (same-each after_take_step)
+          (same_left after_take_step),
       omega (arith, c.loop-kind.invariant.1),
     )

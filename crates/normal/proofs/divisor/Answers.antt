@@ -34,21 +34,22 @@ absolute-requires c = rw (to_z-of_z (fits c)) (le-leb _ number_limit (small c))
 
 pub loop-j-preserved : goal.loop-j-preserved
 loop-j-preserved c =
+    let here = (goal.at.loop-j-preserved c).After-absolute-arg-1 in
     let args = c.args in
     let l = c.loop-j in
     let row = args.row.now in
     let n = c.requires.0 in
-    let size : c.absolute.result ≡ nat_abs (z (goal.at.loop-j-preserved c).After-absolute-arg-1) =
-    c.absolute.ensures ∙ ap nat_abs (to_z-of_z (fits (goal.at.loop-j-preserved c).After-absolute-arg-1)) in
+    let size : c.absolute.result ≡ nat_abs (z here) =
+    c.absolute.ensures ∙ ap nat_abs (to_z-of_z (fits here)) in
     let k : l.j - 1 + 1 ≡ l.j = omega arith in
-    let e : c.gcd-d.result ≡ gcd (nat_abs (z (goal.at.loop-j-preserved c).After-absolute-arg-1)) l.d = c.gcd-d.ensures ∙ ap (λ (m : ℕ). gcd m l.d) size in (
+    let e : c.gcd-d.result ≡ gcd (nat_abs (z here)) l.d = c.gcd-d.ensures ∙ ap (λ (m : ℕ). gcd m l.d) size in (
       omega arith,
       omega arith,
       e
-          ∙ ap (gcd (nat_abs (z (goal.at.loop-j-preserved c).After-absolute-arg-1))) (l.invariant.2 ∙ ap (λ (i : ℕ). divisor_of (drop i row)) (sym k))
+          ∙ ap (gcd (nat_abs (z here))) (l.invariant.2 ∙ ap (λ (i : ℕ). divisor_of (drop i row)) (sym k))
           ∙ sym (divisor_more row (l.j - 1) (omega arith)),
-      rw e (gcd_le (nat_abs (z (goal.at.loop-j-preserved c).After-absolute-arg-1)) l.d number_limit
-          (small (goal.at.loop-j-preserved c).After-absolute-arg-1) l.invariant.3),
+      rw e (gcd_le (nat_abs (z here)) l.d number_limit
+          (small here) l.invariant.3),
     )
 
 pub returns : goal.returns

@@ -51,22 +51,24 @@ overflow_sub-x c = fx c
 
 pub returns-then-x-y : goal.returns-then-x-y
 returns-then-x-y c =
+    let here = (goal.at.returns-then-x-y c).After-y-1 in
     let args = c.args in
     let l = c.loop-j in
-    let n = long (goal.at.returns-then-x-y c).After-y-1 in
-    let e = eqℤ_no _ (y (goal.at.returns-then-x-y c).After-y-1) (λ e. c.if-x-y.true (ap (of_z w64) (is (goal.at.returns-then-x-y c).After-y-1 ∙ e))) in
+    let n = long here in
+    let e = eqℤ_no _ (y here) (λ e. c.if-x-y.true (ap (of_z w64) (is here ∙ e))) in
     sym (eq_integers_fails (scale (negsuc 0) args.row.now) args.other.now l.j (omega arith) (omega arith) e)
     ∙ l.invariant.2
     ∙ ap (λ (a : List ℤ). eq_integers a (drop 1 args.other.now)) (scale_behind (negsuc 0) args.row.now)
 
 pub loop-j-preserved : goal.loop-j-preserved
 loop-j-preserved c =
+    let here = (goal.at.loop-j-preserved c).After-y-1 in
     let args = c.args in
     let l = c.loop-j in
-    let n = long (goal.at.loop-j-preserved c).After-y-1 in
+    let n = long here in
     let e =
-    eqℤ_yes _ (y (goal.at.loop-j-preserved c).After-y-1) (sym (is (goal.at.loop-j-preserved c).After-y-1)
-    ∙ same_bits _ (y (goal.at.loop-j-preserved c).After-y-1) (fx (goal.at.loop-j-preserved c).After-y-1) (fy (goal.at.loop-j-preserved c).After-y-1)
+    eqℤ_yes _ (y here) (sym (is here)
+    ∙ same_bits _ (y here) (fx here) (fy here)
     c.if-x-y.false) in
     (omega arith, omega arith, eq_integers_on (scale (negsuc 0) args.row.now) args.other.now l.j (omega arith) (omega arith) e ∙ l.invariant.2)
 

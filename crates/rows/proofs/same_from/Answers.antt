@@ -34,12 +34,13 @@ returns-then-x-y c =
 
 pub loop-j-preserved : goal.loop-j-preserved
 loop-j-preserved c =
+    let here = (goal.at.loop-j-preserved c).After-y-1 in
     let args = c.args in
     let l = c.loop-j in
     let e =
-    eqℤ_yes (x (goal.at.loop-j-preserved c).After-y-1) (y (goal.at.loop-j-preserved c).After-y-1)
-    (same_bits (x (goal.at.loop-j-preserved c).After-y-1) (y (goal.at.loop-j-preserved c).After-y-1) (fx (goal.at.loop-j-preserved c).After-y-1)
-    (fy (goal.at.loop-j-preserved c).After-y-1) c.if-x-y.false) in
+    eqℤ_yes (x here) (y here)
+    (same_bits (x here) (y here) (fx here)
+    (fy here) c.if-x-y.false) in
     (omega arith, eq_integers_on args.row.now args.other.now l.j (omega arith) (omega arith) e ∙ l.invariant.1)
 
 pub returns : goal.returns

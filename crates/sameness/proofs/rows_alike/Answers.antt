@@ -55,15 +55,17 @@ returns-then-tag-tag_of c = λ s t h g. sym (alike_apart _ _ _ _ (λ e. c.if-tag
 
 pub returns-then-tag-le-TAG_NE : goal.returns-then-tag-le-TAG_NE
 returns-then-tag-le-TAG_NE c =
+    let here = (goal.at.returns-then-tag-le-TAG_NE c).Else-tag-tag_of in
     λ s t h g. c.same_from.ensures
-    ∙ sym (alike_forms _ _ (row (goal.at.returns-then-tag-le-TAG_NE c).Else-tag-tag_of) (other (goal.at.returns-then-tag-le-TAG_NE c).Else-tag-tag_of) _
-    (tag_is (goal.at.returns-then-tag-le-TAG_NE c).Else-tag-tag_of) (other_tag (goal.at.returns-then-tag-le-TAG_NE c).Else-tag-tag_of)
+    ∙ sym (alike_forms _ _ (row here) (other here) _
+    (tag_is here) (other_tag here)
     c.if-tag-le-TAG_NE.true)
 
 pub returns-then-variable_at : goal.returns-then-variable_at
 returns-then-variable_at c =
-    λ s t h g. sym (alike_firsts _ _ (row (goal.at.returns-then-variable_at c).Else-tag-tag_of) (other (goal.at.returns-then-variable_at c).Else-tag-tag_of)
-    _ (tag_is (goal.at.returns-then-variable_at c).Else-tag-tag_of) (other_tag (goal.at.returns-then-variable_at c).Else-tag-tag_of)
+    let here = (goal.at.returns-then-variable_at c).Else-tag-tag_of in
+    λ s t h g. sym (alike_firsts _ _ (row here) (other here)
+    _ (tag_is here) (other_tag here)
     c.if-tag-le-TAG_NE.false
     (λ e. c.if-variable_at.true (c.variable_at.ensures.value ∙ e ∙ sym c.variable_at-2.ensures.value)))
 
@@ -78,21 +80,23 @@ same_literals-requires c =
 pub returns-then-tag-eq-TAG_LITERAL : goal.returns-then-tag-eq-TAG_LITERAL
 unfolding asked
 returns-then-tag-eq-TAG_LITERAL c =
+    let here = (goal.at.returns-then-tag-eq-TAG_LITERAL c).Else-tag-tag_of in
     let args = c.args in
     λ s t h g. c.same_literals.ensures s.literals t.literals
     (rw (named (goal.at.returns-then-tag-eq-TAG_LITERAL c).After-literal_at-then-tag-eq-TAG_LITERAL) h)
     (rw (other-named (goal.at.returns-then-tag-eq-TAG_LITERAL c).After-literal_at-then-tag-eq-TAG_LITERAL) g)
     ∙ ap₂ (λ (l k : ℕ). eq_string (literal (asked args.b.now s) l) (literal (asked args.c.now t) k)) c.literal_at.ensures.value
     c.literal_at-then-tag-eq-TAG_LITERAL.ensures.value
-    ∙ sym (alike_literals _ _ (row (goal.at.returns-then-tag-eq-TAG_LITERAL c).Else-tag-tag_of)
-    (other (goal.at.returns-then-tag-eq-TAG_LITERAL c).Else-tag-tag_of) _ (tag_is (goal.at.returns-then-tag-eq-TAG_LITERAL c).Else-tag-tag_of)
-    (other_tag (goal.at.returns-then-tag-eq-TAG_LITERAL c).Else-tag-tag_of) c.if-tag-eq-TAG_LITERAL.true
+    ∙ sym (alike_literals _ _ (row here)
+    (other here) _ (tag_is here)
+    (other_tag here) c.if-tag-eq-TAG_LITERAL.true
     (firsts (goal.at.returns-then-tag-eq-TAG_LITERAL c).Else-variable_at))
 
 pub returns : goal.returns
 returns c =
+    let here = (goal.at.returns c).Else-tag-tag_of in
     let if2 = c.if-tag-le-TAG_NE in
     λ s t h g. ap₂ eqb c.variable_at-3.ensures.value c.variable_at-4.ensures.value
-    ∙ sym (alike_variables _ _ (row (goal.at.returns c).Else-tag-tag_of) (other (goal.at.returns c).Else-tag-tag_of) _
-    (tag_is (goal.at.returns c).Else-tag-tag_of) (other_tag (goal.at.returns c).Else-tag-tag_of) if2.false c.if-tag-eq-TAG_LITERAL.false
+    ∙ sym (alike_variables _ _ (row here) (other here) _
+    (tag_is here) (other_tag here) if2.false c.if-tag-eq-TAG_LITERAL.false
     (firsts (goal.at.returns c).Else-variable_at))

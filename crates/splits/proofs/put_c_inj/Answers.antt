@@ -30,13 +30,14 @@ module _ (s : Start) where
 pub returns-then-k-eq1 : goal.returns-then-k-eq1
 unfolding column_at
 returns-then-k-eq1 c =
+    let here = (goal.at.returns-then-k-eq1 c).Start in
     let br = branch_of c.args.work.now c.args.count in
     let j = c.column_of-first in
     c.put_single.ensures
     ∙ ap (λ (l : List ℤ). br ++ (arithmetic eq l ∷ [])) (sym (minus_number j.result j.ensures.1 (negsuc 0)))
     ∙ ap (λ (i : ℕ). br ++ (arithmetic eq (minus (column i) (number (negsuc 0))) ∷ [])) j.ensures.0
-    ∙ ap (λ (l : List Fact). br ++ l) (child_one (one (goal.at.returns-then-k-eq1 c).Start)
-    (two (goal.at.returns-then-k-eq1 c).Start ∷ three (goal.at.returns-then-k-eq1 c).Start ∷ []) c.args.k c.if-k-eq1.true)
+    ∙ ap (λ (l : List Fact). br ++ l) (child_one (one here)
+    (two here ∷ three here ∷ []) c.args.k c.if-k-eq1.true)
 
 pub put_difference-requires : goal.put_difference-requires
 unfolding column_at
@@ -45,6 +46,7 @@ put_difference-requires c = search rules
 pub returns-then-k-eq2 : goal.returns-then-k-eq2
 unfolding column_at
 returns-then-k-eq2 c =
+    let here = (goal.at.returns-then-k-eq2 c).Start in
     let br = branch_of c.args.work.now c.args.count in
     let i = c.column_of-first in
     let j = c.column_of in
@@ -54,12 +56,13 @@ returns-then-k-eq2 c =
     ∙ ap (λ (l : List ℤ). br ++ (arithmetic ne l ∷ []))
     (sym (columns_difference i.result j.result i.ensures.1 j.ensures.1 (λ q. c.requires.x_lt_variable_limit.2 (omega arith))))
     ∙ ap₂ (λ (i j : ℕ). br ++ (arithmetic ne (minus (column i) (column j)) ∷ [])) ei ej
-    ∙ ap (λ (l : List Fact). br ++ l) (child_two (one (goal.at.returns-then-k-eq2 c).Start) (two (goal.at.returns-then-k-eq2 c).Start)
-    (three (goal.at.returns-then-k-eq2 c).Start ∷ []) c.args.k c.if-k-eq2.true)
+    ∙ ap (λ (l : List Fact). br ++ l) (child_two (one here) (two here)
+    (three here ∷ []) c.args.k c.if-k-eq2.true)
 
 pub returns : goal.returns
 returns c =
+    let here = (goal.at.returns c).Start in
     let e : c.args.k ≡ 3 = omega (arith, c.requires.x_lt_variable_limit, c.if-k-eq1.false, c.if-k-eq2.false) in
     c.put_string.ensures
     ∙ ap (λ (l : List Fact). branch_of c.args.work.now c.args.count ++ l)
-    (child_three (one (goal.at.returns c).Start) (two (goal.at.returns c).Start) (three (goal.at.returns c).Start) [] c.args.k e)
+    (child_three (one here) (two here) (three here) [] c.args.k e)

@@ -73,19 +73,20 @@ put_c_valid-requires c =
 
 pub put_fact-requires : goal.put_fact-requires
 put_fact-requires c =
+    let here = (goal.at.put_fact-requires c).Start in
     let a = c.args in
     let h = c.requires.ready_by.ready in
-    let fit = step_fits (given h) a.k (there (goal.at.put_fact-requires c).Start) in
+    let fit = step_fits (given h) a.k (there here) in
     let shaped = its_shape h fit ∙ sym (shape_by c.requires.ready_by a.s.n) in
-    let (l, g) = in_shape (given h) a.k (there (goal.at.put_fact-requires c).Start) _ shaped in
+    let (l, g) = in_shape (given h) a.k (there here) _ shaped in
     let each = passes (λ (r : Rule). one_each (rule_named r)) (1 ∷ 2 ∷ 7 ∷ 10 ∷ 11 ∷ []) a.rule tt c.in-Branch.in-Branch-own.keys2 in
     let one =
     adds_one a.ticket.now a.s.n a.body a.size (rule_named a.rule) a.k each l g
-    ∙ child_size (given h) a.k (there (goal.at.put_fact-requires c).Start) _ shaped in
+    ∙ child_size (given h) a.k (there here) _ shaped in
     record {
       ready_by = c.requires.ready_by;
-      rule_value = (each, omega (arith, one, roomy (goal.at.put_fact-requires c).Start));
-      k_value = there (goal.at.put_fact-requires c).Start;
+      rule_value = (each, omega (arith, one, roomy here));
+      k_value = there here;
     }
 
 pub returns-in-CValid : goal.returns-in-CValid

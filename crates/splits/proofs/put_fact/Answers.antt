@@ -55,14 +55,15 @@ u16_at-requires c = apart_operands c.requires.ready_by.ready (is_rule c.requires
 
 pub put_apart-requires : goal.put_apart-requires
 put_apart-requires c =
+    let here = (goal.at.put_apart-requires c).Start in
     let b = c.args.ticket.now in
     let h = c.requires.ready_by.ready in
     let e = is_rule c.requires.ready_by _ c.in-Apart.is in
     let x : c.u16_at.result ≡ u16 b (c.args.body + 4) = c.u16_at.ensures.0 in
-    let a = apart_fact h (fit (goal.at.put_apart-requires c).Start) e in
+    let a = apart_fact h (fit here) e in
     let l : u16 b (c.args.body + 4) < c.args.count = a.0 in
     let few = h.fine.few in
-    let n = number_of (given h) c.args.k (there (goal.at.put_apart-requires c).Start) _ (apart_child h (fit (goal.at.put_apart-requires c).Start) e) in record {
+    let n = number_of (given h) c.args.k (there here) _ (apart_child h (fit here) e) in record {
       fact_lt_count = (omega arith, c.requires.rule_value.1, h.fine.room, n.0, n.1);
       fact_value = (
         ap (λ (n : ℕ). tag_of (fact_of (row_at c.args.work.now n))) x ∙ a.1,
@@ -98,6 +99,7 @@ u16_at-requires-in-CInj-2 c =
 
 pub put_c_inj-requires : goal.put_c_inj-requires
 put_c_inj-requires c =
+    let here = (goal.at.put_c_inj-requires c).Start in
     let b = c.args.ticket.now in
     let h = c.requires.ready_by.ready in
     let e = is_rule c.requires.ready_by _ c.in-CInj.is in
@@ -107,9 +109,9 @@ put_c_inj-requires c =
     let l : u16 b (c.args.body + 4) < c.args.s.p = o.1 in
     let g : u16 b (c.args.body + 6) < c.args.s.p = o.2 in
     let few = h.posed.stands.few_strings in
-    let n = number_of (given h) c.args.k (there (goal.at.put_c_inj-requires c).Start) _ (c_inj_child h (fit (goal.at.put_c_inj-requires c).Start) e) in record {
+    let n = number_of (given h) c.args.k (there here) _ (c_inj_child h (fit here) e) in record {
       count_lt_fact_limit = (c.requires.rule_value.1, h.fine.room);
-      x_lt_variable_limit = (omega arith, omega arith, λ q. c_inj_differ h (fit (goal.at.put_c_inj-requires c).Start) e (sym x ∙ q ∙ y), few, h.posed.stands.few_integers, n.0, n.1);
+      x_lt_variable_limit = (omega arith, omega arith, λ q. c_inj_differ h (fit here) e (sym x ∙ q ∙ y), few, h.posed.stands.few_integers, n.0, n.1);
     }
 
 pub overflow_sub-size-in-Card : goal.overflow_sub-size-in-Card

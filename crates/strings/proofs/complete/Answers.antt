@@ -127,11 +127,12 @@ store-requires c = (
 
 pub returns-then-first-x : goal.returns-then-first-x
 returns-then-first-x c =
+    let here = (goal.at.returns-then-first-x c).After-row_of-w in
     let s = c.args in record {
       characters_after =
-          c.store.ensures ∙ ap (λ (w : List ℕ). sets s.characters.now (length_limit * s.x) w) (copied (goal.at.returns-then-first-x c).After-row_of-w);
-      value = sym (copied-length (goal.at.returns-then-first-x c).After-row_of-w) ∙ ap length (copied (goal.at.returns-then-first-x c).After-row_of-w);
-      upper_bound = copied-short (goal.at.returns-then-first-x c).After-row_of-w;
+          c.store.ensures ∙ ap (λ (w : List ℕ). sets s.characters.now (length_limit * s.x) w) (copied here);
+      value = sym (copied-length here) ∙ ap length (copied here);
+      upper_bound = copied-short here;
     }
 
 pub fresh-w-requires : goal.fresh-w-requires
@@ -154,8 +155,9 @@ store-requires-2 c = (
 
 pub returns : goal.returns
 returns c =
+    let here = (goal.at.returns c).After-fresh-w in
     let s = c.args in record {
-      characters_after = c.store-2.ensures ∙ ap (λ (w : List ℕ). sets s.characters.now (length_limit * s.x) w) (new (goal.at.returns c).After-fresh-w);
-      value = sym (new-length (goal.at.returns c).After-fresh-w) ∙ ap length (new (goal.at.returns c).After-fresh-w);
+      characters_after = c.store-2.ensures ∙ ap (λ (w : List ℕ). sets s.characters.now (length_limit * s.x) w) (new here);
+      value = sym (new-length here) ∙ ap length (new here);
       upper_bound = size-short (goal.at.returns c).After-magnitude-m;
     }

@@ -41,11 +41,12 @@ loop-k-init c = let a = c.args in (omega arith, equations_all a.work.now a.count
 
 pub returns-then-count-fact : goal.returns-then-count-fact
 returns-then-count-fact c =
+    let here = (goal.at.returns-then-count-fact c).After-u16_at-fact in
     let a = c.args in
     sym (sym c.loop-k.invariant.1
-    ∙ equations_absent (w (goal.at.returns-then-count-fact c).After-u16_at-fact) a.count a.b.now a.at a.pairs
-    (k (goal.at.returns-then-count-fact c).After-u16_at-fact) c.loop-k-test.true
-    (subst (λ (k : ℕ). a.count ≤ k) (fact-is (goal.at.returns-then-count-fact c).After-u16_at-fact) c.if-count-fact.true))
+    ∙ equations_absent (w here) a.count a.b.now a.at a.pairs
+    (k here) c.loop-k-test.true
+    (subst (λ (k : ℕ). a.count ≤ k) (fact-is here) c.if-count-fact.true))
 
 pub row_at-requires : goal.row_at-requires
 row_at-requires c = (omega (arith, c.requires.fine.few), omega (arith, c.requires.fine.few, c.requires.fine.room))
@@ -58,12 +59,13 @@ tag_of-tag-requires c =
 
 pub returns-then-tag-ne-TAG_EQ : goal.returns-then-tag-ne-TAG_EQ
 returns-then-tag-ne-TAG_EQ c =
+    let here = (goal.at.returns-then-tag-ne-TAG_EQ c).After-u16_at-fact in
     let a = c.args in
     sym (sym c.loop-k.invariant.1
-    ∙ equations_no (w (goal.at.returns-then-tag-ne-TAG_EQ c).After-u16_at-fact) a.count a.b.now a.at a.pairs
-    (k (goal.at.returns-then-tag-ne-TAG_EQ c).After-u16_at-fact) c.loop-k-test.true (on_branch (goal.at.returns-then-tag-ne-TAG_EQ c).Else-count-fact)
+    ∙ equations_no (w here) a.count a.b.now a.at a.pairs
+    (k here) c.loop-k-test.true (on_branch (goal.at.returns-then-tag-ne-TAG_EQ c).Else-count-fact)
     (λ (e : tag_of
-    (fact_of (row_at (w (goal.at.returns-then-tag-ne-TAG_EQ c).After-u16_at-fact) (fact (goal.at.returns-then-tag-ne-TAG_EQ c).After-u16_at-fact)))
+    (fact_of (row_at (w here) (fact here)))
     ≡ 1).
     c.if-tag-ne-TAG_EQ.true (tag_is (goal.at.returns-then-tag-ne-TAG_EQ c).After-tag_of-tag ∙ e)))
 

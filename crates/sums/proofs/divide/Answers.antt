@@ -108,44 +108,46 @@ shape_of-row-then-q-d c = c.loop-j.invariant.0.2
 pub returns-then-q-d : goal.returns-then-q-d
 unfolding row_in
 returns-then-q-d c =
+    let here = (goal.at.returns-then-q-d c).After-x-1 in
     let l = c.loop-j in
-    let g = length_multiples (row (goal.at.returns-then-q-d c).After-x-1) (k (goal.at.returns-then-q-d c).After-x-1) in
+    let g = length_multiples (row here) (k here) in
     let e =
-    eqℤ_no (get_or (multiples (row (goal.at.returns-then-q-d c).After-x-1) (k (goal.at.returns-then-q-d c).After-x-1)) l.j (pos 0))
-    (get_or (row (goal.at.returns-then-q-d c).After-x-1) l.j (pos 0))
-    (λ e. exact_no (x (goal.at.returns-then-q-d c).After-x-1) (k (goal.at.returns-then-q-d c).After-x-1) (bound (goal.at.returns-then-q-d c).Start) (inexact c)
-    (ap (λ (z : ℤ). pos (k (goal.at.returns-then-q-d c).After-x-1) *ℤ floor_div z (k (goal.at.returns-then-q-d c).After-x-1))
-    (was (goal.at.returns-then-q-d c).After-x-1)
-    ∙ sym (multiple_number (row (goal.at.returns-then-q-d c).After-x-1) (k (goal.at.returns-then-q-d c).After-x-1) l.j (omega arith))
+    eqℤ_no (get_or (multiples (row here) (k here)) l.j (pos 0))
+    (get_or (row here) l.j (pos 0))
+    (λ e. exact_no (x here) (k here) (bound (goal.at.returns-then-q-d c).Start) (inexact c)
+    (ap (λ (z : ℤ). pos (k here) *ℤ floor_div z (k here))
+    (was here)
+    ∙ sym (multiple_number (row here) (k here) l.j (omega arith))
     ∙ e
-    ∙ sym (was (goal.at.returns-then-q-d c).After-x-1))) in
-    let f : eq_integers (drop 2 (multiples (row (goal.at.returns-then-q-d c).After-x-1) (k (goal.at.returns-then-q-d c).After-x-1)))
-    (drop 2 (row (goal.at.returns-then-q-d c).After-x-1))
+    ∙ sym (was here))) in
+    let f : eq_integers (drop 2 (multiples (row here) (k here)))
+    (drop 2 (row here))
     ≡ false =
     sym l.invariant.1
-    ∙ eq_integers_fails (multiples (row (goal.at.returns-then-q-d c).After-x-1) (k (goal.at.returns-then-q-d c).After-x-1))
-    (row (goal.at.returns-then-q-d c).After-x-1) l.j (omega arith) (omega arith) e in
-    sym (ap (λ (d : ℤ). ge_row (divided (nat_abs d) (drop 1 (row (goal.at.returns-then-q-d c).After-x-1)))) (sym (plain (goal.at.returns-then-q-d c).Start))
-    ∙ ap ge_row (divided_no (row (goal.at.returns-then-q-d c).After-x-1) (k (goal.at.returns-then-q-d c).After-x-1) c.requires.1 f))
+    ∙ eq_integers_fails (multiples (row here) (k here))
+    (row here) l.j (omega arith) (omega arith) e in
+    sym (ap (λ (d : ℤ). ge_row (divided (nat_abs d) (drop 1 (row here)))) (sym (plain (goal.at.returns-then-q-d c).Start))
+    ∙ ap ge_row (divided_no (row here) (k here) c.requires.1 f))
 
 pub loop-j-preserved : goal.loop-j-preserved
 loop-j-preserved c =
+    let here = (goal.at.loop-j-preserved c).After-x-1 in
     let l = c.loop-j in
-    let g = length_multiples (row (goal.at.loop-j-preserved c).After-x-1) (k (goal.at.loop-j-preserved c).After-x-1) in
+    let g = length_multiples (row here) (k here) in
     let (m, r) =
-    exact_yes (x (goal.at.loop-j-preserved c).After-x-1) (k (goal.at.loop-j-preserved c).After-x-1) (bound (goal.at.loop-j-preserved c).Start) (exact c) in
+    exact_yes (x here) (k here) (bound (goal.at.loop-j-preserved c).Start) (exact c) in
     let e =
-    eqℤ_yes (get_or (multiples (row (goal.at.loop-j-preserved c).After-x-1) (k (goal.at.loop-j-preserved c).After-x-1)) l.j (pos 0))
-    (get_or (row (goal.at.loop-j-preserved c).After-x-1) l.j (pos 0))
-    (multiple_number (row (goal.at.loop-j-preserved c).After-x-1) (k (goal.at.loop-j-preserved c).After-x-1) l.j (omega arith)
-    ∙ ap (λ (z : ℤ). pos (k (goal.at.loop-j-preserved c).After-x-1) *ℤ floor_div z (k (goal.at.loop-j-preserved c).After-x-1))
-    (sym (was (goal.at.loop-j-preserved c).After-x-1))
+    eqℤ_yes (get_or (multiples (row here) (k here)) l.j (pos 0))
+    (get_or (row here) l.j (pos 0))
+    (multiple_number (row here) (k here) l.j (omega arith)
+    ∙ ap (λ (z : ℤ). pos (k here) *ℤ floor_div z (k here))
+    (sym (was here))
     ∙ m
-    ∙ was (goal.at.loop-j-preserved c).After-x-1) in (
-      changing_more 2 (λ z. floor_div z (k (goal.at.loop-j-preserved c).After-x-1)) (row (goal.at.loop-j-preserved c).After-x-1) l.row l.j l.invariant.0 _
-          (pos 0) (omega arith) (quotient_is (goal.at.loop-j-preserved c).After-x-1 ∙ r),
-      eq_integers_on (multiples (row (goal.at.loop-j-preserved c).After-x-1) (k (goal.at.loop-j-preserved c).After-x-1))
-          (row (goal.at.loop-j-preserved c).After-x-1) l.j (omega arith) (omega arith) e
+    ∙ was here) in (
+      changing_more 2 (λ z. floor_div z (k here)) (row here) l.row l.j l.invariant.0 _
+          (pos 0) (omega arith) (quotient_is here ∙ r),
+      eq_integers_on (multiples (row here) (k here))
+          (row here) l.j (omega arith) (omega arith) e
           ∙ l.invariant.1,
     )
 
@@ -158,9 +160,10 @@ shape_of-row c = simp length-set c.loop-j.invariant.0.2
 pub returns : goal.returns
 unfolding row_in
 returns c =
+    let here = (goal.at.returns c).Start in
     let l = c.loop-j in
     let row = c.args.row.now in
-    let m = n (goal.at.returns c).Start in
+    let m = n here in
     let g = length_multiples row m in
     let f : eq_integers (drop 2 (multiples row m)) (drop 2 row) ≡ true =
     sym l.invariant.1 ∙ eq_integers_done (multiples row m) row l.j (omega arith) (omega arith) in
@@ -170,5 +173,5 @@ returns c =
     to_z-of_z fq ∙ c.floor_div.ensures ∙ ap (λ (z : ℤ). floor_div z m) (to_z-of_z fc ∙ exit-constant (goal.at.returns c).After-loop-j) in
     ap (λ (r : List ℤ). some (set r 1 (to_z w64 (of_z w64 c.floor_div.result)))) (exit (goal.at.returns c).After-loop-j)
     ∙ ap some (partly_whole row m _ c.requires.1 c.requires.2 q)
-    ∙ sym (ap (λ (d : ℤ). ge_row (divided (nat_abs d) (drop 1 row))) (sym (plain (goal.at.returns c).Start))
-    ∙ ap ge_row (divided_yes row m (bound (goal.at.returns c).Start) c.requires.1 f))
+    ∙ sym (ap (λ (d : ℤ). ge_row (divided (nat_abs d) (drop 1 row))) (sym (plain here))
+    ∙ ap ge_row (divided_yes row m (bound here) c.requires.1 f))

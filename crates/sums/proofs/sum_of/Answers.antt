@@ -114,13 +114,14 @@ shape_of-sum-then-fact-count c =
 pub returns-then-fact-count : goal.returns-then-fact-count
 unfolding row_in
 returns-then-fact-count c =
-    nothing (goal.at.returns-then-fact-count c).After-i32_at-multiplier
-    (summing_absent (w (goal.at.returns-then-fact-count c).After-i32_at-multiplier) (count (goal.at.returns-then-fact-count c).After-i32_at-multiplier)
-    (b (goal.at.returns-then-fact-count c).After-i32_at-multiplier) (at' (goal.at.returns-then-fact-count c).After-i32_at-multiplier)
-    (n (goal.at.returns-then-fact-count c).After-i32_at-multiplier) c.loop-i.sum (i (goal.at.returns-then-fact-count c).After-i32_at-multiplier)
+    let here = (goal.at.returns-then-fact-count c).After-i32_at-multiplier in
+    nothing here
+    (summing_absent (w here) (count here)
+    (b here) (at' here)
+    (n here) c.loop-i.sum (i here)
     c.loop-i.invariant c.loop-i-test.true
-    (subst (λ (k : ℕ). count (goal.at.returns-then-fact-count c).After-i32_at-multiplier ≤ k)
-    (fact-is (goal.at.returns-then-fact-count c).After-i32_at-multiplier) c.if-fact-count.true))
+    (subst (λ (k : ℕ). count here ≤ k)
+    (fact-is here) c.if-fact-count.true))
 
 pub row_at-row-requires : goal.row_at-row-requires
 row_at-row-requires c =
@@ -140,58 +141,63 @@ shape_of-sum-then-not-takes c =
 pub returns-then-not-takes : goal.returns-then-not-takes
 unfolding row_in
 returns-then-not-takes c =
+    let here = (goal.at.returns-then-not-takes c).After-i32_at-multiplier in
     let loop-test = c.loop-i-test in
     let loop = c.loop-i in
-    nothing (goal.at.returns-then-not-takes c).After-i32_at-multiplier
-    (summing_misfit (w (goal.at.returns-then-not-takes c).After-i32_at-multiplier) (count (goal.at.returns-then-not-takes c).After-i32_at-multiplier)
-    (b (goal.at.returns-then-not-takes c).After-i32_at-multiplier) (at' (goal.at.returns-then-not-takes c).After-i32_at-multiplier)
-    (n (goal.at.returns-then-not-takes c).After-i32_at-multiplier) loop.sum (i (goal.at.returns-then-not-takes c).After-i32_at-multiplier) loop.invariant
+    nothing here
+    (summing_misfit (w here) (count here)
+    (b here) (at' here)
+    (n here) loop.sum (i here) loop.invariant
     loop-test.true (on_branch (goal.at.returns-then-not-takes c).After-row_at-row)
     (sym (test (goal.at.returns-then-not-takes c).After-takes) ∙ not-true _ c.if-not-takes.true-raw))
 
 pub add_multiple-requires : goal.add_multiple-requires
 add_multiple-requires c =
+    let after_i32_at_multiplier = (goal.at.add_multiple-requires c).After-i32_at-multiplier in
+    let after_row_at_row = (goal.at.add_multiple-requires c).After-row_at-row in
     let loop = c.loop-i in
     let pre = c.requires in
     let s = loop.invariant in
     let h = c.loop-i-test.true in record {
       row_len = (
-        ap length (row_is (goal.at.add_multiple-requires c).After-row_at-row) ∙ long (goal.at.add_multiple-requires c).After-row_at-row,
-        ap (λ (r : List ℤ). all_within number_limit (drop 1 r)) (row_is (goal.at.add_multiple-requires c).After-row_at-row)
-            ∙ row_small (w (goal.at.add_multiple-requires c).After-i32_at-multiplier) (count (goal.at.add_multiple-requires c).After-i32_at-multiplier)
-            (b (goal.at.add_multiple-requires c).After-i32_at-multiplier) (at' (goal.at.add_multiple-requires c).After-i32_at-multiplier)
-            (n (goal.at.add_multiple-requires c).After-i32_at-multiplier) loop.sum (i (goal.at.add_multiple-requires c).After-i32_at-multiplier) s h
-            (on_branch (goal.at.add_multiple-requires c).After-row_at-row) pre.fine (passed (goal.at.add_multiple-requires c).Else-not-takes),
+        ap length (row_is after_row_at_row) ∙ long after_row_at_row,
+        ap (λ (r : List ℤ). all_within number_limit (drop 1 r)) (row_is after_row_at_row)
+            ∙ row_small (w after_i32_at_multiplier) (count after_i32_at_multiplier)
+            (b after_i32_at_multiplier) (at' after_i32_at_multiplier)
+            (n after_i32_at_multiplier) loop.sum (i after_i32_at_multiplier) s h
+            (on_branch after_row_at_row) pre.fine (passed (goal.at.add_multiple-requires c).Else-not-takes),
       );
       multiplier_bound =
-          subst (λ (m : ℤ). nat_abs m ≤ 1000000000) (sym (multiplier-is (goal.at.add_multiple-requires c).After-i32_at-multiplier))
-          (multiplier_small (w (goal.at.add_multiple-requires c).After-i32_at-multiplier) (count (goal.at.add_multiple-requires c).After-i32_at-multiplier)
-          (b (goal.at.add_multiple-requires c).After-i32_at-multiplier) (at' (goal.at.add_multiple-requires c).After-i32_at-multiplier)
-          (n (goal.at.add_multiple-requires c).After-i32_at-multiplier) loop.sum (i (goal.at.add_multiple-requires c).After-i32_at-multiplier) s h);
+          subst (λ (m : ℤ). nat_abs m ≤ 1000000000) (sym (multiplier-is after_i32_at_multiplier))
+          (multiplier_small (w after_i32_at_multiplier) (count after_i32_at_multiplier)
+          (b after_i32_at_multiplier) (at' after_i32_at_multiplier)
+          (n after_i32_at_multiplier) loop.sum (i after_i32_at_multiplier) s h);
       sum_len = (s.long, λ j. let k = s.small j in let few = pre.le_pairs.1 in le_trans k (omega arith));
     }
 
 pub loop-i-preserved : goal.loop-i-preserved
 loop-i-preserved c =
+    let after_i32_at_multiplier = (goal.at.loop-i-preserved c).After-i32_at-multiplier in
+    let after_row_at_row = (goal.at.loop-i-preserved c).After-row_at-row in
     let loop = c.loop-i in
     let pre = c.requires in
     let s = loop.invariant in
     let h = c.loop-i-test.true in
     let e : c.add_multiple.new.sum
-    ≡ added loop.sum (multiplier (goal.at.loop-i-preserved c).After-i32_at-multiplier)
-    (row_at (w (goal.at.loop-i-preserved c).After-i32_at-multiplier) (fact (goal.at.loop-i-preserved c).After-i32_at-multiplier)) =
+    ≡ added loop.sum (multiplier after_i32_at_multiplier)
+    (row_at (w after_i32_at_multiplier) (fact after_i32_at_multiplier)) =
     c.add_multiple.ensures
-    ∙ ap₂ (λ (m : ℤ) (r : List ℤ). added loop.sum m r) (multiplier-is (goal.at.loop-i-preserved c).After-i32_at-multiplier)
-    (row_is (goal.at.loop-i-preserved c).After-row_at-row) in
-    subst (λ (l : List ℤ). Summing (w (goal.at.loop-i-preserved c).After-i32_at-multiplier) (count (goal.at.loop-i-preserved c).After-i32_at-multiplier)
-    (b (goal.at.loop-i-preserved c).After-i32_at-multiplier) (at' (goal.at.loop-i-preserved c).After-i32_at-multiplier)
-    (n (goal.at.loop-i-preserved c).After-i32_at-multiplier) l (i (goal.at.loop-i-preserved c).After-i32_at-multiplier + 1))
+    ∙ ap₂ (λ (m : ℤ) (r : List ℤ). added loop.sum m r) (multiplier-is after_i32_at_multiplier)
+    (row_is after_row_at_row) in
+    subst (λ (l : List ℤ). Summing (w after_i32_at_multiplier) (count after_i32_at_multiplier)
+    (b after_i32_at_multiplier) (at' after_i32_at_multiplier)
+    (n after_i32_at_multiplier) l (i after_i32_at_multiplier + 1))
     (sym e)
-    (summing_more (w (goal.at.loop-i-preserved c).After-i32_at-multiplier) (count (goal.at.loop-i-preserved c).After-i32_at-multiplier)
-    (b (goal.at.loop-i-preserved c).After-i32_at-multiplier) (at' (goal.at.loop-i-preserved c).After-i32_at-multiplier)
-    (n (goal.at.loop-i-preserved c).After-i32_at-multiplier) loop.sum (i (goal.at.loop-i-preserved c).After-i32_at-multiplier) s h
-    (on_branch (goal.at.loop-i-preserved c).After-row_at-row) pre.fine (passed (goal.at.loop-i-preserved c).Else-not-takes)
-    (long (goal.at.loop-i-preserved c).After-row_at-row))
+    (summing_more (w after_i32_at_multiplier) (count after_i32_at_multiplier)
+    (b after_i32_at_multiplier) (at' after_i32_at_multiplier)
+    (n after_i32_at_multiplier) loop.sum (i after_i32_at_multiplier) s h
+    (on_branch after_row_at_row) pre.fine (passed (goal.at.loop-i-preserved c).Else-not-takes)
+    (long after_row_at_row))
 
 pub shape_of-sum : goal.shape_of-sum
 shape_of-sum c = c.loop-i.invariant.long ∙ sym (ap length c.requires.sum_value)

@@ -88,8 +88,9 @@ module _ (c : After-divide_by) where
 pub returns-then-not-sum_of : goal.returns-then-not-sum_of
 unfolding fact_in
 returns-then-not-sum_of c =
-    sym (none_summed (branch (goal.at.returns-then-not-sum_of c).Start) (d (goal.at.returns-then-not-sum_of c).Start)
-    (summands (goal.at.returns-then-not-sum_of c).Start)
+    let here = (goal.at.returns-then-not-sum_of c).Start in
+    sym (none_summed (branch here) (d here)
+    (summands here)
     (no_row c.sum_of.result (row (goal.at.returns-then-not-sum_of c).After-sum_of) _ (not-true c.sum_of.result c.if-not-sum_of.true-raw) c.sum_of.ensures))
 
 pub sum_tag-tag-requires : goal.sum_tag-tag-requires
@@ -107,9 +108,10 @@ divide_by-requires c =
 pub returns-then-not-divide_by : goal.returns-then-not-divide_by
 unfolding fact_in
 returns-then-not-divide_by c =
+    let here = (goal.at.returns-then-not-divide_by c).Start in
     let e = no_row c.divide_by.result c.divide_by.new.row _ (not-true c.divide_by.result c.if-not-divide_by.true-raw) c.divide_by.ensures in
-    sym (none_divided (branch (goal.at.returns-then-not-divide_by c).Start) (d (goal.at.returns-then-not-divide_by c).Start)
-    (summands (goal.at.returns-then-not-divide_by c).Start) (drop 1 (row (goal.at.returns-then-not-divide_by c).After-sum_of))
+    sym (none_divided (branch here) (d here)
+    (summands here) (drop 1 (row (goal.at.returns-then-not-divide_by c).After-sum_of))
     (fitted (goal.at.returns-then-not-divide_by c).After-divide_by) (sym (divided-is (goal.at.returns-then-not-divide_by c).After-divide_by) ∙ e))
 
 pub bounds-row-0 : goal.bounds-row-0
@@ -121,8 +123,10 @@ shape_of-row c = simp length-set (c.divide_by.auto.row ∙ c.sum_of.auto.sum)
 pub returns : goal.returns
 unfolding fact_in
 returns c =
+    let after_divide_by = (goal.at.returns c).After-divide_by in
+    let Start_2 = (goal.at.returns c).Start in
     let e = (some_row c.divide_by.result c.divide_by.new.row _ (not-false c.divide_by.result c.if-not-divide_by.false-raw) c.divide_by.ensures).0 in
     ap (λ (z : ℤ). some (fact_of (set c.divide_by.new.row 0 z))) (tag_is (goal.at.returns c).After-sum_tag-tag)
-    ∙ fact_tagged (branch (goal.at.returns c).Start) (d (goal.at.returns c).Start) (summands (goal.at.returns c).Start) c.divide_by.new.row
-    (drop 1 (row (goal.at.returns c).After-sum_of)) (long-divided (goal.at.returns c).After-divide_by) (fitted (goal.at.returns c).After-divide_by)
-    (sym (divided-is (goal.at.returns c).After-divide_by) ∙ e)
+    ∙ fact_tagged (branch Start_2) (d Start_2) (summands Start_2) c.divide_by.new.row
+    (drop 1 (row (goal.at.returns c).After-sum_of)) (long-divided after_divide_by) (fitted after_divide_by)
+    (sym (divided-is after_divide_by) ∙ e)

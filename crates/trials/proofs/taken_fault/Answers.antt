@@ -47,19 +47,21 @@ overflow_sub-count c = c.requires.ready_by.ready.fine.few
 
 pub returns-then-count-child_facts : goal.returns-then-count-child_facts
 returns-then-count-child_facts c =
+    let here = (goal.at.returns-then-count-child_facts c).Start in
     let n = length_branch c.args.work.now c.args.count in
     let few = c.requires.ready_by.ready.fine.few in
-    taken_ten (before c.requires.ready_by.ready) (taken (goal.at.returns-then-count-child_facts c).Start) false
-    (there (goal.at.returns-then-count-child_facts c).Start)
+    taken_ten (before c.requires.ready_by.ready) (taken here) false
+    (there here)
     (sym c.child_within.ensures ∙ not-false _ c.if-not-child_within.false-raw)
-    (lt-leb (length (before c.requires.ready_by.ready) + length (or_none (taken (goal.at.returns-then-count-child_facts c).Start))) fact_limit
+    (lt-leb (length (before c.requires.ready_by.ready) + length (or_none (taken here))) fact_limit
     (omega (arith, adds (goal.at.returns-then-count-child_facts c).After-child_facts, c.if-count-child_facts.true)))
 
 pub returns : goal.returns
 returns c =
+    let here = (goal.at.returns c).Start in
     let n = length_branch c.args.work.now c.args.count in
     let few = c.requires.ready_by.ready.fine.few in
-    taken_ten (before c.requires.ready_by.ready) (taken (goal.at.returns c).Start) true (there (goal.at.returns c).Start)
+    taken_ten (before c.requires.ready_by.ready) (taken here) true (there here)
     (sym c.child_within.ensures ∙ not-false _ c.if-not-child_within.false-raw)
-    (le-leb (length (before c.requires.ready_by.ready) + length (or_none (taken (goal.at.returns c).Start))) fact_limit
+    (le-leb (length (before c.requires.ready_by.ready) + length (or_none (taken here))) fact_limit
     (omega (arith, adds (goal.at.returns c).After-child_facts, c.if-count-child_facts.false)))
