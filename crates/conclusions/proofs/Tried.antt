@@ -1,12 +1,13 @@
 -- The numbers 8 to 10 of a step with one conclusion, from the fact that it adds; and claim 1's tests of it are claim 2's.
 use Prim.Native.Nat.{ℕ, ◌+◌, ◌<◌, ◌≤◌}
 use native.Mathlib.Omega.{arith}
-use mathlib.Core.Path.{◌≡◌, refl, sym, ◌∙◌, ap, ap₂}
+use mathlib.Core.Path.{◌≡◌, refl, sym, ◌∙◌, ap, ap₂, subst}
 use mathlib.Core.Logic.{◌⊎◌, inl, inr}
 use mathlib.Core.Bool.{Bool, true, false, ◌&&◌}
 use mathlib.Core.Option.{Option, none, some}
 use mathlib.Core.List.{List, [], ◌∷◌, ◌++◌, map}
 use lib.ListN.{length}
+use Rattle.std.proofs.Common.{Result, Ok, Err}
 use lib.Dec.{leb}
 use lib.IntN.{ℤ}
 use borrow.Author.Tests.{le-leb, lt-leb}
@@ -16,6 +17,9 @@ use Rattle.calculus.specs.Children.{one}
 use Rattle.calculus.proofs.Shapes.{children_shape}
 use Rattle.format.specs.Records.{need}
 use Rattle.format.specs.StepForms.{rule, length_fits, step_at}
+use Rattle.faults.specs.declared.Fault.{Fault}
+use Rattle.faults.specs.declared.Fault.TheVariants.{DoesNotFit, PassesLimit, NoRoom}
+use Rattle.faults.specs.Numbers.{number}
 use Rattle.format.specs.Checking.{fact_within, facts_within, children_within, room_for_all, all_tried, taken_tried, child_in, or_none}
 use Rattle.format.proofs.Faults.{clash}
 use Rattle.rows.specs.Rows.{branch_of, Behind}
@@ -31,18 +35,18 @@ use Rattle.conclusions.specs.Made.{Concludes}
 -- ---- 8 to 10, and the fact after the others
 
 module _ (w v : List ℤ) (count : ℕ) (o : Option (List (List Fact))) where
-  abbrev Tried : ℕ → Type 0
+  abbrev Tried : Result Unit Fault → Type 0
   Tried r = Concludes o w count v r
 
   -- where a number applies nothing more is promised
-  refused : (r : ℕ) → 0 < r → r ≡ taken_tried (branch_of w count) (child_in o 1) → Tried r
-  refused r h e = record { fault = e; added = λ z. absurd (omega arith); fine = λ z. absurd (omega arith) }
+  refused : (f : Fault) → number f ≡ taken_tried (branch_of w count) (child_in o 1) → Tried (Err f)
+  refused f e = record { fault = e; added = tt; fine = tt }
 
   of : (p : Option (List (List Fact))) → o ≡ p → taken_tried (branch_of w count) (child_in p 1) ≡ taken_tried (branch_of w count) (child_in o 1)
   of p e = ap (λ (q : Option (List (List Fact))). taken_tried (branch_of w count) (child_in q 1)) (sym e)
 
-  pub eight : o ≡ none → Tried 8
-  eight e = refused 8 (omega arith) (of none e)
+  pub eight : o ≡ none → Tried (Err DoesNotFit)
+  eight e = refused DoesNotFit (of none e)
 
   module _ (f : Fact) (e : o ≡ some (one f)) where
     tried : (s r : Bool) → fact_within f ≡ s → leb (count + 1) fact_limit ≡ r → need 9 (s && true) (need 10 r 0) ≡ taken_tried (branch_of w count) (child_in o 1)
@@ -51,28 +55,24 @@ module _ (w v : List ℤ) (count : ℕ) (o : Option (List (List Fact))) where
         sym (ap₂ (λ (a b : Bool). need 9 (a && true) (need 10 b 0)) es (ap (λ (n : ℕ). leb (n + 1) fact_limit) (length_branch w count) ∙ er))
         ∙ of (some (one f)) e
 
-    pub nine : fact_within f ≡ false → Tried 9
-    nine s = refused 9 (omega arith) (tried false _ s refl)
+    pub nine : fact_within f ≡ false → Tried (Err PassesLimit)
+    nine s = refused PassesLimit (tried false _ s refl)
 
     module _ (s : fact_within f ≡ true) where
-      pub ten : fact_limit ≤ count → Tried 10
-      ten h = refused 10 (omega arith) (tried true false s (lt-leb (count + 1) fact_limit (omega arith)))
+      pub ten : fact_limit ≤ count → Tried (Err NoRoom)
+      ten h = refused NoRoom (tried true false s (lt-leb (count + 1) fact_limit (omega arith)))
 
-      pub concluded : Fine w count → count < fact_limit → length v ≡ length w → Behind w count f v → Tried 0
+      pub concluded : Fine w count → count < fact_limit → length v ≡ length w → Behind w count f v → Tried (Ok tt)
       concluded fine h l b = record {
         fault = tried true true s (le-leb (count + 1) fact_limit (omega arith));
-        added = λ z. b ∙ ap (λ (p : Option (List (List Fact))). branch_of w count ++ or_none (child_in p 1)) (sym e);
-        fine = λ z. fine_put w v count f fine h l b s;
+        added = b ∙ ap (λ (p : Option (List (List Fact))). branch_of w count ++ or_none (child_in p 1)) (sym e);
+        fine = fine_put w v count f fine h l b s;
       }
 
 -- that is what holds of the children by another name
-pub concludes_as : {w v : List ℤ} {count r : ℕ} (o p : Option (List (List Fact))) → o ≡ p → Concludes o w count v r
-    → (r ≡ taken_tried (branch_of w count) (child_in p 1))
-    × ((r ≡ 0 → branch_of v (count + 1) ≡ branch_of w count ++ or_none (child_in p 1)) × (r ≡ 0 → Fine v (count + 1)))
-concludes_as {w} {v} {count} o p e h = (
-  h.fault ∙ ap (λ (q : Option (List (List Fact))). taken_tried (branch_of w count) (child_in q 1)) e,
-  ((λ z. h.added z ∙ ap (λ (q : Option (List (List Fact))). branch_of w count ++ or_none (child_in q 1)) e), h.fine),
-)
+pub concludes_as : {w v : List ℤ} {count : ℕ} {r : Result Unit Fault} (o p : Option (List (List Fact))) → o ≡ p → Concludes o w count v r
+    → Concludes p w count v r
+concludes_as {w} {v} {count} {r} o p e h = subst (λ (q : Option (List (List Fact))). Concludes q w count v r) e h
 
 -- ---- a rule with one conclusion has one child with one fact, where it fits
 

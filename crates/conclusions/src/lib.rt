@@ -1,12 +1,13 @@
 // The rules that close a branch, A-Conf and S-Conf, and those with one conclusion: Sum, S-Prop, L-Intro, C-Collapse and Join.
 #![tactic(auto)]
 
-ghost use Rattle.std.specs.Prelude.{◌≡◌, ◌+◌, ◌*◌, ◌<◌, ◌≤◌, length, neg_ℤ};
+ghost use Rattle.std.specs.Prelude.{◌≡◌, ◌+◌, ◌*◌, ◌<◌, ◌≤◌, length, neg_ℤ, OnOk};
 ghost use Rattle.calculus.specs.Limits.{variable_limit, literal_limit};
 ghost use Rattle.calculus.specs.Classes as calculus;
 ghost use Rattle.calculus.specs.Facts.{Question, value_of};
 ghost use Rattle.calculus.specs.Steps.{AConf, SConf, SProp, Join};
 ghost use Rattle.calculus.specs.Rules.{children};
+ghost use Rattle.faults.specs.Numbers.{fault_in};
 ghost use Rattle.format.specs.Fields.{u32s};
 ghost use Rattle.format.specs.StepForms.{function_of};
 ghost use Rattle.question.specs.Posed.{Posed};
@@ -22,6 +23,7 @@ ghost use Rattle.conclusions.specs.Sums.{FormedSum, sum_at};
 
 use classes::{Known, Lowest};
 use encoding::{CODE, EQ, LEN};
+use faults::Fault;
 use limits::{FACT_LIMIT, NODE_COUNT, ROW_LENGTH};
 use question::{Progress, column_of};
 use records::{u16_at, u32_at};
@@ -89,11 +91,11 @@ pub fn closes(
     }
 }
 
-// ---- rules with one conclusion: the first of 8 to 10 that applies; 0 for none, and then the fact that the step adds stands after the others. Only Sum can make a number
+// ---- rules with one conclusion: the first of 8 to 10 that applies; where none does, the fact that the step adds stands after the others. Only Sum can make a number
 // that passes the limit (9).
 
 // Sum: "Adds a ≥ fact", or an equation. It is summed in a row aside: 8 and 9 come before 10, and after 128 facts there is no stretch to sum in.
-fn sum(ticket: &[u8], body: usize, size: usize, work: &mut [i64], count: usize) -> usize
+fn sum(ticket: &[u8], body: usize, size: usize, work: &mut [i64], count: usize) -> Result<(), Fault>
     requires formed_sum { FormedSum ticket.now body size }
     requires fine { Fine work.old count }
     ensures { (u : Question) → ConcludesBy u (sum_at ticket.now body size) work.old count work.new result }
@@ -102,15 +104,19 @@ fn sum(ticket: &[u8], body: usize, size: usize, work: &mut [i64], count: usize) 
     let divisor = u32_at(ticket, body + OPERANDS);
     let pairs = (size - 8) / 6;
     if !sums::sum_row(&mut row, ticket, body + 8, pairs, divisor, work, count) {
-        return 8;
+        return Err(Fault::DoesNotFit);
     }
     if FACT_LIMIT <= count {
-        return if rows::fact_within(&row) { 10 } else { 9 };
+        return if rows::fact_within(&row) {
+            Err(Fault::NoRoom)
+        } else {
+            Err(Fault::PassesLimit)
+        };
     }
     if rows::put_within(work, count, &row) {
-        0
+        Ok(())
     } else {
-        9
+        Err(Fault::PassesLimit)
     }
 }
 
@@ -124,25 +130,22 @@ fn s_prop(
     work: &mut [i64],
     count: usize,
     labels: [u8; NODE_COUNT],
-) -> usize
+) -> Result<(), Fault>
     requires fine { Fine work.old count × (p ≤ variable_limit) × (q ≤ variable_limit) × (x < p) × (y < p) }
     requires labels_value { labels ≡ calculus.labels (branch_of work.old count) }
     ensures { (u : Question) → u.p ≡ p → u.q ≡ q
         → ConcludesBy u (SProp (function_of function) x y) work.old count work.new result }
 {
-    if x == y {
-        return 8;
-    }
-    if !classes::one_class(&labels, x, y) {
-        return 8;
+    if x == y || !classes::one_class(&labels, x, y) {
+        return Err(Fault::DoesNotFit);
     }
     let column = column_of(p, q, function, x);
     let other = column_of(p, q, function, y);
     if FACT_LIMIT <= count {
-        return 10;
+        return Err(Fault::NoRoom);
     }
     rows::put_difference(work, count, EQ, column, other);
-    0
+    Ok(())
 }
 
 // The negative of function (0 len, 1 code) of a text.
@@ -165,49 +168,43 @@ fn of_literal(
     work: &mut [i64],
     count: usize,
     labels: [u8; NODE_COUNT],
-) -> usize
+) -> Result<(), Fault>
     requires posed { Posed ticket.now s × Fine work.old count × (x < s.p) }
     requires labels_value { labels ≡ calculus.labels (branch_of work.old count) }
     ensures { Concludes (of_literal ticket.now s work.old count function x) work.old count work.new result }
 {
     let found = classes::class_literal(&labels, s.literals + 1, x);
     match found {
-        Lowest::Nothing => 8,
+        Lowest::Nothing => Err(Fault::DoesNotFit),
         Lowest::Literal(l) => {
             let text = question::literal_text(ticket, l);
             let constant = negative_of_text(ticket, function, text.at, text.count);
             let column = column_of(s.p, s.q, function, x);
             if FACT_LIMIT <= count {
-                return 10;
+                return Err(Fault::NoRoom);
             }
             rows::put_single(work, count, EQ, constant, column, 1);
-            0
+            Ok(())
         }
     }
 }
 
 // Join: "Adds the first as an equation", of two facts, each ≥ or an equation, one the negative of the other.
-fn join(j: usize, k: usize, work: &mut [i64], count: usize) -> usize
+fn join(j: usize, k: usize, work: &mut [i64], count: usize) -> Result<(), Fault>
     requires { Fine work.old count }
     ensures { (u : Question) → ConcludesBy u (Join j k) work.old count work.new result }
 {
-    if count <= j {
-        return 8;
-    }
-    if count <= k {
-        return 8;
-    }
-    if !rows::joins(rows::row_at(work, j), rows::row_at(work, k)) {
-        return 8;
+    if count <= j || count <= k || !rows::joins(rows::row_at(work, j), rows::row_at(work, k)) {
+        return Err(Fault::DoesNotFit);
     }
     if FACT_LIMIT <= count {
-        return 10;
+        return Err(Fault::NoRoom);
     }
     rows::put_equation(work, count, j);
-    0
+    Ok(())
 }
 
-// The first of 8 to 10 that applies to a step of a rule with one conclusion; 0 for none, and then its fact stands after the others.
+// The first of 8 to 10 that applies to a step of a rule with one conclusion; where none does, its fact stands after the others.
 pub fn conclude(
     ticket: &[u8],
     s: Progress,
@@ -217,12 +214,12 @@ pub fn conclude(
     work: &mut [i64],
     count: usize,
     labels: [u8; NODE_COUNT],
-) -> usize
+) -> Result<(), Fault>
     requires ready_by { ReadyBy rule One ticket.now s body size work.old count }
     requires labelled { Labelled rule labels work.old count }
-    ensures fault { result ≡ child_fault ticket.now s body size work.old count 1 }
-    ensures added { result ≡ 0 → branch_of work.new (count + 1) ≡ with_child ticket.now s body size work.old count 1 }
-    ensures fine { result ≡ 0 → Fine work.new (count + 1) }
+    ensures fault { fault_in result ≡ child_fault ticket.now s body size work.old count 1 }
+    ensures added { OnOk result (branch_of work.new (count + 1) ≡ with_child ticket.now s body size work.old count 1) }
+    ensures fine { OnOk result (Fine work.new (count + 1)) }
 {
     let first = u16_at(ticket, body + OPERANDS);
     match rule {
@@ -235,7 +232,9 @@ pub fn conclude(
         Rule::LIntro => of_literal(ticket, s, LEN, first, work, count, labels),
         Rule::CCollapse => of_literal(ticket, s, CODE, first, work, count, labels),
         Rule::Join => join(first, u16_at(ticket, body + 6), work, count),
-        Rule::AConf | Rule::SConf | Rule::Unknown => 8,
-        Rule::Branch | Rule::Apart | Rule::LValid | Rule::CValid | Rule::CInj | Rule::Card => 8,
+        Rule::AConf | Rule::SConf | Rule::Unknown => Err(Fault::DoesNotFit),
+        Rule::Branch | Rule::Apart | Rule::LValid | Rule::CValid | Rule::CInj | Rule::Card => Err(
+            Fault::DoesNotFit,
+        ),
     }
 }

@@ -90,7 +90,7 @@ returns-in-Sum c =
     (sym
     (offered_by b u (branch_of a.work.now a.count) a.body a.size sum (is_rule c.requires.ready_by _ c.in-Sum.is)))
     (c.sum.ensures u) in
-    record { fault = h.0; added = h.1.0; fine = h.1.1 }
+    record { fault = h.fault; added = h.added; fine = h.fine }
 
 pub returns-in-SProp : goal.returns-in-SProp
 unfolding step_of asked
@@ -107,7 +107,7 @@ returns-in-SProp c =
     c.u16_at-y.ensures.0
     ∙ sym (offered_by b u br a.body a.size s_prop (is_rule c.requires.ready_by _ c.in-SProp.is)))
     (c.s_prop.ensures u refl refl) in
-    record { fault = h.0; added = h.1.0; fine = h.1.1 }
+    record { fault = h.fault; added = h.added; fine = h.fine }
 
 pub returns-in-LIntro : goal.returns-in-LIntro
 unfolding step_of
@@ -121,7 +121,7 @@ returns-in-LIntro c =
     (ap (λ (x : ℕ). literal_children u br (function_of 0) x) u16-at.ensures.0
     ∙ sym (offered_by b u br a.body a.size l_intro (is_rule c.requires.ready_by _ c.in-LIntro.is)))
     c.of_literal.ensures in
-    record { fault = h.0; added = h.1.0; fine = h.1.1 }
+    record { fault = h.fault; added = h.added; fine = h.fine }
 
 pub returns-in-CCollapse : goal.returns-in-CCollapse
 unfolding step_of
@@ -135,7 +135,7 @@ returns-in-CCollapse c =
     (ap (λ (x : ℕ). literal_children u br (function_of 1) x) u16-at.ensures.0
     ∙ sym (offered_by b u br a.body a.size c_collapse (is_rule c.requires.ready_by _ c.in-CCollapse.is)))
     c.of_literal-in-CCollapse.ensures in
-    record { fault = h.0; added = h.1.0; fine = h.1.1 }
+    record { fault = h.fault; added = h.added; fine = h.fine }
 
 pub returns-in-Join : goal.returns-in-Join
 unfolding step_of
@@ -149,7 +149,7 @@ returns-in-Join c =
     (ap₂ (λ (j k : ℕ). children u br (Join j k)) u16-at.ensures.0 c.u16_at.ensures.0
     ∙ sym (offered_by b u br a.body a.size join (is_rule c.requires.ready_by _ c.in-Join.is)))
     (c.join.ensures u) in
-    record { fault = h.0; added = h.1.0; fine = h.1.1 }
+    record { fault = h.fault; added = h.added; fine = h.fine }
 
 pub returns-in-AConf : goal.returns-in-AConf
 returns-in-AConf c = absurd (not_one (3 ∷ 4 ∷ 13 ∷ []) c.args.rule tt c.in-AConf.in-AConf-own.keys6 c.requires.ready_by.concludes)

@@ -1,6 +1,8 @@
 use Prim.Native.Nat.{ℕ}
 use borrow.Author.Rules.{rules}
 use borrow.Author.Tests.{not-false, not-true}
+use lib.IntN.{ℤ}
+use mathlib.Core.Bool.{Bool}
 use mathlib.Core.List.{List}
 use mathlib.Core.Option.{some}
 use mathlib.Core.Path.{◌∙◌, ◌≡◌, ap, ap₂, sym}
@@ -19,14 +21,19 @@ use Rattle.rows.proofs.Small.{within_difference}
 use Rattle.rows.specs.Rows.{branch_of}
 use Rattle.rows.specs.Work.{difference}
 use Rattle.conclusions.proofs.s_prop.Goals as goal
-use Rattle.conclusions.proofs.s_prop.Goals.{After-column_of-other, After-one_class}
+use Rattle.conclusions.proofs.s_prop.Goals.{After-column_of-other, After-one_class, then-x-y-via-then-x-y, then-x-y-via-else-x-y+then-not-one_class}
 
 -- the test of the classes
+tested : {ls : List ℕ} {t : Bool} (w : List ℤ) (count x y : ℕ)
+    → ls ≡ labels (branch_of w count)
+    → t ≡ same_class ls (var_node x) (var_node y)
+    → t ≡ same_class (labels (branch_of w count)) (var_node x) (var_node y)
+tested w count x y l e = e ∙ ap (λ (ls : List ℕ). same_class ls (var_node x) (var_node y)) l
+
 one-class-is : (c : After-one_class) →
     let a = c.args in
     c.one_class.result ≡ same_class (labels (branch_of a.work.now a.count)) (var_node a.x) (var_node a.y)
-one-class-is c =
-    c.one_class.ensures ∙ ap (λ (ls : List ℕ). same_class ls (var_node c.args.x) (var_node c.args.y)) c.requires.labels_value
+one-class-is c = tested c.args.work.now c.args.count c.args.x c.args.y c.requires.labels_value c.one_class.ensures
 
 -- the fact by its columns, where the step fits
 adds : (c : After-column_of-other) →
@@ -52,15 +59,12 @@ returns-then-x-y c =
     let a = c.args in
     let w = a.work.now in
     λ (u : Question) (same-p : u.p ≡ a.p) (same-q : u.q ≡ a.q). eight w _ a.count _
-    (s_prop_same u (branch_of w a.count) (function_of a.function) a.x a.y c.if-x-y.true)
-
-pub returns-then-not-one_class : goal.returns-then-not-one_class
-returns-then-not-one_class c =
-    let a = c.args in
-    let w = a.work.now in
-    λ (u : Question) (same-p : u.p ≡ a.p) (same-q : u.q ≡ a.q). eight w _ a.count _
-    (s_prop_other_class u (branch_of w a.count) (function_of a.function) a.x a.y c.if-x-y.false
-    (sym (one-class-is (goal.at.returns-then-not-one_class c).After-one_class) ∙ not-true _ c.if-not-one_class.true-raw))
+    (elim c.then-x-y.branch [
+      | then-x-y-via-then-x-y t ↦ s_prop_same u (branch_of w a.count) (function_of a.function) a.x a.y t.if-x-y.true
+      | then-x-y-via-else-x-y+then-not-one_class t ↦
+          s_prop_other_class u (branch_of w a.count) (function_of a.function) a.x a.y t.if-x-y.false
+          (sym (tested w a.count a.x a.y c.requires.labels_value t.one_class.ensures) ∙ not-true _ t.if-not-one_class.true-raw)
+    ])
 
 pub returns-then-count-ge-FACT_LIMIT : goal.returns-then-count-ge-FACT_LIMIT
 returns-then-count-ge-FACT_LIMIT c =
