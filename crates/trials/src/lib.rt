@@ -4,6 +4,7 @@
 ghost use Rattle.std.specs.Prelude.{◌≡◌, true, List, map, ℕ, ◌≤◌, length};
 ghost use Rattle.calculus.specs.Limits.{fact_limit};
 ghost use Rattle.calculus.specs.Facts.{Fact};
+ghost use Rattle.faults.specs.Numbers.{fault_in};
 ghost use Rattle.format.specs.StepForms.{form_for, fits_form, step_at, child_in_range};
 ghost use Rattle.format.specs.Checking.{fits, room_for_all, room_to_pend};
 ghost use Rattle.steps.specs.Rules.{rule_named, shape_of};
@@ -15,6 +16,7 @@ ghost use Rattle.steps.specs.Ready.{ReadyBy};
 ghost use Rattle.trials.specs.Rooms.{ChildrenBy};
 
 use delimiters::Claim;
+use faults::Fault;
 use limits::{FACT_LIMIT, PENDING_LIMIT};
 use question::Progress;
 use records::u16_at;
@@ -48,7 +50,7 @@ fn room_to_pend(rule: Rule, n: usize, size: usize, pending: usize) -> bool
     pending < PENDING_LIMIT
 }
 
-// "Under claim 1 all children of a split are tried for 9 and 10 at the split's own record": of a step that fits, 9 or 10, 0 for neither.
+// "Under claim 1 all children of a split are tried for 9 and 10 at the split's own record", of a step that fits.
 fn all_fault(
     ticket: &[u8],
     s: Progress,
@@ -58,26 +60,23 @@ fn all_fault(
     work: &[i64],
     count: usize,
     pending: usize,
-) -> usize
+) -> Result<(), Fault>
     requires ready_by { ReadyBy rule Several ticket.now s body size work.now count }
     requires count_value { fits (offered_on ticket.now s body size work.now count) ≡ true }
-    ensures { result ≡ all_fault ticket.now s body size work.now count pending }
+    ensures { fault_in result ≡ all_fault ticket.now s body size work.now count pending }
 {
     if !splits::children_within(ticket, s, rule, body, size, work, count) {
-        return 9;
+        return Err(Fault::PassesLimit);
     }
-    if !room_for_all(rule, count) {
-        return 10;
+    if !room_for_all(rule, count) || !room_to_pend(rule, s.n, size, pending) {
+        return Err(Fault::NoRoom);
     }
-    if !room_to_pend(rule, s.n, size, pending) {
-        return 10;
-    }
-    0
+    Ok(())
 }
 
 // ---- the child taken under claim 2
 
-// "under claim 2 only the one taken": child k of a step that fits, 9 or 10, 0 for neither.
+// "under claim 2 only the one taken": child k of a step that fits.
 fn taken_fault(
     ticket: &[u8],
     s: Progress,
@@ -87,24 +86,24 @@ fn taken_fault(
     work: &[i64],
     count: usize,
     k: usize,
-) -> usize
+) -> Result<(), Fault>
     requires ready_by { ReadyBy rule Several ticket.now s body size work.now count }
     requires count_value { fits (offered_on ticket.now s body size work.now count) ≡ true }
     requires k_value { child_in_range s.n (step_at ticket.now body size) k ≡ true }
-    ensures { result ≡ child_fault ticket.now s body size work.now count k }
+    ensures { fault_in result ≡ child_fault ticket.now s body size work.now count k }
 {
     if !splits::child_within(ticket, s, rule, body, size, work, count, k) {
-        return 9;
+        return Err(Fault::PassesLimit);
     }
     if FACT_LIMIT - count < steps::child_facts(rule, k) {
-        return 10;
+        return Err(Fault::NoRoom);
     }
-    0
+    Ok(())
 }
 
 // ---- under either claim
 
-// The first of 8 to 10 that applies to a split, 0 for none.
+// The first of 8 to 10 that applies to a split.
 pub fn split_fault(
     ticket: &[u8],
     s: Progress,
@@ -115,13 +114,13 @@ pub fn split_fault(
     work: &[i64],
     count: usize,
     pending: usize,
-) -> usize
+) -> Result<(), Fault>
     requires ready_by { ReadyBy rule Several ticket.now s body size work.now count }
     requires size_value { field_fits claim ticket.now s.n body size ≡ true }
-    ensures { result ≡ tried_under claim ticket.now s body size work.now count pending }
+    ensures { fault_in result ≡ tried_under claim ticket.now s body size work.now count pending }
 {
     if !splits::fits(ticket, s, rule, body, size, work, count) {
-        return 8;
+        return Err(Fault::DoesNotFit);
     }
     match claim {
         Claim::NoSolution => all_fault(ticket, s, rule, body, size, work, count, pending),

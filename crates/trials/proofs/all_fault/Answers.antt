@@ -2,18 +2,22 @@ use Prim.Native.Nat.{ℕ}
 use borrow.Author.Tests.{not-false, not-true}
 use lib.ListN.{length}
 use mathlib.Core.Bool.{Bool, true, false}
-use mathlib.Core.List.{map}
+use mathlib.Core.List.{List, map}
 use mathlib.Core.Path.{◌≡◌, refl, sym, ◌∙◌, ap}
+use Rattle.calculus.specs.Facts.{Fact}
 use Rattle.calculus.specs.Steps.{shape}
 use Rattle.format.specs.Checking.{or_none, children_within, room_for_all, room_to_pend}
 use Rattle.format.specs.StepForms.{step_at}
 use Rattle.rows.proofs.Branches.{length_branch}
+use Rattle.steps.specs.Rules.{shape_of}
 use Rattle.steps.proofs.Bodies.{before, given, form_fits, shape_by}
 use Rattle.steps.proofs.Offered.{its_shape}
 use Rattle.trials.specs.Rooms.{ChildrenBy}
 use Rattle.trials.proofs.Tried.{split_nine, split_ten}
 use Rattle.trials.proofs.all_fault.Goals as goal
-use Rattle.trials.proofs.all_fault.Goals.{After-children_within, After-room_for_all, After-room_to_pend, Else-not-children_within, Start}
+use Rattle.trials.proofs.all_fault.Goals.{After-children_within, After-room_for_all, Else-not-children_within}
+use Rattle.trials.proofs.all_fault.Goals.{Start, then-not-room_for_all-via-then-not-room_for_all}
+use Rattle.trials.proofs.all_fault.Goals.{then-not-room_for_all-via-else-not-room_for_all+then-not-room_to_pend}
 
 -- ---- what the tests show
 small : (c : After-children_within) (t : Bool)
@@ -48,12 +52,13 @@ roomy c t e =
     ∙ sym (c.room_for_all.ensures (or_none (given c.requires.ready_by.ready)) (offered-by-rule (goal.at.After-room_for_all c).Start))
     ∙ e
 
-pends : (c : After-room_to_pend) (t : Bool) →
-    c.room_to_pend.result ≡ t → room_to_pend c.args.pending (or_none (given c.requires.ready_by.ready)) ≡ t
-pends c t e =
-    sym (c.room_to_pend.ensures c.args.ticket.now c.args.body (or_none (given c.requires.ready_by.ready))
-    (shaped (goal.at.After-room_to_pend c).Start ∙ sym (shape_by c.requires.ready_by c.args.s.n)))
-    ∙ e
+pends : (s : Start) {r : Bool} (t : Bool)
+    → ((b : List ℕ) (body : ℕ) (cs : List (List Fact)) → map length cs ≡ shape_of s.args.rule s.args.s.n b body s.args.size
+    → r ≡ room_to_pend s.args.pending cs)
+    → r ≡ t
+    → room_to_pend s.args.pending (or_none (given s.requires.ready_by.ready)) ≡ t
+pends s t h e =
+    sym (h s.args.ticket.now s.args.body (or_none (given s.requires.ready_by.ready)) (shaped s ∙ sym (shape_by s.requires.ready_by s.args.s.n))) ∙ e
 
 -- ---- the needs
 pub children_within-requires : goal.children_within-requires
@@ -70,25 +75,25 @@ room_for_all-requires c =
 
 pub returns-then-not-room_for_all : goal.returns-then-not-room_for_all
 returns-then-not-room_for_all c =
-    split_ten (before c.requires.ready_by.ready) c.args.pending (given c.requires.ready_by.ready) false _ c.requires.count_value
-    (within (goal.at.returns-then-not-room_for_all c).Else-not-children_within)
-    (roomy (goal.at.returns-then-not-room_for_all c).After-room_for_all false (not-true _ c.if-not-room_for_all.true-raw)) refl
+    let start = (goal.at.returns-then-not-room_for_all c).Start in
+    let roomy = roomy (goal.at.returns-then-not-room_for_all c).After-room_for_all in
+    let refused = λ (t p : Bool). split_ten (before c.requires.ready_by.ready) c.args.pending (given c.requires.ready_by.ready) t p c.requires.count_value
+    (within (goal.at.returns-then-not-room_for_all c).Else-not-children_within) in
+    elim c.then-not-room_for_all.branch [
+      | then-not-room_for_all-via-then-not-room_for_all w ↦ refused false _ (roomy false (not-true _ w.if-not-room_for_all.true-raw)) refl
+      | then-not-room_for_all-via-else-not-room_for_all+then-not-room_to_pend w ↦
+          refused true false (roomy true (not-false _ w.if-not-room_for_all.false-raw))
+          (pends start false w.room_to_pend.ensures (not-true _ w.if-not-room_to_pend.true-raw))
+    ]
 
 pub room_to_pend-requires : goal.room_to_pend-requires
 room_to_pend-requires c =
     let pre = c.requires in
     form_fits pre.ready_by
 
-pub returns-then-not-room_to_pend : goal.returns-then-not-room_to_pend
-returns-then-not-room_to_pend c =
-    split_ten (before c.requires.ready_by.ready) c.args.pending (given c.requires.ready_by.ready) true false c.requires.count_value
-    (within (goal.at.returns-then-not-room_to_pend c).Else-not-children_within)
-    (roomy (goal.at.returns-then-not-room_to_pend c).After-room_for_all true (not-false _ c.if-not-room_for_all.false-raw))
-    (pends (goal.at.returns-then-not-room_to_pend c).After-room_to_pend false (not-true _ c.if-not-room_to_pend.true-raw))
-
 pub returns : goal.returns
 returns c =
     split_ten (before c.requires.ready_by.ready) c.args.pending (given c.requires.ready_by.ready) true true c.requires.count_value
     (within (goal.at.returns c).Else-not-children_within)
     (roomy (goal.at.returns c).After-room_for_all true (not-false _ c.if-not-room_for_all.false-raw))
-    (pends (goal.at.returns c).After-room_to_pend true (not-false _ c.if-not-room_to_pend.false-raw))
+    (pends (goal.at.returns c).Start true c.room_to_pend.ensures (not-false _ c.if-not-room_to_pend.false-raw))
