@@ -4,4 +4,4 @@ pub mod Literals
 pub mod Columns
 pub mod Constraints
 pub mod Posed
-pub mod Fields
+pub mod Refusals

@@ -44,7 +44,9 @@ module _ (a b : List ℕ) (x y : ℕ) where
   same_done zero h = refl
   same_done (suc k) h = absurd (omega arith)
 
-  pub same_more : (k : ℕ) → 0 < k → eq_string (u32s a x k) (u32s b y k) ≡ (eqb (u32 a x) (u32 b y) && eq_string (u32s a (x + 4) (k - 1)) (u32s b (y + 4) (k - 1)))
+  pub same_more : (k : ℕ)
+      → 0 < k
+      → eq_string (u32s a x k) (u32s b y k) ≡ (eqb (u32 a x) (u32 b y) && eq_string (u32s a (x + 4) (k - 1)) (u32s b (y + 4) (k - 1)))
   unfolding u32s
   same_more zero h = absurd (omega arith)
   same_more (suc k) h = ap (λ (n : ℕ). eqb (u32 a x) (u32 b y) && eq_string (u32s a (x + 4) n) (u32s b (y + 4) n)) (sym (down k))

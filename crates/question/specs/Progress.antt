@@ -1,11 +1,12 @@
 -- What the code keeps of a question, from the definitions of the format: the literals and the constraints stand in the bytes.
-use Rattle.std.specs.Prelude.{ℕ, List}
+use Rattle.std.specs.Prelude.{ℕ, List, Result, Ok, Err}
 use Rattle.format.specs.Question as format
 use Rattle.format.specs.Places.{Numbers, read_to}
 use Rattle.question.specs.declared.Manner.{Manner}
 use Rattle.question.specs.declared.Progress.{Progress}
-use Rattle.question.specs.declared.Reading.{Reading}
-use Rattle.question.specs.declared.Reading.TheVariants.{Stopped, Ended}
+use Rattle.question.specs.declared.Read.{Read}
+use Rattle.faults.specs.Numbers.{number}
+use Rattle.faults.specs.declared.Refusal.{Refusal}
 
 abbrev pub manner_of : Manner → format.Manner
 manner_of m = record { limited = m.limited; greatest = m.greatest }
@@ -16,6 +17,7 @@ numbers_of s = record { last = s.last; n = s.n; p = s.p; q = s.q; literals = s.l
 abbrev pub progress_of : List ℕ → Progress → format.Progress
 progress_of b s = read_to b (numbers_of s)
 
-unfoldable pub reading_of : List ℕ → Reading → format.Reading
-reading_of b (Stopped c r) = format.Stopped c r
-reading_of b (Ended s at r) = format.Ended (progress_of b s) at r
+-- the outcome of reading, a refusal by its number
+unfoldable pub reading_of : List ℕ → Result Read Refusal → format.Reading
+reading_of b (Err f) = format.Stopped (number f.fault) f.record
+reading_of b (Ok r) = format.Ended (progress_of b r.numbers) r.at r.record

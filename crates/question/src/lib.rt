@@ -14,6 +14,7 @@ ghost use Rattle.format.specs.Question.{rising, form_range, arithmetic_fault, fa
 ghost use Rattle.format.specs.Question.{room_for, question_fault, question_advanced, ending, read_by};
 ghost use Rattle.format.specs.Places.{skip, texts, literals_from};
 ghost use Rattle.records.specs.Placed.{Placed};
+ghost use Rattle.faults.specs.Numbers.{fault_in};
 ghost use Rattle.question.specs.Progress.{manner_of, progress_of, reading_of};
 ghost use Rattle.question.specs.Standing.{StandsTo, NextAt};
 ghost use Rattle.question.specs.Columns.{column_at};
@@ -23,6 +24,7 @@ use encoding::{
     IN_ORDER, IS_DECIMAL, IS_LITERAL, IS_VALUE, KIND_ARITHMETIC, KIND_CLAIM, KIND_END,
     KIND_EXTENDED, KIND_HEAD, KIND_LITERAL, KIND_STRING, LEN, NE, RECORD_HEAD,
 };
+use faults::{Fault, Refusal};
 use limits::{
     ALPHABET_LIMIT, COLUMN_LIMIT, FACT_LIMIT, LITERAL_LIMIT, LITERALS_FROM, NUMBER_LIMIT,
     TEXT_BYTES, TICKET_BYTES, VARIABLE_LIMIT,
@@ -32,32 +34,23 @@ use records::{Found, bits_within, read_at, u16_at, u32_at};
 // An arithmetic constraint in units of six bytes: the relation and the constant are one, each pair is one.
 const SIXTHS_LIMIT: usize = COLUMN_LIMIT + 1;
 
-// ---- the bodies of the question's records: the first number that applies to one, 0 for none. A body is its position and its size.
+// ---- the bodies of the question's records: the first fault of one. A body is its position and its size.
 
 // "1 head, once: u32 n (1 to 196,608), u16 p string variables, u16 q integer variables (each 0 to 16)"
-fn head_fault(b: &[u8], at: usize, size: usize) -> usize
+fn head_fault(b: &[u8], at: usize, size: usize) -> Result<(), Fault>
     requires { at + size ≤ length b.now }
-    ensures { result ≡ head_fault b.now at size }
+    ensures { fault_in result ≡ head_fault b.now at size }
 {
     if size != 8 {
-        return 5;
+        return Err(Fault::NoForm);
     }
     let n = u32_at(b, at);
     let p = u16_at(b, at + 4);
     let q = u16_at(b, at + 6);
-    if n < 1 {
-        return 6;
+    if n < 1 || ALPHABET_LIMIT < n || VARIABLE_LIMIT < p || VARIABLE_LIMIT < q {
+        return Err(Fault::OutOfRange);
     }
-    if ALPHABET_LIMIT < n {
-        return 6;
-    }
-    if VARIABLE_LIMIT < p {
-        return 6;
-    }
-    if VARIABLE_LIMIT < q {
-        return 6;
-    }
-    0
+    Ok(())
 }
 
 // Whether all of the count characters from a position are below n.
@@ -128,61 +121,50 @@ fn repeats(b: &[u8], k: usize, at: usize, size: usize) -> bool
 }
 
 // "2 literal, 0 to 15 of them: 1 to 64 characters, u32 each, below n"; "7 when a literal repeats"
-fn literal_fault(b: &[u8], n: usize, k: usize, at: usize, size: usize) -> usize
+fn literal_fault(b: &[u8], n: usize, k: usize, at: usize, size: usize) -> Result<(), Fault>
     requires { (at + size ≤ length b.now) × (skip b.now k literals_from ≤ length b.now) }
-    ensures { result ≡ literal_fault b.now n (texts b.now k literals_from) at size }
+    ensures { fault_in result ≡ literal_fault b.now n (texts b.now k literals_from) at size }
 {
-    if size < 4 {
-        return 5;
-    }
-    if TEXT_BYTES < size {
-        return 5;
-    }
-    if size % 4 != 0 {
-        return 5;
+    if size < 4 || TEXT_BYTES < size || size % 4 != 0 {
+        return Err(Fault::NoForm);
     }
     if !all_characters(b, n, at, size / 4) {
-        return 6;
+        return Err(Fault::OutOfRange);
     }
     if repeats(b, k, at, size) {
-        return 7;
+        return Err(Fault::Repeats);
     }
-    0
+    Ok(())
 }
 
 // Whether a string constraint's fields are in their ranges, over p variables and k literals besides the empty one.
 fn string_in_range(p: usize, k: usize, relation: usize, x: usize, y: usize) -> bool
     ensures { result ≡ string_range p k relation x y }
 {
-    if IS_LITERAL < relation {
-        return false;
-    }
-    if p <= x {
-        return false;
-    }
-    if relation == IS_LITERAL {
-        if k < y { false } else { true }
-    } else {
-        if p <= y { false } else { true }
-    }
+    relation <= IS_LITERAL
+        && x < p
+        && if relation == IS_LITERAL {
+            y <= k
+        } else {
+            y < p
+        }
 }
 
 // "3 string constraint: u16 relation, u16 a, u16 b"
-fn string_fault(b: &[u8], p: usize, k: usize, at: usize, size: usize) -> usize
+fn string_fault(b: &[u8], p: usize, k: usize, at: usize, size: usize) -> Result<(), Fault>
     requires { at + size ≤ length b.now }
-    ensures { result ≡ string_fault b.now p k at size }
+    ensures { fault_in result ≡ string_fault b.now p k at size }
 {
     if size != 6 {
-        return 5;
+        return Err(Fault::NoForm);
     }
     let relation = u16_at(b, at);
     let x = u16_at(b, at + 2);
     let y = u16_at(b, at + 4);
-    if string_in_range(p, k, relation, x, y) {
-        0
-    } else {
-        6
+    if !string_in_range(p, k, relation, x, y) {
+        return Err(Fault::OutOfRange);
     }
+    Ok(())
 }
 
 // Whether the number with these 32 bits may be a coefficient.
@@ -190,11 +172,7 @@ fn coefficient_in_range(v: usize) -> bool
     requires { v < 4294967296 }
     ensures { result ≡ coefficient_in_range (signed v) }
 {
-    if v == 0 {
-        false
-    } else {
-        bits_within(v, NUMBER_LIMIT)
-    }
+    v != 0 && bits_within(v, NUMBER_LIMIT)
 }
 
 // Whether a column is at least low and below c, and the number with these 32 bits may be its coefficient.
@@ -202,13 +180,7 @@ fn pair_in_range(c: usize, low: usize, column: usize, v: usize) -> bool
     requires { v < 4294967296 }
     ensures { result ≡ pair_in_range c low (column, signed v) }
 {
-    if column < low {
-        return false;
-    }
-    if c <= column {
-        return false;
-    }
-    coefficient_in_range(v)
+    low <= column && column < c && coefficient_in_range(v)
 }
 
 // Whether the columns of the count pairs from a position rise strictly below c, with coefficients in their range.
@@ -237,49 +209,41 @@ pub fn form_in_range(b: &[u8], c: usize, at: usize, count: usize) -> bool
     requires { at + 4 + 6 * count ≤ length b.now }
     ensures { result ≡ form_range b.now c at count }
 {
-    let constant = u32_at(b, at);
-    if !bits_within(constant, NUMBER_LIMIT) {
-        return false;
-    }
-    pairs_rise(b, c, at + 4, count)
+    bits_within(u32_at(b, at), NUMBER_LIMIT) && pairs_rise(b, c, at + 4, count)
 }
 
 // "4 arithmetic constraint: u16 relation .., i32 constant, then 0 to 48 pairs"
-fn arithmetic_fault(b: &[u8], c: usize, at: usize, size: usize) -> usize
+fn arithmetic_fault(b: &[u8], c: usize, at: usize, size: usize) -> Result<(), Fault>
     requires { at + size ≤ length b.now }
-    ensures { result ≡ arithmetic_fault b.now c at size }
+    ensures { fault_in result ≡ arithmetic_fault b.now c at size }
 {
-    if size < 6 {
-        return 5;
+    if size < 6 || size % 6 != 0 || SIXTHS_LIMIT < size / 6 {
+        return Err(Fault::NoForm);
     }
-    if size % 6 != 0 {
-        return 5;
+    if NE < u16_at(b, at) || !form_in_range(b, c, at + 2, size / 6 - 1) {
+        return Err(Fault::OutOfRange);
     }
-    let sixths = size / 6;
-    if SIXTHS_LIMIT < sixths {
-        return 5;
-    }
-    let relation = u16_at(b, at);
-    if NE < relation {
-        return 6;
-    }
-    if form_in_range(b, c, at + 2, sixths - 1) {
-        0
-    } else {
-        6
-    }
+    Ok(())
 }
 
-// The first of 5 and 6 that applies to the body of a constraint, over p string variables, k literals besides the empty one and c columns; 4 for a kind that is
-// no constraint's.
-fn fact_fault(b: &[u8], p: usize, k: usize, c: usize, kind: usize, at: usize, size: usize) -> usize
+// The first fault of the body of a constraint, over p string variables, k literals besides the empty one and c columns; a kind that is no constraint's is out of
+// its place.
+fn fact_fault(
+    b: &[u8],
+    p: usize,
+    k: usize,
+    c: usize,
+    kind: usize,
+    at: usize,
+    size: usize,
+) -> Result<(), Fault>
     requires { at + size ≤ length b.now }
-    ensures { result ≡ fact_fault b.now p k c kind at size }
+    ensures { fault_in result ≡ fact_fault b.now p k c kind at size }
 {
     match kind {
         KIND_STRING => string_fault(b, p, k, at, size),
         KIND_ARITHMETIC => arithmetic_fault(b, c, at, size),
-        _ => 4,
+        _ => Err(Fault::OutOfPlace),
     }
 }
 
@@ -294,31 +258,26 @@ fn operand_limit(p: usize, q: usize, function: usize, integer: usize) -> usize
 fn extended_in_range(p: usize, q: usize, function: usize, x: usize, y: usize) -> bool
     ensures { result ≡ extended_range p q function x y }
 {
-    if IN_ORDER < function {
-        return false;
-    }
-    if operand_limit(p, q, function, IS_VALUE) <= x {
-        return false;
-    }
-    y < operand_limit(p, q, function, IS_DECIMAL)
+    function <= IN_ORDER
+        && x < operand_limit(p, q, function, IS_VALUE)
+        && y < operand_limit(p, q, function, IS_DECIMAL)
 }
 
 // "kind 11 ..: u16 function, u16 a, u16 b"
-fn extended_fault(b: &[u8], p: usize, q: usize, at: usize, size: usize) -> usize
+fn extended_fault(b: &[u8], p: usize, q: usize, at: usize, size: usize) -> Result<(), Fault>
     requires { at + size ≤ length b.now }
-    ensures { result ≡ extended_fault b.now p q at size }
+    ensures { fault_in result ≡ extended_fault b.now p q at size }
 {
     if size != 6 {
-        return 5;
+        return Err(Fault::NoForm);
     }
     let function = u16_at(b, at);
     let x = u16_at(b, at + 2);
     let y = u16_at(b, at + 4);
-    if extended_in_range(p, q, function, x, y) {
-        0
-    } else {
-        6
+    if !extended_in_range(p, q, function, x, y) {
+        return Err(Fault::OutOfRange);
     }
+    Ok(())
 }
 
 // ---- kinds and their order
@@ -337,12 +296,12 @@ fn rank_of(kind: usize) -> usize
     ensures { result ≡ rank_of kind }
 {
     if kind <= KIND_ARITHMETIC {
-        return kind;
+        kind
+    } else if kind == KIND_EXTENDED {
+        EXTENDED_RANK
+    } else {
+        0
     }
-    if kind == KIND_EXTENDED {
-        return EXTENDED_RANK;
-    }
-    0
 }
 
 // How a question is read.
@@ -393,28 +352,17 @@ fn in_place(greatest: usize, last: usize, literals: usize, rank: usize) -> bool
     if rank == HEAD_RANK {
         return last == 0;
     }
-    if last < HEAD_RANK {
-        return false;
-    }
-    if rank < LITERAL_RANK {
-        return false;
-    }
-    if rank < last {
-        return false;
-    }
-    if greatest < rank {
-        return false;
-    }
-    if rank != LITERAL_RANK {
-        return true;
-    }
-    literals < LITERAL_LIMIT
+    HEAD_RANK <= last
+        && LITERAL_RANK <= rank
+        && last <= rank
+        && rank <= greatest
+        && (rank != LITERAL_RANK || literals < LITERAL_LIMIT)
 }
 
-// The first of 5 to 7 that applies to a body of a kind.
-fn body_fault(b: &[u8], s: Progress, kind: usize, at: usize, size: usize) -> usize
+// The first fault of a body of a kind.
+fn body_fault(b: &[u8], s: Progress, kind: usize, at: usize, size: usize) -> Result<(), Fault>
     requires { (at + size ≤ length b.now) × (rank_of kind ≡ literal_rank → skip b.now s.literals literals_from ≤ length b.now) × (s.p ≤ variable_limit) × (s.q ≤ variable_limit) }
-    ensures { result ≡ question_body_fault b.now (progress_of b.now s).question kind at size }
+    ensures { fault_in result ≡ question_body_fault b.now (progress_of b.now s).question kind at size }
 {
     match rank_of(kind) {
         HEAD_RANK => head_fault(b, at, size),
@@ -428,34 +376,31 @@ fn body_fault(b: &[u8], s: Progress, kind: usize, at: usize, size: usize) -> usi
 fn has_room(limited: bool, rank: usize, constraints: usize) -> bool
     ensures { result ≡ room_for limited rank constraints }
 {
-    if !limited {
-        return true;
-    }
-    if rank <= LITERAL_RANK {
-        return true;
-    }
-    constraints < FACT_LIMIT
+    !limited || rank <= LITERAL_RANK || constraints < FACT_LIMIT
 }
 
-// The first number that applies to a whole record, 10 after the others.
-fn record_fault(m: Manner, b: &[u8], s: Progress, kind: usize, at: usize, size: usize) -> usize
+// The first fault of a whole record; that it finds no room comes after the others.
+fn record_fault(
+    m: Manner,
+    b: &[u8],
+    s: Progress,
+    kind: usize,
+    at: usize,
+    size: usize,
+) -> Result<(), Fault>
     requires stands_to { StandsTo b.now s at }
     requires kind_value { (kind ≡ kind_at b.now at) × (size ≡ size_at b.now at) × (at + 6 + size ≤ length b.now) }
-    ensures { result ≡ question_fault (manner_of m) b.now (progress_of b.now s) at }
+    ensures { fault_in result ≡ question_fault (manner_of m) b.now (progress_of b.now s) at }
 {
     let rank = rank_of(kind);
     if !in_place(m.greatest, s.last, s.literals, rank) {
-        return 4;
+        return Err(Fault::OutOfPlace);
     }
-    let f = body_fault(b, s, kind, at + RECORD_HEAD, size);
-    if f != 0 {
-        return f;
+    body_fault(b, s, kind, at + RECORD_HEAD, size)?;
+    if !has_room(m.limited, rank, s.constraints + s.extended) {
+        return Err(Fault::NoRoom);
     }
-    if has_room(m.limited, rank, s.constraints + s.extended) {
-        0
-    } else {
-        10
-    }
+    Ok(())
 }
 
 // What was read after the head with its body at a position.
@@ -471,14 +416,11 @@ fn read_head(b: &[u8], body: usize) -> Progress
       extended = 0;
     } }
 {
-    let n = u32_at(b, body);
-    let p = u16_at(b, body + 4);
-    let q = u16_at(b, body + 6);
     Progress {
         last: HEAD_RANK,
-        n: n,
-        p: p,
-        q: q,
+        n: u32_at(b, body),
+        p: u16_at(b, body + 4),
+        q: u16_at(b, body + 6),
         literals: 0,
         constraints: 0,
         extended: 0,
@@ -490,71 +432,51 @@ fn advance(b: &[u8], s: Progress, kind: usize, at: usize) -> Progress
     requires { NextAt b.now s at × (kind ≡ kind_at b.now at) }
     ensures { progress_of b.now result ≡ question_advanced b.now (progress_of b.now s) at }
 {
-    let rank = rank_of(kind);
-    if rank == HEAD_RANK {
-        return read_head(b, at + RECORD_HEAD);
-    }
-    if rank == LITERAL_RANK {
-        return Progress {
+    match rank_of(kind) {
+        HEAD_RANK => read_head(b, at + RECORD_HEAD),
+        LITERAL_RANK => Progress {
             last: LITERAL_RANK,
-            n: s.n,
-            p: s.p,
-            q: s.q,
             literals: s.literals + 1,
-            constraints: s.constraints,
-            extended: s.extended,
-        };
-    }
-    if rank == EXTENDED_RANK {
-        return Progress {
+            ..s
+        },
+        EXTENDED_RANK => Progress {
             last: EXTENDED_RANK,
-            n: s.n,
-            p: s.p,
-            q: s.q,
-            literals: s.literals,
-            constraints: s.constraints,
             extended: s.extended + 1,
-        };
-    }
-    Progress {
-        last: rank,
-        n: s.n,
-        p: s.p,
-        q: s.q,
-        literals: s.literals,
-        constraints: s.constraints + 1,
-        extended: s.extended,
+            ..s
+        },
+        rank => Progress {
+            last: rank,
+            constraints: s.constraints + 1,
+            ..s
+        },
     }
 }
 
 // ---- the whole question
 
-#[derive(Drop)]
-pub enum Reading {
-    // A refusal: its number and record.
-    Stopped(usize, usize),
-    // What was read, and the position and the record where reading ended.
-    Ended(Progress, usize, usize),
+// What was read, and the position and the record where reading ended.
+#[derive(Clone, Copy)]
+pub struct Read {
+    pub numbers: Progress,
+    pub at: usize,
+    pub record: usize,
 }
 
 // Whether a record of this kind ends the question: a claim or an end record.
 fn ends_question(k: usize) -> bool
     ensures { result ≡ ending k }
 {
-    if k == KIND_CLAIM {
-        return true;
-    }
-    k == KIND_END
+    k == KIND_CLAIM || k == KIND_END
 }
 
 // The question of the bytes, read in a manner; "reading ends at the six leading bytes of the first claim or end record".
-pub fn read_question(m: Manner, b: &[u8]) -> Reading
+pub fn read_question(m: Manner, b: &[u8]) -> Result<Read, Refusal>
     ensures { reading_of b.now result ≡ read_by (question_fault (manner_of m)) b.now }
 {
     if TICKET_BYTES < b.len() {
-        return Reading::Stopped(2, 0);
+        return Err(Fault::LongTicket.at(0));
     }
-    let mut s = Progress {
+    let mut numbers = Progress {
         last: 0,
         n: 0,
         p: 0,
@@ -564,28 +486,34 @@ pub fn read_question(m: Manner, b: &[u8]) -> Reading
         extended: 0,
     };
     let mut at = 0;
-    let mut r = 0;
+    let mut record = 0;
     loop {
         match read_at(b, at) {
-            Found::Nothing => return Reading::Stopped(3, r),
+            Found::Nothing => return Err(Fault::CutShort.at(record)),
             Found::Cut(k) => {
                 if ends_question(k) {
-                    return Reading::Ended(s, at, r);
+                    return Ok(Read {
+                        numbers,
+                        at,
+                        record,
+                    });
                 }
-                return Reading::Stopped(3, r);
+                return Err(Fault::CutShort.at(record));
             }
             Found::Whole(k, size) => {
                 if ends_question(k) {
-                    return Reading::Ended(s, at, r);
+                    return Ok(Read {
+                        numbers,
+                        at,
+                        record,
+                    });
                 }
-                let f = record_fault(m, b, s, k, at, size);
-                if f != 0 {
-                    return Reading::Stopped(f, r);
+                if let Err(fault) = record_fault(m, b, numbers, k, at, size) {
+                    return Err(fault.at(record));
                 }
-                let t = advance(b, s, k, at);
-                s = t;
+                numbers = advance(b, numbers, k, at);
                 at = at + RECORD_HEAD + size;
-                r += 1;
+                record += 1;
             }
         }
     }
@@ -616,7 +544,7 @@ pub fn behind_literals(b: &[u8], l: usize) -> usize
 }
 
 // The characters of a literal: the position of the first, and how many there are.
-#[derive(Drop)]
+#[derive(Clone, Copy)]
 pub struct Text {
     pub at: usize,
     pub count: usize,
@@ -627,10 +555,9 @@ fn written_text(b: &[u8], l: usize, from: usize) -> Text
     requires { (0 < l) × (skip b.now l literals_from ≤ length b.now) × (from ≡ skip b.now (l - 1) literals_from) }
     ensures { LiteralText b.now l result }
 {
-    let size = u32_at(b, from);
     Text {
         at: from + RECORD_HEAD,
-        count: size / 4,
+        count: u32_at(b, from) / 4,
     }
 }
 
@@ -645,8 +572,7 @@ pub fn literal_text(b: &[u8], l: usize) -> Text
     if l == 0 {
         return EMPTY_TEXT;
     }
-    let from = behind_literals(b, l - 1);
-    written_text(b, l, from)
+    written_text(b, l, behind_literals(b, l - 1))
 }
 
 // The text of literal l, where the places of the literals are known.
@@ -658,8 +584,7 @@ pub fn placed_text(b: &[u8], places: &[usize], l: usize) -> Text
     if l == 0 {
         return EMPTY_TEXT;
     }
-    let from = places[l - 1];
-    written_text(b, l, from)
+    written_text(b, l, places[l - 1])
 }
 
 // "code (the code point of a one-character string, else −1)", of a text.
@@ -667,11 +592,7 @@ pub fn text_code(b: &[u8], at: usize, count: usize) -> i64
     requires { at + 4 * count ≤ length b.now }
     ensures { (result ≡ code_of (u32s b.now at count)) × (nat_abs result < 4294967296) }
 {
-    if count == 1 {
-        let c = u32_at(b, at);
-        return c as i64;
-    }
-    -1
+    if count == 1 { u32_at(b, at) as i64 } else { -1 }
 }
 
 // ---- columns
@@ -681,8 +602,5 @@ pub fn column_of(p: usize, q: usize, function: usize, x: usize) -> usize
     requires { (p ≤ variable_limit) × (q ≤ variable_limit) × (x < variable_limit) }
     ensures { (result ≡ column_at p q function x) × (result < column_limit) }
 {
-    if function == LEN {
-        return q + x;
-    }
-    q + (p + x)
+    if function == LEN { q + x } else { q + (p + x) }
 }

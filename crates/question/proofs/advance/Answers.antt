@@ -1,4 +1,4 @@
-use mathlib.Core.Path.{◌≡◌, ◌∙◌, sym, ap}
+use mathlib.Core.Path.{◌≡◌, refl, ◌∙◌, sym, ap}
 use native.Mathlib.Omega.{arith}
 use borrow.Author.Tests.{eq-eqb, ne_eqb}
 use Rattle.format.specs.Records.{kind}
@@ -7,11 +7,11 @@ use Rattle.format.specs.Places.{read_to}
 use Rattle.format.proofs.Standing.{head_size, after_advanced}
 use Rattle.question.specs.Progress.{numbers_of}
 use Rattle.question.proofs.advance.Goals as goal
-use Rattle.question.proofs.advance.Goals.{After-rank_of-rank}
+use Rattle.question.proofs.advance.Goals.{After-rank_of}
 
 -- the rank of the record at the position
-ranked : (c : After-rank_of-rank) → c.rank_of-rank.result ≡ rank_of (kind c.args.b.now c.args.at)
-ranked c = c.rank_of-rank.ensures ∙ ap rank_of c.requires.1
+ranked : (c : After-rank_of) → c.rank_of.result ≡ rank_of (kind c.args.b.now c.args.at)
+ranked c = c.rank_of.ensures ∙ ap rank_of c.requires.1
 
 -- a head's body is there
 pub read_head-requires : goal.read_head-requires
@@ -19,41 +19,30 @@ read_head-requires c =
     omega (
       arith,
       head_size c.args.b.now (numbers_of c.args.s) c.args.at c.requires.0
-          (sym (ranked (goal.at.read_head-requires c).After-rank_of-rank) ∙ c.if-rank-eq-HEAD_RANK.true),
+          (sym (ranked (goal.at.read_head-requires c).After-rank_of) ∙ c.in-1.is),
     )
 
-pub returns-then-rank-eq-HEAD_RANK : goal.returns-then-rank-eq-HEAD_RANK
-returns-then-rank-eq-HEAD_RANK c =
+pub returns-in-1 : goal.returns-in-1
+returns-in-1 c =
     ap (read_to c.args.b.now)
-    (simp (eq-eqb _ _ (sym (ranked (goal.at.returns-then-rank-eq-HEAD_RANK c).After-rank_of-rank) ∙ c.if-rank-eq-HEAD_RANK.true), c.read_head.ensures))
+    (simp (eq-eqb _ _ (sym (ranked (goal.at.returns-in-1 c).After-rank_of) ∙ c.in-1.is), c.read_head.ensures))
     ∙ after_advanced _ _ _ c.requires.0
 
-pub returns-then-rank-eq-LITERAL_RANK : goal.returns-then-rank-eq-LITERAL_RANK
-returns-then-rank-eq-LITERAL_RANK c =
-    ap (read_to c.args.b.now) (sym (rw (sym (ranked (goal.at.returns-then-rank-eq-LITERAL_RANK c).After-rank_of-rank))
-    (rw (ne_eqb _ _ c.if-rank-eq-HEAD_RANK.false, eq-eqb _ _ c.if-rank-eq-LITERAL_RANK.true))))
+pub returns-in-2 : goal.returns-in-2
+returns-in-2 c =
+    ap (read_to c.args.b.now) (sym (rw (sym (ranked (goal.at.returns-in-2 c).After-rank_of) ∙ c.in-2.is) refl))
     ∙ after_advanced _ _ _ c.requires.0
 
-pub overflow_add-result-then-rank-eq-EXTENDED_RANK : goal.overflow_add-result-then-rank-eq-EXTENDED_RANK
-overflow_add-result-then-rank-eq-EXTENDED_RANK c = omega (arith, c.requires.0.stands.counted, c.requires.0.stands.within)
-
-pub returns-then-rank-eq-EXTENDED_RANK : goal.returns-then-rank-eq-EXTENDED_RANK
-returns-then-rank-eq-EXTENDED_RANK c =
-    ap (read_to c.args.b.now) (sym (rw (sym (ranked (goal.at.returns-then-rank-eq-EXTENDED_RANK c).After-rank_of-rank)) (rw (
-      ne_eqb _ _ c.if-rank-eq-HEAD_RANK.false,
-      ne_eqb _ _ c.if-rank-eq-LITERAL_RANK.false,
-      eq-eqb _ _ c.if-rank-eq-EXTENDED_RANK.true,
-    ))))
+pub returns-in-5 : goal.returns-in-5
+returns-in-5 c =
+    ap (read_to c.args.b.now) (sym (rw (sym (ranked (goal.at.returns-in-5 c).After-rank_of) ∙ c.in-5.is) refl))
     ∙ after_advanced _ _ _ c.requires.0
 
-pub overflow_add-result-2 : goal.overflow_add-result-2
-overflow_add-result-2 c = omega (arith, c.requires.0.stands.counted, c.requires.0.stands.within)
-
-pub returns : goal.returns
-returns c =
-    ap (read_to c.args.b.now) (sym (rw (sym (ranked (goal.at.returns c).After-rank_of-rank)) (rw (
-      ne_eqb _ _ c.if-rank-eq-HEAD_RANK.false,
-      ne_eqb _ _ c.if-rank-eq-LITERAL_RANK.false,
-      ne_eqb _ _ c.if-rank-eq-EXTENDED_RANK.false,
-    ))))
+pub returns-in_default : goal.returns-in_default
+returns-in_default c =
+    ap (read_to c.args.b.now) (sym (rw (sym (ranked (goal.at.returns-in_default c).After-rank_of)) (rw (
+      ne_eqb c.rank_of.result 1 (λ e. omega arith),
+      ne_eqb c.rank_of.result 2 (λ e. omega arith),
+      ne_eqb c.rank_of.result 5 (λ e. omega arith),
+    ) refl)))
     ∙ after_advanced _ _ _ c.requires.0

@@ -4,11 +4,11 @@ use borrow.Author.Tests.{lt-ltb}
 use Rattle.records.proofs.Signed.{signed_nonzero}
 use Rattle.question.proofs.coefficient_in_range.Goals as goal
 
-pub returns-then-v-eq0 : goal.returns-then-v-eq0
+pub returns-else-v-ne0 : goal.returns-else-v-ne0
 unfolding signed
-returns-then-v-eq0 c = rw c.if-v-eq0.true
+returns-else-v-ne0 c = rw c.if-v-ne0.false
 
-pub returns-else-v-eq0 : goal.returns-else-v-eq0
-returns-else-v-eq0 c =
-    rw (lt-ltb 0 (nat_abs (signed c.args.v)) (signed_nonzero _ c.requires c.if-v-eq0.false))
+pub returns-then-v-ne0 : goal.returns-then-v-ne0
+returns-then-v-ne0 c =
+    rw (lt-ltb 0 (nat_abs (signed c.args.v)) (signed_nonzero _ c.requires c.if-v-ne0.true))
     c.bits_within.ensures

@@ -8,6 +8,6 @@ use Rattle.question.proofs.literal_text.Goals as goal
 pub returns-then-l-eq0 : goal.returns-then-l-eq0
 returns-then-l-eq0 c = empty_text _ _ c.if-l-eq0.true
 
-pub behind_literals-from-requires : goal.behind_literals-from-requires
-behind_literals-from-requires c =
+pub behind_literals-requires : goal.behind_literals-requires
+behind_literals-requires c =
     omega (arith, skip_up c.args.b.now (c.args.l - 1) c.args.l literals_from (omega arith), c.requires)

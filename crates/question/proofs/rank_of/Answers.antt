@@ -21,9 +21,9 @@ pub returns-then-kind-eq-KIND_EXTENDED : goal.returns-then-kind-eq-KIND_EXTENDED
 unfolding rank_of
 returns-then-kind-eq-KIND_EXTENDED c = sym (ap rank_of c.if-kind-eq-KIND_EXTENDED.true)
 
-pub returns : goal.returns
+pub returns-else-kind-eq-KIND_EXTENDED : goal.returns-else-kind-eq-KIND_EXTENDED
 unfolding rank_of
-returns c =
+returns-else-kind-eq-KIND_EXTENDED c =
     let kind = c.args.kind in
     sym (rw (
       ne_eqb kind 1 (λ e. omega arith),

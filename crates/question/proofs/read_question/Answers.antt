@@ -5,6 +5,7 @@ use Prim.Native.Nat.{ℕ, zero, suc, ◌+◌, ◌≤◌}
 use native.Mathlib.Omega.{arith}
 use native.Mathlib.Numerals.{add-one}
 use lib.ListN.{length}
+use Rattle.std.specs.Prelude.{Ok, Err}
 use Rattle.calculus.specs.Limits.{ticket_bytes}
 use Rattle.format.specs.Records.{kind, size}
 use Rattle.format.specs.Question as format
@@ -15,7 +16,11 @@ use Rattle.records.specs.declared.Found.TheVariants.{Nothing}
 use Rattle.records.proofs.Finding.{found_nothing, found_cut, found_whole}
 use Rattle.question.specs.declared.Manner.{Manner}
 use Rattle.question.specs.declared.Progress.{Progress}
-use Rattle.question.specs.declared.Reading.TheVariants.{Stopped, Ended}
+use Rattle.faults.specs.Numbers.{number, fault_in}
+use Rattle.faults.specs.declared.Fault.{Fault}
+use Rattle.faults.specs.declared.Fault.TheVariants.{CutShort}
+use Rattle.faults.specs.declared.Refusal.{Refusal}
+use Rattle.question.proofs.Refusals.{numbered}
 use Rattle.question.specs.Progress.{manner_of, numbers_of, progress_of, reading_of}
 use Rattle.question.specs.Standing.{StandsTo}
 use Rattle.format.proofs.RecordFaults.{cut_short}
@@ -31,24 +36,33 @@ module _ (m : Manner) (b : List ℕ) (s : Progress) (r at : ℕ) (short : length
   outcome : (x : format.Reading) → read_on test b (progress_of b s) r at ≡ x → x ≡ read_by test b
   outcome x e = sym e ∙ left ∙ sym (read_begin test b short)
 
-  at-nothing : found_at b at ≡ Nothing → reading_of b (Stopped 3 r) ≡ read_by test b
+  at-nothing : (f : Refusal) → (f.fault ≡ CutShort) × (f.record ≡ r) → found_at b at ≡ Nothing → reading_of b (Err f) ≡ read_by test b
   unfolding reading_of
-  at-nothing e = outcome (format.Stopped 3 r) (read_none test b (progress_of b s) r at (found_nothing b at e))
+  at-nothing f (ef, er) e = rw (ef, er) (outcome (format.Stopped 3 r) (read_none test b (progress_of b s) r at (found_nothing b at e)))
 
-  at-ending : (k : ℕ) → k ≡ kind b at → at + 6 ≤ length b → ending k ≡ true → reading_of b (Ended s at r) ≡ read_by test b
+  at-ending : (k : ℕ) → k ≡ kind b at → at + 6 ≤ length b → ending k ≡ true → reading_of b (Ok (record { numbers = s; at = at; «record» = r })) ≡ read_by test b
   unfolding reading_of
   at-ending k e h g = outcome (format.Ended (progress_of b s) at r) (read_ended test b (progress_of b s) r at h (rw e at g))
 
-  at-fault : (k f : ℕ)
+  stopped : (k c : ℕ)
       → k ≡ kind b at
       → at + 6 ≤ length b
       → ending k ≡ false
-      → f ≡ test b (progress_of b s) at
-      → (f ≡ 0 → ⊥)
-      → reading_of b (Stopped f r) ≡ read_by test b
+      → c ≡ test b (progress_of b s) at
+      → (c ≡ 0 → ⊥)
+      → format.Stopped c r ≡ read_by test b
+  stopped k zero e h g ec z = absurd (z refl)
+  stopped k (suc c) e h g ec z = outcome (format.Stopped (suc c) r) (read_stopped test b (progress_of b s) r at c h (rw e at g) (sym ec))
+
+  at-fault : (k : ℕ) (x : Fault) (f : Refusal)
+      → (f.fault ≡ x) × (f.record ≡ r)
+      → k ≡ kind b at
+      → at + 6 ≤ length b
+      → ending k ≡ false
+      → number x ≡ test b (progress_of b s) at
+      → reading_of b (Err f) ≡ read_by test b
   unfolding reading_of
-  at-fault k zero e h g ef z = absurd (z refl)
-  at-fault k (suc c) e h g ef z = outcome (format.Stopped (suc c) r) (read_stopped test b (progress_of b s) r at c h (rw e at g) (sym ef))
+  at-fault k x f (ef, er) e h g ec = rw (ef, er) (stopped k (number x) e h g ec (numbered x))
 
   goes_on : (k n : ℕ) (t : Progress) → (k ≡ kind b at) × (n ≡ size b at) × (at + 6 + n ≤ length b) → ending k ≡ false → test b (progress_of b s) at ≡ 0
       → progress_of b t ≡ question_advanced b (progress_of b s) at
@@ -62,7 +76,8 @@ module _ (m : Manner) (b : List ℕ) (s : Progress) (r at : ℕ) (short : length
 
 pub returns-then-b-gt-TICKET_BYTES : goal.returns-then-b-gt-TICKET_BYTES
 unfolding reading_of
-returns-then-b-gt-TICKET_BYTES c = sym (read_long (question_fault (manner_of c.args.m)) _ c.if-b-gt-TICKET_BYTES.true)
+returns-then-b-gt-TICKET_BYTES c =
+    rw (c.at.ensures.0, c.at.ensures.1) (sym (read_long (question_fault (manner_of c.args.m)) _ c.if-b-gt-TICKET_BYTES.true))
 
 pub loop-k-init : goal.loop-k-init
 loop-k-init c =
@@ -73,105 +88,72 @@ pub returns-in-Nothing : goal.returns-in-Nothing
 returns-in-Nothing c =
     let a = c.args in
     let l = c.loop-k in
-    at-nothing a.m a.b.now l.s l.r l.at c.if-b-gt-TICKET_BYTES.false l.invariant.2
+    at-nothing a.m a.b.now l.numbers l.record l.at c.if-b-gt-TICKET_BYTES.false l.invariant.2 _ c.at-in-Nothing.ensures
     (sym c.read_at.ensures ∙ c.in-Nothing.is)
 
 pub returns-then-ends_question : goal.returns-then-ends_question
 returns-then-ends_question c =
-    let read_at = c.read_at in
-    let if1 = c.if-b-gt-TICKET_BYTES in
     let a = c.args in
     let l = c.loop-k in
-    let w = found_cut a.b.now l.at _ (sym read_at.ensures ∙ c.in-Cut.is) in
-    at-ending a.m a.b.now l.s l.r l.at if1.false l.invariant.2 _ w.0 w.1 (sym c.ends_question.ensures ∙ c.if-ends_question.true)
+    let w = found_cut a.b.now l.at _ (sym c.read_at.ensures ∙ c.in-Cut.is) in
+    at-ending a.m a.b.now l.numbers l.record l.at c.if-b-gt-TICKET_BYTES.false l.invariant.2 _ w.0 w.1 (sym c.ends_question.ensures ∙ c.if-ends_question.true)
 
 pub returns-in-Cut : goal.returns-in-Cut
 returns-in-Cut c =
-    let read_at = c.read_at in
-    let if1 = c.if-b-gt-TICKET_BYTES in
     let a = c.args in
     let l = c.loop-k in
-    let w = found_cut a.b.now l.at _ (sym read_at.ensures ∙ c.in-Cut.is) in
-    at-fault a.m a.b.now l.s l.r l.at if1.false l.invariant.2 _ 3 w.0 w.1 (sym c.ends_question.ensures ∙ c.if-ends_question.false)
-    (sym (cut_short (manner_of a.m) a.b.now (progress_of a.b.now l.s) l.at w.2)) (λ z. omega arith)
+    let w = found_cut a.b.now l.at _ (sym c.read_at.ensures ∙ c.in-Cut.is) in
+    at-fault a.m a.b.now l.numbers l.record l.at c.if-b-gt-TICKET_BYTES.false l.invariant.2 _ CutShort _ c.at-in-Cut.ensures w.0 w.1
+    (sym c.ends_question.ensures ∙ c.if-ends_question.false)
+    (sym (cut_short (manner_of a.m) a.b.now (progress_of a.b.now l.numbers) l.at w.2))
 
 pub returns-then-ends_question-2 : goal.returns-then-ends_question-2
 returns-then-ends_question-2 c =
-    let read_at = c.read_at in
-    let if1 = c.if-b-gt-TICKET_BYTES in
     let a = c.args in
     let l = c.loop-k in
-    let w = found_whole a.b.now l.at _ _ (sym read_at.ensures ∙ c.in-Whole.is) in
-    at-ending a.m a.b.now l.s l.r l.at if1.false l.invariant.2 _ w.0 (omega (arith, w.2))
+    let w = found_whole a.b.now l.at _ _ (sym c.read_at.ensures ∙ c.in-Whole.is) in
+    at-ending a.m a.b.now l.numbers l.record l.at c.if-b-gt-TICKET_BYTES.false l.invariant.2 _ w.0 (omega (arith, w.2))
     (sym c.ends_question-in-Whole.ensures ∙ c.if-ends_question-2.true)
 
-pub record_fault-f-requires : goal.record_fault-f-requires
-record_fault-f-requires c =
-    let read_at = c.read_at in
-    let a = c.args in
+pub record_fault-requires : goal.record_fault-requires
+record_fault-requires c =
     let l = c.loop-k in
-    record { stands_to = l.invariant.1; kind_value = found_whole a.b.now l.at _ _ (sym read_at.ensures ∙ c.in-Whole.is) }
+    record { stands_to = l.invariant.1; kind_value = found_whole c.args.b.now l.at _ _ (sym c.read_at.ensures ∙ c.in-Whole.is) }
 
-pub returns-then-f-ne0 : goal.returns-then-f-ne0
-returns-then-f-ne0 c =
-    let k2 = c.in-Whole in
-    let read_at = c.read_at in
-    let if1 = c.if-b-gt-TICKET_BYTES in
+pub returns-in-Err : goal.returns-in-Err
+returns-in-Err c =
     let a = c.args in
     let l = c.loop-k in
-    let w = found_whole a.b.now l.at _ _ (sym read_at.ensures ∙ k2.is) in
-    at-fault a.m a.b.now l.s l.r l.at if1.false l.invariant.2 _ _ w.0 (omega (arith, w.2))
+    let w = found_whole a.b.now l.at _ _ (sym c.read_at.ensures ∙ c.in-Whole.is) in
+    at-fault a.m a.b.now l.numbers l.record l.at c.if-b-gt-TICKET_BYTES.false l.invariant.2 _ _ _ c.at-in-Err.ensures w.0 (omega (arith, w.2))
     (sym c.ends_question-in-Whole.ensures ∙ c.if-ends_question-2.false)
-    c.record_fault-f.ensures c.if-f-ne0.true
+    (ap fault_in (sym c.in-Err.is) ∙ c.record_fault.ensures)
 
-pub advance-t-requires : goal.advance-t-requires
-advance-t-requires c =
-    let k2 = c.in-Whole in
-    let read_at = c.read_at in
-    let a = c.args in
+pub advance-numbers-requires : goal.advance-numbers-requires
+advance-numbers-requires c =
     let l = c.loop-k in
-    let w = found_whole a.b.now l.at _ _ (sym read_at.ensures ∙ k2.is) in
-    (next_at (manner_of a.m) l.invariant.1 (sym c.record_fault-f.ensures ∙ c.if-f-ne0.false), w.0)
+    let w = found_whole c.args.b.now l.at _ _ (sym c.read_at.ensures ∙ c.in-Whole.is) in
+    (next_at (manner_of c.args.m) l.invariant.1 (sym c.in_default.ensures), w.0)
 
 pub overflow_add-at : goal.overflow_add-at
-overflow_add-at c =
-    let k2 = c.in-Whole in
-    let read_at = c.read_at in
-    let a = c.args in
-    let l = c.loop-k in
-    omega (arith, (found_whole a.b.now l.at _ _ (sym read_at.ensures ∙ k2.is)).2)
+overflow_add-at c = omega (arith, (found_whole c.args.b.now c.loop-k.at _ _ (sym c.read_at.ensures ∙ c.in-Whole.is)).2)
 
 pub overflow_add-at-in-Whole : goal.overflow_add-at-in-Whole
-overflow_add-at-in-Whole c =
-    let k2 = c.in-Whole in
-    let read_at = c.read_at in
-    let a = c.args in
-    let l = c.loop-k in
-    omega (arith, (found_whole a.b.now l.at _ _ (sym read_at.ensures ∙ k2.is)).2)
+overflow_add-at-in-Whole c = omega (arith, (found_whole c.args.b.now c.loop-k.at _ _ (sym c.read_at.ensures ∙ c.in-Whole.is)).2)
 
-pub overflow_add-r : goal.overflow_add-r
-overflow_add-r c =
-    let loop = c.loop-k in
-    omega (arith, loop.invariant.1.within)
+pub overflow_add-record : goal.overflow_add-record
+overflow_add-record c = omega (arith, c.loop-k.invariant.1.within)
 
 pub loop-k-smaller : goal.loop-k-smaller
-loop-k-smaller c =
-    let k2 = c.in-Whole in
-    let read_at = c.read_at in
-    let a = c.args in
-    let l = c.loop-k in
-    omega (arith, (found_whole a.b.now l.at _ _ (sym read_at.ensures ∙ k2.is)).2)
+loop-k-smaller c = omega (arith, (found_whole c.args.b.now c.loop-k.at _ _ (sym c.read_at.ensures ∙ c.in-Whole.is)).2)
 
 pub loop-k-preserved : goal.loop-k-preserved
 loop-k-preserved c =
-    let k2 = c.in-Whole in
-    let read_at = c.read_at in
-    let if1 = c.if-b-gt-TICKET_BYTES in
     let a = c.args in
     let l = c.loop-k in
-    let w = found_whole a.b.now l.at _ _ (sym read_at.ensures ∙ k2.is) in
+    let w = found_whole a.b.now l.at _ _ (sym c.read_at.ensures ∙ c.in-Whole.is) in
     let on =
-    goes_on a.m a.b.now l.s l.r l.at if1.false l.invariant.2 _ _ _ w
+    goes_on a.m a.b.now l.numbers l.record l.at c.if-b-gt-TICKET_BYTES.false l.invariant.2 _ _ _ w
     (sym c.ends_question-in-Whole.ensures ∙ c.if-ends_question-2.false)
-    (sym c.record_fault-f.ensures ∙ c.if-f-ne0.false) c.advance-t.ensures l.invariant.1 in
+    (sym c.in_default.ensures) c.advance-numbers.ensures l.invariant.1 in
     (omega arith, on.0, on.1)

@@ -14,7 +14,7 @@ abbrev pub Left : Manner → List ℕ → Progress → ℕ → ℕ → Type 0
 Left m b s r at = read_on (question_fault (manner_of m)) b (progress_of b s) r at ≡ read_on (question_fault (manner_of m)) b unread 0 0
 
 abbrev pub invariant-loop-k : goal.invariant-loop-k
-invariant-loop-k l = (l.r ≤ l.at) × StandsTo l.b l.s l.at × Left l.m l.b l.s l.r l.at
+invariant-loop-k l = (l.record ≤ l.at) × StandsTo l.b l.numbers l.at × Left l.m l.b l.numbers l.record l.at
 
 abbrev pub decreases-loop-k : goal.decreases-loop-k
 decreases-loop-k l = length l.b - l.at

@@ -1,10 +1,9 @@
-use mathlib.Core.Path.{◌≡◌, ◌∙◌, sym, ap, ap₂}
+use mathlib.Core.Path.{◌≡◌, refl, ◌∙◌, sym, ap, ap₂}
 use mathlib.Core.Bool.{Bool, true, false}
 use mathlib.Core.List.{List}
 use Prim.Native.Nat.{ℕ, ◌+◌, ◌≤◌}
 use native.Mathlib.Omega.{arith}
 use lib.ListN.{length}
-use borrow.Author.Tests.{not-true, not-false}
 use Rattle.format.specs.Records.{kind, size, need}
 use Rattle.format.specs.Question.{literal_rank, rank_of, rank_in_place, in_place, question_body_fault, room_for, question_fault}
 use Rattle.format.specs.Places.{skip, literals_from}
@@ -15,6 +14,8 @@ use Rattle.question.specs.Progress.{manner_of, numbers_of, progress_of}
 use Rattle.question.specs.Standing.{StandsTo}
 use Rattle.format.proofs.RecordFaults.{behind_head, out_of_place, ill_formed, by_room}
 use Rattle.format.proofs.Standing.{literals_within}
+use Rattle.std.proofs.lemmas.Result.{err_from_is_err_and}
+use Rattle.question.proofs.Refusals.{numbered}
 use Rattle.question.proofs.record_fault.Goals as goal
 use Rattle.question.proofs.record_fault.Goals.{After-has_room}
 
@@ -54,38 +55,32 @@ module _ (m : Manner) (b : List ℕ) (s : Progress) (at k n : ℕ) (w : (k ≡ k
 
 pub returns-then-not-in_place : goal.returns-then-not-in_place
 returns-then-not-in_place c =
-    misplaced c.args.m c.args.b.now c.args.s _ _ _ c.requires.kind_value _ c.rank_of-rank.ensures _ c.in_place.ensures
-    (not-true _ c.if-not-in_place.true-raw)
+    misplaced c.args.m c.args.b.now c.args.s _ _ _ c.requires.kind_value _ c.rank_of-rank.ensures _ c.in_place.ensures c.if-not-in_place.true
 
-pub body_fault-f-requires : goal.body_fault-f-requires
-body_fault-f-requires c = (
+pub body_fault-requires : goal.body_fault-requires
+body_fault-requires c = (
   omega arith,
   literals_there c.args.m c.args.b.now c.args.s _ _ _ c.requires.kind_value _ c.rank_of-rank.ensures _ c.in_place.ensures
-      c.requires.stands_to (not-false _ c.if-not-in_place.false-raw),
+      c.requires.stands_to c.if-not-in_place.false,
   c.requires.stands_to.few_strings,
   c.requires.stands_to.few_integers,
 )
 
-pub returns-then-f-ne0 : goal.returns-then-f-ne0
-returns-then-f-ne0 c =
-    misformed c.args.m c.args.b.now c.args.s _ _ _ c.requires.kind_value _ c.rank_of-rank.ensures _ c.in_place.ensures
-    (not-false _ c.if-not-in_place.false-raw)
-    _ c.body_fault-f.ensures c.if-f-ne0.true
-
-pub overflow_add-s : goal.overflow_add-s
-overflow_add-s c =
-    omega (arith, c.requires.stands_to.counted, c.requires.stands_to.within)
+pub returns-in_err-body_fault : goal.returns-in_err-body_fault
+returns-in_err-body_fault c =
+    let p = err_from_is_err_and c.from_residual.result c.from_residual.ensures.1 in
+    rw (p.1, p.2) (misformed c.args.m c.args.b.now c.args.s _ _ _ c.requires.kind_value _ c.rank_of-rank.ensures _ c.in_place.ensures c.if-not-in_place.false
+    _ c.in_err-body_fault.ensures (numbered _))
 
 -- a body without fault, by whether it finds room
 roomy : (c : After-has_room) (x : Bool) → c.has_room.result ≡ x
     → need 10 x 0 ≡ question_fault (manner_of c.args.m) c.args.b.now (progress_of c.args.b.now c.args.s) c.args.at
 roomy c x e =
-    by_rank_law c.args.m c.args.b.now c.args.s _ _ _ c.requires.kind_value _ c.rank_of-rank.ensures _ c.in_place.ensures
-    (not-false _ c.if-not-in_place.false-raw)
-    _ c.body_fault-f.ensures c.has_room.result x c.if-f-ne0.false c.has_room.ensures e
+    by_rank_law c.args.m c.args.b.now c.args.s _ _ _ c.requires.kind_value _ c.rank_of-rank.ensures _ c.in_place.ensures c.if-not-in_place.false
+    _ c.in_ok-body_fault.ensures c.has_room.result x refl c.has_room.ensures e
 
-pub returns-then-has_room : goal.returns-then-has_room
-returns-then-has_room c = roomy (goal.at.returns-then-has_room c).After-has_room true c.if-has_room.true
+pub returns-then-not-has_room : goal.returns-then-not-has_room
+returns-then-not-has_room c = roomy (goal.at.returns-then-not-has_room c).After-has_room false c.if-not-has_room.true
 
-pub returns-else-has_room : goal.returns-else-has_room
-returns-else-has_room c = roomy (goal.at.returns-else-has_room c).After-has_room false c.if-has_room.false
+pub returns : goal.returns
+returns c = roomy (goal.at.returns c).After-has_room true c.if-not-has_room.false

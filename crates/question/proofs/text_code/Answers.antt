@@ -9,12 +9,12 @@ use Rattle.question.proofs.text_code.Goals as goal
 pub returns-then-count-eq1 : goal.returns-then-count-eq1
 returns-then-count-eq1 c =
     let s = c.args in
-    let e = to_z_pos w64 c.u32_at-c.result (omega arith) in (
-      e ∙ ap pos c.u32_at-c.ensures.0 ∙ sym (code_one s.b.now s.at s.count c.if-count-eq1.true),
+    let e = to_z_pos w64 c.u32_at.result (omega arith) in (
+      e ∙ ap pos c.u32_at.ensures.0 ∙ sym (code_one s.b.now s.at s.count c.if-count-eq1.true),
       omega (arith, ap nat_abs e),
     )
 
-pub returns : goal.returns
-returns c =
+pub returns-else-count-eq1 : goal.returns-else-count-eq1
+returns-else-count-eq1 c =
     let s = c.args in
     (sym (code_other s.b.now s.at s.count c.if-count-eq1.false), omega arith)
