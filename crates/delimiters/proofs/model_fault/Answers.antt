@@ -1,4 +1,4 @@
-use borrow.Author.Tests.{eq-eqb, ne_eqb, not-false, not-true}
+use borrow.Author.Tests.{eq-eqb, ne_eqb}
 use mathlib.Core.Bool.{true, false}
 use mathlib.Core.Path.{◌≡◌, ◌∙◌, refl, sym}
 use Prim.Native.Nat.{◌+◌, ◌*◌}
@@ -25,11 +25,11 @@ unfolding asked
 returns-then-not-integers_within c =
     let a = c.args in
     model_tests a.ticket.now (asked a.ticket.now a.s) a.at a.size 0 true false (eq-eqb _ _ (fits (goal.at.returns-then-not-integers_within c).Else-size-columns))
-    (sym c.integers_within.ensures ∙ not-true _ c.if-not-integers_within.true-raw)
+    (sym c.integers_within.ensures ∙ c.if-not-integers_within.true)
 
 pub returns : goal.returns
 unfolding asked
 returns c =
     let a = c.args in
     model_tests a.ticket.now (asked a.ticket.now a.s) a.at a.size 0 true true (eq-eqb _ _ (fits (goal.at.returns c).Else-size-columns))
-    (sym c.integers_within.ensures ∙ not-false _ c.if-not-integers_within.false-raw)
+    (sym c.integers_within.ensures ∙ c.if-not-integers_within.false)
