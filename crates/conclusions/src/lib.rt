@@ -20,7 +20,7 @@ ghost use Rattle.conclusions.specs.Labels.{KnownFor, Labelled};
 ghost use Rattle.conclusions.specs.Made.{closing_of, Concludes, ConcludesBy, of_literal};
 ghost use Rattle.conclusions.specs.Sums.{FormedSum, sum_at};
 
-use classes::{Known, Lowest};
+use classes::Known;
 use encoding::{CODE, EQ, LEN};
 use limits::{FACT_LIMIT, NODE_COUNT, ROW_LENGTH};
 use question::{Progress, column_of};
@@ -172,8 +172,8 @@ fn of_literal(
 {
     let found = classes::class_literal(&labels, s.literals + 1, x);
     match found {
-        Lowest::Nothing => 8,
-        Lowest::Literal(l) => {
+        None => 8,
+        Some(l) => {
             let text = question::literal_text(ticket, l);
             let constant = negative_of_text(ticket, function, text.at, text.count);
             let column = column_of(s.p, s.q, function, x);
