@@ -8,6 +8,7 @@ use mathlib.Core.List.{List}
 use lib.ListN.{length}
 use borrow.Author.Tests.{le-leb, lt-leb}
 use Rattle.lists.proofs.Lists.{down}
+use Rattle.std.specs.Prelude.{Some, None}
 use Rattle.calculus.specs.Limits.{value_limit}
 use Rattle.calculus.specs.Alphabet.{all_characters}
 use Rattle.calculus.specs.Facts.{Question}
@@ -16,10 +17,11 @@ use Rattle.format.specs.Records.{size, kind, next, whole}
 use Rattle.format.specs.Places.{skip, text_at}
 use Rattle.format.specs.Answer.{string_form, answer_form, integers_at, outside}
 use Rattle.format.proofs.Faults.{clash}
+use Rattle.records.specs.declared.Found.{Found}
 use Rattle.records.specs.declared.Found.TheVariants.{Whole, Cut, Nothing}
 use Rattle.records.specs.Found.{found_at}
 use Rattle.records.proofs.Finding.{found_nothing, found_cut, found_whole}
-use Rattle.assignment.specs.declared.Outside.TheVariants.{Record, Nowhere}
+use Rattle.assignment.specs.declared.Outside.{Outside}
 use Rattle.assignment.specs.Form.{placed_in}
 
 -- ---- what was found at a position
@@ -28,11 +30,14 @@ module _ (b : List ℕ) (at : ℕ) where
   pub whole_there : {k m : ℕ} → found_at b at ≡ Whole k m → (whole b at ≡ true) × (k ≡ kind b at) × (m ≡ size b at)
   whole_there {k} {m} e = let (f, g, h) = found_whole b at k m e in (le-leb (next b at) (length b) (omega arith), f, g)
 
-  pub cut_there : {k : ℕ} → found_at b at ≡ Cut k → whole b at ≡ false
-  cut_there {k} e = lt-leb (next b at) (length b) (found_cut b at k e).2
-
-  pub nothing_there : found_at b at ≡ Nothing → whole b at ≡ false
-  nothing_there e = lt-leb (next b at) (length b) (omega (arith, found_nothing b at e))
+  -- whatever else was found, no record is whole there
+  pub none_there : ((k m : ℕ) → found_at b at ≡ Whole k m → ⊥) → whole b at ≡ false
+  none_there = go (found_at b at) refl
+    where
+      go : (f : Found) → found_at b at ≡ f → ((k m : ℕ) → f ≡ Whole k m → ⊥) → whole b at ≡ false
+      go (Whole k m) e h = absurd (h k m refl)
+      go (Cut k) e h = lt-leb (next b at) (length b) (found_cut b at k e).2
+      go Nothing e h = lt-leb (next b at) (length b) (omega (arith, found_nothing b at e))
 
 -- ---- the form, record by record
 
@@ -79,13 +84,13 @@ module _ (b : List ℕ) (u : Question) (r at : ℕ) where
 -- ---- a record out of range, found at its place
 
 module _ (v : List ℕ) where
-  pub found_outside : (o : Option ℕ) {r at : ℕ} → Record r at ≡ placed_in v o → (o ≡ some r) × (at ≡ skip v r 0)
+  pub found_outside : (o : Option ℕ) {r at : ℕ} → Some record { number = r; at = at } ≡ placed_in v o → (o ≡ some r) × (at ≡ skip v r 0)
   found_outside none e = clash cc
   found_outside (some k) {r} {at} e =
-      let number : k ≡ r = cc in
-      let place : at ≡ skip v k 0 = cc in
-      (ap some number, place ∙ ap (λ (i : ℕ). skip v i 0) number)
+      let same : ◌≡◌ {A = Outside} record { number = r; at = at } record { number = k; at = skip v k 0 } = cc in
+      let number : k ≡ r = sym (ap (λ (o : Outside). o.number) same) in
+      (ap some number, ap (λ (o : Outside). o.at) same ∙ ap (λ (i : ℕ). skip v i 0) number)
 
-  pub found_nowhere : (o : Option ℕ) → Nowhere ≡ placed_in v o → o ≡ none
+  pub found_nowhere : (o : Option ℕ) → None ≡ placed_in v o → o ≡ none
   found_nowhere none e = refl
   found_nowhere (some k) e = clash cc

@@ -22,9 +22,8 @@ fn record_is(v: &[u8], at: usize, kind: usize, size: usize) -> bool
     ensures { result ≡ record_is v.now at kind size }
 {
     match read_at(v, at) {
-        Found::Whole(k, m) => { if k == kind { m == size } else { false } }
-        Found::Cut(_) => false,
-        Found::Nothing => false,
+        Found::Whole(k, m) => k == kind && m == size,
+        _ => false,
     }
 }
 
@@ -33,18 +32,8 @@ fn string_formed(v: &[u8], at: usize) -> bool
     ensures { result ≡ string_form v.now at }
 {
     match read_at(v, at) {
-        Found::Whole(kind, size) => {
-            if kind != KIND_VALUE {
-                return false;
-            }
-            if size % 4 == 0 {
-                size <= TEXT_BYTES
-            } else {
-                false
-            }
-        }
-        Found::Cut(_) => false,
-        Found::Nothing => false,
+        Found::Whole(kind, size) => kind == KIND_VALUE && size % 4 == 0 && size <= TEXT_BYTES,
+        _ => false,
     }
 }
 
@@ -58,10 +47,7 @@ fn tail_formed(v: &[u8], q: usize, at: usize) -> bool
         return false;
     }
     let end = at + RECORD_HEAD + size;
-    if !record_is(v, end, KIND_END, 0) {
-        return false;
-    }
-    end + RECORD_HEAD == v.len()
+    record_is(v, end, KIND_END, 0) && end + RECORD_HEAD == v.len()
 }
 
 // "15 (record 0) when the answer is not exactly of its form"
@@ -70,45 +56,41 @@ pub fn answer_formed(v: &[u8], p: usize, q: usize) -> bool
     ensures { result ≡ answer_form v.now p q 0 }
 {
     let mut at = 0;
-    let mut left = p;
-    while 0 < left {
+    for _ in 0..p {
         if !string_formed(v, at) {
             return false;
         }
-        at = at + RECORD_HEAD + u32_at(v, at);
-        left -= 1;
+        at += RECORD_HEAD + u32_at(v, at);
     }
     tail_formed(v, q, at)
 }
 
 // ---- its ranges
 
-// The answer's first record out of range, by its number and its position, if there is one.
-#[derive(Drop)]
-pub enum Outside {
-    Record(usize, usize),
-    Nowhere,
+// A record of the answer that is out of range: its number and its position.
+#[derive(Clone, Copy)]
+pub struct Outside {
+    pub number: usize,
+    pub at: usize,
 }
 
 // "16 (the answer's first such record) when a character is not below n or an integer is outside ±100,000,000"
-pub fn first_outside(v: &[u8], n: usize, p: usize, q: usize) -> Outside
+pub fn first_outside(v: &[u8], n: usize, p: usize, q: usize) -> Option<Outside>
     requires { answer_form v.now p q 0 ≡ true }
     ensures { result ≡ placed_in v.now (outside v.now (blank n p q) p 0 0) }
 {
     let mut at = 0;
-    let mut r = 0;
-    while r < p {
+    for number in 0..p {
         let size = u32_at(v, at);
         if !all_characters(v, n, at + RECORD_HEAD, size / 4) {
-            return Outside::Record(r, at);
+            return Some(Outside { number, at });
         }
-        at = at + RECORD_HEAD + size;
-        r += 1;
+        at += RECORD_HEAD + size;
     }
     if integers_within(v, at + RECORD_HEAD, q) {
-        Outside::Nowhere
+        None
     } else {
-        Outside::Record(p, at)
+        Some(Outside { number: p, at })
     }
 }
 
@@ -119,8 +101,7 @@ fn string_code(v: &[u8], at: usize) -> i64
     requires { next v.now at ≤ length v.now }
     ensures { result ≡ code_of (text_at v.now at) }
 {
-    let size = u32_at(v, at);
-    text_code(v, at + RECORD_HEAD, size / 4)
+    text_code(v, at + RECORD_HEAD, u32_at(v, at) / 4)
 }
 
 // The value of column j, where the answer's records stand at their places.
@@ -133,9 +114,10 @@ fn column_value(v: &[u8], p: usize, q: usize, places: &[usize], j: usize) -> i64
     }
     let x = j - q;
     if x < p {
-        return (u32_at(v, places[x]) / 4) as i64;
+        (u32_at(v, places[x]) / 4) as i64
+    } else {
+        string_code(v, places[x - p])
     }
-    string_code(v, places[x - p])
 }
 
 // The columns' values, into a slice of as many numbers.
@@ -144,11 +126,7 @@ pub fn fill_columns(values: &mut [i64], v: &[u8], p: usize, q: usize, places: &[
     requires q_value { (answer_form v.now p q 0 ≡ true) × Placed v.now 0 p places.now × (p < length places.now) × (p ≤ variable_limit) × (q ≤ variable_limit) }
     ensures { values.new ≡ columns_at v.now p q }
 {
-    let count = q + (p + p);
-    let mut j = 0;
-    while j < count {
-        let z = column_value(v, p, q, places, j);
-        values[j] = z;
-        j += 1;
+    for (j, value) in values.iter_mut().enumerate() {
+        *value = column_value(v, p, q, places, j);
     }
 }

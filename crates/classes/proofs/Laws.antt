@@ -1,37 +1,33 @@
 -- Laws of labels, rows and tests below a bound, in the form that a loop asks.
 use mathlib.Core.Path.{◌≡◌, refl, sym, ◌∙◌, ap, ap₂}
-use mathlib.Core.Bool.{Bool, true, false, cond, ◌||◌, or-false, or_assoc}
-use mathlib.Core.Option.{none, some}
+use mathlib.Core.Bool.{Bool, true, false, cond, ◌||◌, or-false, or_assoc, or_comm}
+use mathlib.Core.Option.{Option, some}
 use mathlib.Core.List.{List, [], ◌∷◌, ◌++◌}
-use Prim.Native.Nat.{ℕ, zero, suc, ◌+◌, ◌-◌, ◌≤◌, ◌<◌}
+use Prim.Native.Nat.{ℕ, zero, suc, ◌+◌, ◌*◌, ◌≤◌, ◌<◌}
 use native.Mathlib.Numerals.{add-one}
 use native.Mathlib.Omega.{arith}
 use borrow.Author.Tests.{eqb-true, leb-true}
 use lib.Dec.{eqb, leb}
 use lib.ListN.{length, get_or, take}
 use lib.IntN.{ℤ, pos}
+use Rattle.std.specs.Prelude.{Some}
+use Rattle.std.specs.Option.{unwrap_or}
+use Rattle.std.specs.List.{range_with_len, list_any, find}
 use Rattle.lists.specs.Lists.{any_below}
 use Rattle.lists.proofs.Options.{some_injective, none_some}
-use Rattle.lists.proofs.Lists.{down}
-use Rattle.lists.proofs.Tests.{→true, true→}
-use Rattle.lists.proofs.Below.{→any_below}
 use Rattle.calculus.specs.Facts.{Fact, Branch, same, not_same, is_literal, arithmetic}
 use Rattle.calculus.specs.Chains.{var_node, lit_node}
 use Rattle.calculus.specs.Classes.{up_from, relabel, merge_nodes, merge_fact, labels_from, labels, same_class, lowest_literal, sides_meet}
 use Rattle.calculus.specs.SettledTest.{lowest_from}
-use Rattle.rows.specs.Rows.{index, fact_of, branch_of}
+use Rattle.rows.specs.Rows.{row_length, index, fact_of, row_at, branch_of}
 use Rattle.rows.specs.Work.{tag_of}
-use Rattle.rows.proofs.Branches.{branch_take, branch_grown}
+use Rattle.rows.proofs.Branches.{branch_take, branch_grown, length_row}
 use Rattle.rows.proofs.Tags.{row_string}
 use Rattle.classes.specs.declared.Known.{Known}
-use Rattle.classes.specs.Classes.{Knows, set_back}
+use Rattle.classes.specs.Classes.{Knows, set_back, literal_of}
+use Rattle.classes.proofs.Ranges.{any_range}
 
 -- ---- labels
-
-pub get_d_relabel : (old new : ℕ) (ls : List ℕ) (i d : ℕ) → i < length ls → get_or (relabel old new ls) i d ≡ cond (eqb (get_or ls i d) old) new (get_or ls i d)
-get_d_relabel old new [] i d h = absurd (omega arith)
-get_d_relabel old new (c ∷ ls) zero d h = refl
-get_d_relabel old new (c ∷ ls) (suc i) d h = get_d_relabel old new ls i d (omega arith)
 
 -- a label that becomes itself
 pub relabel_same : (l : ℕ) (ls : List ℕ) → relabel l l ls ≡ ls
@@ -81,29 +77,29 @@ knows_grown {w} {v} {count} {more} c e h = let (long, kept) = branch_grown w v c
 
 -- ---- the lowest literal
 
-module _ (ls : List ℕ) (x k : ℕ) where
-  pub lowest_done : (m : ℕ) → m ≤ 0 → lowest_literal ls x k m ≡ none
-  lowest_done zero h = refl
-  lowest_done (suc m) h = absurd (omega arith)
-
-  pub lowest_yes : (m : ℕ) → 0 < m → same_class ls (var_node x) (lit_node k) ≡ true → lowest_literal ls x k m ≡ some k
-  lowest_yes zero h e = absurd (omega arith)
-  lowest_yes (suc m) h e = rw (e, lowest_literal)
-
-  pub lowest_no : (m : ℕ) → 0 < m → same_class ls (var_node x) (lit_node k) ≡ false → lowest_literal ls x k m ≡ lowest_literal ls x (k + 1) (m - 1)
-  lowest_no zero h e = absurd (omega arith)
-  lowest_no (suc m) h e = rw (e, lowest_literal) (ap (λ (i : ℕ). lowest_literal ls x i m) one ∙ ap (λ (i : ℕ). lowest_literal ls x (k + 1) i) (sym (down m)))
-    where
-      one : suc k ≡ k + 1
-      one = omega arith
+pub lowest_found : (ls : List ℕ) (x k m : ℕ)
+    → literal_of (find (λ l. same_class ls (var_node x) (lit_node l)) (range_with_len k m)) ≡ lowest_literal ls x k m
+unfolding literal_of
+lowest_found ls x k zero = refl
+lowest_found ls x k (suc m) = go (same_class ls (var_node x) (lit_node k)) (lowest_found ls x (k + 1) m)
+  where
+    go : (t : Bool)
+        → literal_of (find (λ l. same_class ls (var_node x) (lit_node l)) (range_with_len (k + 1) m)) ≡ lowest_literal ls x (k + 1) m
+        → literal_of (cond t (Some k) (find (λ l. same_class ls (var_node x) (lit_node l)) (range_with_len (k + 1) m)))
+        ≡ elim t as (λ _. Option ℕ) [ true ↦ some k | false ↦ lowest_literal ls x (suc k) m ]
+    go true ih = refl
+    go false ih = ih ∙ ap (λ (i : ℕ). lowest_literal ls x i m) (add-one k)
 
 from_below : (ls : List ℕ) (x m k l : ℕ) → lowest_literal ls x k m ≡ some l → l < k + m
 from_below ls x zero k l e = absurd (none_some e)
-from_below ls x (suc m) k l e = go (same_class ls (var_node x) (lit_node k)) refl (λ h. from_below ls x m (k + 1) l h)
+from_below ls x (suc m) k l e = go (same_class ls (var_node x) (lit_node k)) (from_below ls x m (suc k) l) e
   where
-    go : (t : Bool) → same_class ls (var_node x) (lit_node k) ≡ t → (lowest_literal ls x (k + 1) m ≡ some l → l < k + 1 + m) → l < k + suc m
-    go true h ih = let f : k ≡ l = some_injective (sym (lowest_yes ls x k (suc m) (omega arith) h) ∙ e) in omega arith
-    go false h ih = omega (arith, ih (ap (λ (i : ℕ). lowest_literal ls x (k + 1) i) (sym (down m)) ∙ sym (lowest_no ls x k (suc m) (omega arith) h) ∙ e))
+    go : (t : Bool)
+        → (lowest_literal ls x (suc k) m ≡ some l → l < suc k + m)
+        → elim t as (λ _. Option ℕ) [ true ↦ some k | false ↦ lowest_literal ls x (suc k) m ] ≡ some l
+        → l < k + suc m
+    go true ih e = let f : k ≡ l = some_injective e in omega arith
+    go false ih e = omega (arith, ih e)
 
 -- a literal that was found is one of the m
 pub literal_below : (ls : List ℕ) (x m l : ℕ) → lowest_literal ls x 0 m ≡ some l → l < m
@@ -111,32 +107,23 @@ literal_below ls x m l e = omega (arith, from_below ls x m 0 l e)
 
 -- ---- the lowest variable
 
-module _ (ls : List ℕ) (x y : ℕ) where
-  pub first_done : (d : ℕ) → d ≤ 0 → lowest_from d ls x y ≡ x
-  first_done zero h = refl
-  first_done (suc m) h = absurd (omega arith)
-
-  pub first_yes : (d : ℕ) → 0 < d → same_class ls (var_node x) (var_node y) ≡ true → lowest_from d ls x y ≡ y
-  first_yes zero h e = absurd (omega arith)
-  first_yes (suc m) h e = rw (e, lowest_from)
-
-  pub first_no : (d : ℕ) → 0 < d → same_class ls (var_node x) (var_node y) ≡ false → lowest_from d ls x y ≡ lowest_from (d - 1) ls x (y + 1)
-  first_no zero h e = absurd (omega arith)
-  first_no (suc m) h e = rw (e, lowest_from) (ap (λ (i : ℕ). lowest_from m ls x i) one ∙ ap (λ (i : ℕ). lowest_from i ls x (y + 1)) (sym (down m)))
-    where
-      one : suc y ≡ y + 1
-      one = omega arith
-
--- ---- some number below a bound
-
-module _ (t : ℕ → Bool) where
-  pub any_more : (i : ℕ) → any_below i t ≡ false → t i ≡ false → any_below (i + 1) t ≡ false
-  any_more i e f = rw (add-one, e, f)
-
-  pub any_yes : (m i : ℕ) → i < m → t i ≡ true → any_below m t ≡ true
-  any_yes m i h e = →true (any_below m t) (→any_below m t i h (true→ e))
+pub first_found : (ls : List ℕ) (x y d : ℕ)
+    → unwrap_or (find (λ z. same_class ls (var_node x) (var_node z)) (range_with_len y d)) x ≡ lowest_from d ls x y
+first_found ls x y zero = refl
+first_found ls x y (suc d) = go (same_class ls (var_node x) (var_node y)) (first_found ls x (y + 1) d)
+  where
+    go : (t : Bool)
+        → unwrap_or (find (λ z. same_class ls (var_node x) (var_node z)) (range_with_len (y + 1) d)) x ≡ lowest_from d ls x (y + 1)
+        → unwrap_or (cond t (Some y) (find (λ z. same_class ls (var_node x) (var_node z)) (range_with_len (y + 1) d))) x
+        ≡ elim t as (λ _. ℕ) [ true ↦ y | false ↦ lowest_from d ls x (suc y) ]
+    go true ih = refl
+    go false ih = ih ∙ ap (lowest_from d ls x) (add-one y)
 
 -- ---- ≉ facts
+
+-- a row that was read has its numbers
+pub row_sized : (row w : List ℤ) (k : ℕ) → row ≡ row_at w k → row_length * k + row_length ≤ length w → length row ≡ row_length
+row_sized row w k e h = ap length e ∙ length_row w k h
 
 sides_cons : (ls : List ℕ) (f : Fact) (b : Branch) → sides_meet ls (f ∷ b) ≡ (sides_meet ls (f ∷ []) || sides_meet ls b)
 sides_cons ls (same x y) b = refl
@@ -151,6 +138,19 @@ sides_snoc ls (g ∷ b) f =
     ∙ ap (λ (t : Bool). sides_meet ls (g ∷ []) || t) (sides_snoc ls b f)
     ∙ sym (or_assoc (sides_meet ls (g ∷ [])) (sides_meet ls b) (sides_meet ls (f ∷ [])))
     ∙ ap (λ (t : Bool). t || sides_meet ls (f ∷ [])) (sym (sides_cons ls g b))
+
+-- among the first n rows
+any_sides : (ls : List ℕ) (w : List ℤ) (n : ℕ) → any_below n (λ k. sides_meet ls (fact_of (row_at w k) ∷ [])) ≡ sides_meet ls (branch_of w n)
+unfolding branch_of
+any_sides ls w zero = refl
+any_sides ls w (suc n) =
+    ap (λ (t : Bool). sides_meet ls (fact_of (row_at w n) ∷ []) || t) (any_sides ls w n)
+    ∙ or_comm (sides_meet ls (fact_of (row_at w n) ∷ [])) (sides_meet ls (branch_of w n))
+    ∙ sym (sides_snoc ls (branch_of w n) (fact_of (row_at w n)))
+
+pub sides_range : (ls : List ℕ) (w : List ℤ) (n : ℕ)
+    → list_any (λ (k : ℕ). sides_meet ls (fact_of (row_at w k) ∷ [])) (range_with_len 0 n) ≡ sides_meet ls (branch_of w n)
+sides_range ls w n = any_range (λ k. sides_meet ls (fact_of (row_at w k) ∷ [])) n ∙ any_sides ls w n
 
 no_sides : (ls : List ℕ) (f : Fact) → (tag_of f ≡ 4 → ⊥) → sides_meet ls (f ∷ []) ≡ false
 unfolding tag_of

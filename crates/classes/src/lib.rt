@@ -23,13 +23,6 @@ pub struct Known {
     pub upto: usize,
 }
 
-// The lowest literal of a class, if it holds one.
-#[derive(Drop)]
-pub enum Lowest {
-    Literal(usize),
-    Nothing,
-}
-
 // ---- nodes
 
 // The even nodes are the variables, the odd ones the literals.
@@ -59,29 +52,11 @@ fn first_labels() -> [u8; NODE_COUNT]
     ]
 }
 
-// One label, where `old` becomes `new`.
-fn relabelled(old: u8, new: u8, label: u8) -> u8
-    ensures { result ≡ cond (eqb label old) new label }
-{
-    if label == old {
-        return new;
-    }
-    label
-}
-
 // Every label `old` becomes `new`.
 fn relabel(old: u8, new: u8, labels: [u8; NODE_COUNT]) -> [u8; NODE_COUNT]
     ensures { result ≡ classes.relabel old new labels }
 {
-    let mut out = labels;
-    let mut i = 0;
-    while i < NODE_COUNT {
-        let label = labels[i];
-        let to = relabelled(old, new, label);
-        out[i] = to;
-        i += 1;
-    }
-    out
+    labels.map(|label| if label == old { new } else { label })
 }
 
 // The classes of two nodes become one.
@@ -92,9 +67,10 @@ fn merge(labels: [u8; NODE_COUNT], i: usize, j: usize) -> [u8; NODE_COUNT]
     let new = labels[i];
     let old = labels[j];
     if old == new {
-        return labels;
+        labels
+    } else {
+        relabel(old, new, labels)
     }
-    relabel(old, new, labels)
 }
 
 // The labels once the fact of a row stands: variable ≈ variable and variable ≈ literal join two nodes.
@@ -102,18 +78,19 @@ fn merge_row(row: &[i64], labels: [u8; NODE_COUNT]) -> [u8; NODE_COUNT]
     requires { length row.now ≡ row_length }
     ensures { result ≡ merge_fact labels (fact_of row.now) }
 {
-    let tag = tag_of(row);
-    if tag == TAG_SAME {
-        let a = variable_at(row, FIRST);
-        let b = variable_at(row, SECOND);
-        return merge(labels, variable_node(a), variable_node(b));
+    match tag_of(row) {
+        TAG_SAME => {
+            let a = variable_at(row, FIRST);
+            let b = variable_at(row, SECOND);
+            merge(labels, variable_node(a), variable_node(b))
+        }
+        TAG_LITERAL => {
+            let a = variable_at(row, FIRST);
+            let b = literal_at(row, SECOND);
+            merge(labels, variable_node(a), literal_node(b))
+        }
+        _ => labels,
     }
-    if tag == TAG_LITERAL {
-        let a = variable_at(row, FIRST);
-        let b = literal_at(row, SECOND);
-        return merge(labels, variable_node(a), literal_node(b));
-    }
-    labels
 }
 
 // The labels of a branch without facts.
@@ -133,15 +110,13 @@ pub fn bring_up(known: Known, work: &[i64], count: usize) -> Known
     ensures upto { result.upto ≡ count }
     ensures labels { result.labels ≡ classes.labels (branch_of work.now count) }
 {
-    let mut out = known.labels;
-    let mut k = known.upto;
-    while k < count {
-        let next = merge_row(row_at(work, k), out);
-        out = next;
-        k += 1;
+    let mut labels = known.labels;
+    for k in known.upto..count {
+        let next = merge_row(row_at(work, k), labels);
+        labels = next;
     }
     Known {
-        labels: out,
+        labels,
         upto: count,
     }
 }
@@ -150,10 +125,7 @@ pub fn bring_up(known: Known, work: &[i64], count: usize) -> Known
 pub fn set_back(known: Known, first: Known, mark: usize) -> Known
     ensures { result ≡ set_back known first mark }
 {
-    if known.upto <= mark {
-        return known;
-    }
-    first
+    if known.upto <= mark { known } else { first }
 }
 
 // The labels of a branch of `count` facts.
@@ -171,9 +143,7 @@ fn same_class(labels: &[u8], i: usize, j: usize) -> bool
     requires { (length labels.now ≡ node_count) × (i < node_count) × (j < node_count) }
     ensures { result ≡ same_class labels.now i j }
 {
-    let a = labels[i];
-    let b = labels[j];
-    a == b
+    labels[i] == labels[j]
 }
 
 // Are two variables in one class?
@@ -193,20 +163,11 @@ pub fn class_holds(labels: &[u8], x: usize, l: usize) -> bool
 }
 
 // The lowest of the first m literals in the class of variable x: "the lowest literal number counts".
-pub fn class_literal(labels: &[u8], m: usize, x: usize) -> Lowest
+pub fn class_literal(labels: &[u8], m: usize, x: usize) -> Option<usize>
     requires { (length labels.now ≡ node_count) × (m ≤ variable_limit) × (x < variable_limit) }
     ensures { literal_of result ≡ lowest_literal labels.now x 0 m }
 {
-    let mut l = 0;
-    let mut left = m;
-    while 0 < left {
-        if class_holds(labels, x, l) {
-            return Lowest::Literal(l);
-        }
-        l += 1;
-        left -= 1;
-    }
-    Lowest::Nothing
+    (0..m).find(|l| class_holds(labels, x, *l))
 }
 
 // The lowest variable in the class of variable x.
@@ -214,16 +175,7 @@ pub fn lowest_variable(labels: &[u8], x: usize) -> usize
     requires { (length labels.now ≡ node_count) × (x < variable_limit) }
     ensures { result ≡ lowest_variable labels.now x }
 {
-    let mut y = 0;
-    let mut left = x;
-    while 0 < left {
-        if one_class(labels, x, y) {
-            return y;
-        }
-        y += 1;
-        left -= 1;
-    }
-    x
+    (0..x).find(|y| one_class(labels, x, *y)).unwrap_or(x)
 }
 
 // Does literal i share a class with a lower one?
@@ -231,14 +183,7 @@ fn literal_meets(labels: &[u8], i: usize) -> bool
     requires { (length labels.now ≡ node_count) × (i < variable_limit) }
     ensures { result ≡ literal_meets labels.now i }
 {
-    let mut j = 0;
-    while j < i {
-        if same_class(labels, literal_node(i), literal_node(j)) {
-            return true;
-        }
-        j += 1;
-    }
-    false
+    (0..i).any(|j| same_class(labels, literal_node(i), literal_node(j)))
 }
 
 // "two different literals share a class", of the first m.
@@ -246,14 +191,7 @@ fn literals_meet(labels: &[u8], m: usize) -> bool
     requires { (length labels.now ≡ node_count) × (m ≤ variable_limit) }
     ensures { result ≡ any_below m (literal_meets labels.now) }
 {
-    let mut i = 0;
-    while i < m {
-        if literal_meets(labels, i) {
-            return true;
-        }
-        i += 1;
-    }
-    false
+    (0..m).any(|i| literal_meets(labels, i))
 }
 
 // Is a row a fact a ≉ b with both sides in one class?
@@ -261,12 +199,8 @@ fn row_sides_meet(row: &[i64], labels: &[u8]) -> bool
     requires { (length labels.now ≡ node_count) × (length row.now ≡ row_length) }
     ensures { result ≡ sides_meet labels.now (fact_of row.now ∷ []) }
 {
-    if tag_of(row) == TAG_NOT_SAME {
-        let a = variable_at(row, FIRST);
-        let b = variable_at(row, SECOND);
-        return one_class(labels, a, b);
-    }
-    false
+    tag_of(row) == TAG_NOT_SAME
+        && one_class(labels, variable_at(row, FIRST), variable_at(row, SECOND))
 }
 
 // "a ≉ fact has both sides in one", among the first `count` facts.
@@ -274,14 +208,7 @@ fn sides_meet(work: &[i64], count: usize, labels: &[u8]) -> bool
     requires { (length labels.now ≡ node_count) × (count ≤ fact_limit) × (row_length * count ≤ length work.now) }
     ensures { result ≡ sides_meet labels.now (branch_of work.now count) }
 {
-    let mut found = false;
-    let mut k = 0;
-    while k < count {
-        let one = row_sides_meet(row_at(work, k), labels);
-        found = found | one;
-        k += 1;
-    }
-    found
+    (0..count).any(|k| row_sides_meet(row_at(work, k), labels))
 }
 
 // Does S-Conf fit on a branch of `count` facts with these labels, where the question has m literals, the empty one included?
@@ -289,8 +216,5 @@ pub fn conflict(work: &[i64], count: usize, labels: &[u8], m: usize) -> bool
     requires { (length labels.now ≡ node_count) × (count ≤ fact_limit) × (row_length * count ≤ length work.now) × (m ≤ variable_limit) }
     ensures { result ≡ clash m labels.now (branch_of work.now count) }
 {
-    if literals_meet(labels, m) {
-        return true;
-    }
-    sides_meet(work, count, labels)
+    literals_meet(labels, m) || sides_meet(work, count, labels)
 }

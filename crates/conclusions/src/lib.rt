@@ -21,7 +21,7 @@ ghost use Rattle.conclusions.specs.Labels.{KnownFor, Labelled};
 ghost use Rattle.conclusions.specs.Made.{closing_of, Concludes, ConcludesBy, of_literal};
 ghost use Rattle.conclusions.specs.Sums.{FormedSum, sum_at};
 
-use classes::{Known, Lowest};
+use classes::Known;
 use encoding::{CODE, EQ, LEN};
 use faults::Fault;
 use limits::{FACT_LIMIT, NODE_COUNT, ROW_LENGTH};
@@ -175,8 +175,8 @@ fn of_literal(
 {
     let found = classes::class_literal(&labels, s.literals + 1, x);
     match found {
-        Lowest::Nothing => Err(Fault::DoesNotFit),
-        Lowest::Literal(l) => {
+        None => Err(Fault::DoesNotFit),
+        Some(l) => {
             let text = question::literal_text(ticket, l);
             let constant = negative_of_text(ticket, function, text.at, text.count);
             let column = column_of(s.p, s.q, function, x);

@@ -85,7 +85,7 @@ stored_more g v from k x room e h j a b = go (ℕ_discrete j k)
 -- ---- the words of several places
 
 -- none; then one more, as often as is stored
-filled_none : (v : List ℕ) (from : ℕ) (x : Words) → Filled v from from x v
+pub filled_none : (v : List ℕ) (from : ℕ) (x : Words) → Filled v from from x v
 filled_none v from x = record { same_length = refl; below = λ k h. refl; set_there = λ k h g. absurd (omega arith); behind = λ k h. refl }
 
 pub filled_more : {v v' : List ℕ} {from k : ℕ} {x : Words} → Filled v from k x v' → from ≤ k → 2 * k + 1 < length v → Filled v from (k + 1) x (stored v' k x)
@@ -95,6 +95,3 @@ filled_more {v} {v'} {from} {k} {x} f l h = record {
   set_there = stored_more (λ j. x) v' from k x (omega (arith, f.same_length)) refl f.set_there;
   behind = λ j b. stored_other v' k x j (λ e. omega arith) ∙ f.behind j (omega arith);
 }
-
-pub filled_one : (v : List ℕ) (from : ℕ) (x : Words) → 2 * from + 1 < length v → Filled v from (from + 1) x (stored v from x)
-filled_one v from x h = filled_more (filled_none v from x) (omega arith) h

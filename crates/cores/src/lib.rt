@@ -54,23 +54,25 @@ fn only_constraint(k: usize) -> Words
     ensures { result ≡ words_of (only k) }
 {
     if k < 64 {
-        return Words {
-            low: 1u64 << k,
+        Words {
+            low: 1 << k,
             high: 0,
-        };
-    }
-    Words {
-        low: 0,
-        high: 1u64 << (k - 64),
+        }
+    } else {
+        Words {
+            low: 0,
+            high: 1 << (k - 64),
+        }
     }
 }
 
 pub fn union_of(a: Words, b: Words) -> Words
     ensures { result ≡ union_of a b }
 {
-    let low = a.low | b.low;
-    let high = a.high | b.high;
-    Words { low, high }
+    Words {
+        low: a.low | b.low,
+        high: a.high | b.high,
+    }
 }
 
 // ---- the sets of facts
@@ -80,9 +82,10 @@ pub fn set_at(sets: &[u64], k: usize) -> Words
     requires { (k < fact_limit) × Roomy sets.now }
     ensures { result ≡ words_at sets.now k }
 {
-    let low = sets[2 * k];
-    let high = sets[2 * k + 1];
-    Words { low, high }
+    Words {
+        low: sets[2 * k],
+        high: sets[2 * k + 1],
+    }
 }
 
 // Fact k rests on a set.
@@ -94,20 +97,14 @@ fn put_set(sets: &mut [u64], k: usize, set: Words)
     sets[2 * k + 1] = set.high;
 }
 
-// The facts of the places from `from` up to `to`, which a child added, rest on a set. A child adds one to three, so no loop is needed.
+// The facts of the places from `from` up to `to`, which a child added, rest on a set.
 pub fn fill_sets(sets: &mut [u64], from: usize, to: usize, set: Words)
     requires { (from < to) × (to ≤ from + 3) × (to ≤ fact_limit) × Roomy sets.old }
     ensures { Filled sets.old from to set sets.new }
 {
-    put_set(sets, from, set);
-    if from + 1 == to {
-        return;
+    for k in from..to {
+        put_set(sets, k, set);
     }
-    put_set(sets, from + 1, set);
-    if from + 2 == to {
-        return;
-    }
-    put_set(sets, from + 2, set);
 }
 
 // "A root constraint rests on itself".
@@ -115,10 +112,8 @@ pub fn root_sets(sets: &mut [u64], constraints: usize)
     requires { (constraints ≤ fact_limit) × Roomy sets.old }
     ensures { (k : ℕ) → k < constraints → words_at sets.new k ≡ words_of (only k) }
 {
-    let mut k = 0;
-    while k < constraints {
+    for k in 0..constraints {
         put_set(sets, k, only_constraint(k));
-        k += 1;
     }
 }
 
@@ -143,17 +138,15 @@ fn with_fact(unions: Unions, row: &[i64], set: Words) -> Unions
     if tag <= TAG_NE {
         return unions;
     }
-    let equates = unions.equates;
-    let separates = unions.separates;
     if tag == TAG_NOT_SAME {
         return Unions {
-            equates,
-            separates: union_of(separates, set),
+            separates: union_of(unions.separates, set),
+            ..unions
         };
     }
     Unions {
-        equates: union_of(equates, set),
-        separates,
+        equates: union_of(unions.equates, set),
+        ..unions
     }
 }
 
@@ -163,12 +156,8 @@ pub fn bring_up(unions: Unions, upto: usize, work: &[i64], sets: &[u64], count: 
     ensures { (r : Rested) → Stands work.now sets.now count r → unions ≡ unions_of (take upto r) → result ≡ unions_of r }
 {
     let mut out = unions;
-    let mut k = upto;
-    while k < count {
-        let set = set_at(sets, k);
-        let next = with_fact(out, row_at(work, k), set);
-        out = next;
-        k += 1;
+    for k in upto..count {
+        out = with_fact(out, row_at(work, k), set_at(sets, k));
     }
     out
 }
@@ -180,10 +169,11 @@ fn fact_set(sets: &[u64], count: usize, k: usize) -> Words
     requires { (count ≤ fact_limit) × Roomy sets.now }
     ensures { (r : Rested) → Carries sets.now count r → result ≡ words_of (set_at r k) }
 {
-    if count <= k {
-        return no_constraint();
+    if k < count {
+        set_at(sets, k)
+    } else {
+        no_constraint()
     }
-    set_at(sets, k)
 }
 
 // Sum: the sets of the facts that its pairs name.
@@ -192,11 +182,8 @@ fn named_sets(b: &[u8], at: usize, pairs: usize, sets: &[u64], count: usize) -> 
     ensures { (r : Rested) → Carries sets.now count r → result ≡ words_of (named_sets r (pairs_at b.now at pairs)) }
 {
     let mut set = no_constraint();
-    let mut k = 0;
-    while k < pairs {
-        let one = fact_set(sets, count, u16_at(b, at + 6 * k));
-        set = union_of(set, one);
-        k += 1;
+    for k in 0..pairs {
+        set = union_of(set, fact_set(sets, count, u16_at(b, at + 6 * k)));
     }
     set
 }
@@ -235,13 +222,12 @@ fn neighbour_sets(
         → result ≡ words_of (neighbour_sets (numbered s) r (u16 b.now at) (u16s b.now (at + 2) others)) }
 {
     let mut set = no_constraint();
-    let mut i = at;
-    let mut left = others;
-    while 0 < left {
-        let one = lengths_set(s, u16_at(b, i), u16_at(b, i + 2), work, count, sets);
-        set = union_of(set, one);
-        i += 2;
-        left -= 1;
+    for k in 0..others {
+        let i = at + 2 * k;
+        set = union_of(
+            set,
+            lengths_set(s, u16_at(b, i), u16_at(b, i + 2), work, count, sets),
+        );
     }
     set
 }
@@ -262,12 +248,11 @@ pub fn step_set(
     ensures { RestsOn rule ticket.now s body size work.now count sets.now unions result }
 {
     let at = body + OPERANDS;
-    let equates = unions.equates;
     match rule {
         Rule::Sum => named_sets(ticket, body + 8, (size - 8) / 6, sets, count),
         Rule::Apart | Rule::AConf => fact_set(sets, count, u16_at(ticket, at)),
-        Rule::SConf => union_of(equates, unions.separates),
-        Rule::SProp | Rule::LIntro | Rule::CCollapse => equates,
+        Rule::SConf => union_of(unions.equates, unions.separates),
+        Rule::SProp | Rule::LIntro | Rule::CCollapse => unions.equates,
         Rule::Card => neighbour_sets(ticket, s, at, (size - OPERANDS) / 2 - 1, work, count, sets),
         Rule::Join => {
             let first = fact_set(sets, count, u16_at(ticket, at));

@@ -20,7 +20,7 @@ ghost use Rattle.judging.specs.Ready.{values_of, FormIn, Texts, Judgeable};
 ghost use Rattle.judging.specs.Judgements.{shown_of, Finds};
 ghost use Rattle.judging.specs.Parts.{Part, PartShown};
 
-use assignment::{Outside, answer_formed, fill_columns, first_outside};
+use assignment::{answer_formed, fill_columns, first_outside};
 use encoding::{
     IS_DECIMAL, IS_LITERAL, IS_LOWER, IS_UPPER, IS_VALUE, KIND_ARITHMETIC, KIND_EXTENDED,
     KIND_STRING, RECORD_HEAD, SAME,
@@ -64,11 +64,10 @@ fn string_met(b: &[u8], v: &[u8], s: Progress, places: &[usize], at: usize) -> b
     let relation = u16_at(b, at);
     let x = u16_at(b, at + 2);
     let y = u16_at(b, at + 4);
-    let i = places[x];
     if relation == IS_LITERAL {
-        return is_literal(b, v, i, y);
+        return is_literal(b, v, places[x], y);
     }
-    let same = same_strings(v, i, places[y]);
+    let same = same_strings(v, places[x], places[y]);
     if relation == SAME { same } else { !same }
 }
 
@@ -105,9 +104,7 @@ fn arithmetic_met(b: &[u8], at: usize, size: usize, values: &[i64]) -> bool
     requires { (6 ≤ size) × FormIn b.now (at + 2) (size / 6 - 1) values.now }
     ensures { result ≡ holds (relation_of (u16 b.now at)) (dot (form_of b.now (at + 2) (size / 6 - 1)) (pos 1 ∷ values.now)) }
 {
-    let relation = u16_at(b, at);
-    let z = form_value(b, at + 2, size / 6 - 1, values);
-    relation_holds(relation, z)
+    relation_holds(u16_at(b, at), form_value(b, at + 2, size / 6 - 1, values))
 }
 
 // ---- extended constraints
@@ -151,12 +148,11 @@ fn constraint_met(
     requires { Judgeable b.now v.now s places.now values.now × ConstraintAt b.now s.p s.q s.literals at }
     ensures { result ≡ meets_constraint (asked b.now s) (values_of b.now v.now s) (constraint_at b.now at) }
 {
-    let size = u32_at(b, at);
-    let kind = u16_at(b, at + 4);
-    match kind {
-        KIND_STRING => string_met(b, v, s, places, at + RECORD_HEAD),
-        KIND_ARITHMETIC => arithmetic_met(b, at + RECORD_HEAD, size, values),
-        KIND_EXTENDED => extended_met(b, v, s, places, values, at + RECORD_HEAD),
+    let body = at + RECORD_HEAD;
+    match u16_at(b, at + 4) {
+        KIND_STRING => string_met(b, v, s, places, body),
+        KIND_ARITHMETIC => arithmetic_met(b, body, u32_at(b, at), values),
+        KIND_EXTENDED => extended_met(b, v, s, places, values, body),
         _ => false,
     }
 }
@@ -195,14 +191,9 @@ pub struct Finding {
 fn found(said: Judgement, side: Side, from: usize, to: usize) -> Finding
     ensures { result ≡ record { said = said; shown = record { side = side; from = from; to = to } } }
 {
-    let shown = Shown {
-        side: side,
-        from: from,
-        to: to,
-    };
     Finding {
-        said: said,
-        shown: shown,
+        said,
+        shown: Shown { side, from, to },
     }
 }
 
@@ -218,14 +209,11 @@ fn between(s: &[u8], from: usize, to: usize) -> &[u8]
 fn part_within(question: usize, answer: usize, s: Shown) -> bool
     ensures { result ≡ part_within question answer (shown_of s) }
 {
-    if s.to < s.from {
-        return false;
-    }
-    let side = s.side;
-    match side {
-        Side::Question => s.to <= question,
-        Side::Answer => s.to <= answer,
-    }
+    let length = match s.side {
+        Side::Question => question,
+        Side::Answer => answer,
+    };
+    s.from <= s.to && s.to <= length
 }
 
 // "the very bytes of the record concerned". What does not lie within the question or the answer is shown as "an empty part of the question".
@@ -235,8 +223,7 @@ pub fn show<'a>(question: &'a [u8], answer: &'a [u8], s: Shown) -> &'a [u8]
     if !part_within(question.len(), answer.len(), s) {
         return between(question, 0, 0);
     }
-    let side = s.side;
-    match side {
+    match s.side {
         Side::Question => between(question, s.from, s.to),
         Side::Answer => between(answer, s.from, s.to),
     }
@@ -259,13 +246,11 @@ fn first_unmet(b: &[u8], v: &[u8], s: Progress, places: &[usize], values: &[i64]
 {
     let count = s.constraints + s.extended;
     let mut at = behind_literals(b, s.literals);
-    let mut k = 0;
-    while k < count {
+    for k in 0..count {
         if !constraint_met(b, v, s, places, values, at) {
             return found(Judgement::Unmet(k), Side::Question, at, record_end(b, at));
         }
         at = record_end(b, at);
-        k += 1;
     }
     found(Judgement::AllMet, Side::Question, 0, 0)
 }
@@ -275,13 +260,11 @@ fn judge_values(b: &[u8], v: &[u8], s: Progress) -> Finding
     requires { Posed b.now s × (answer_form v.now s.p s.q 0 ≡ true) × (outside v.now (asked b.now s) s.p 0 0 ≡ none) }
     ensures { Finds b.now v.now (Submitted (asked b.now s) (extended_asked b.now s) (values_of b.now v.now s)) result }
 {
-    let p = s.p;
-    let q = s.q;
-    let places = record_places(v, 0, p);
-    let mut values = [0i64; COLUMN_LIMIT];
-    let count = q + (p + p);
-    fill_columns(&mut values[..count], v, p, q, &places);
-    first_unmet(b, v, s, &places, &values[..count])
+    let places = record_places(v, 0, s.p);
+    let mut columns = [0i64; COLUMN_LIMIT];
+    let values = &mut columns[..s.q + (s.p + s.p)];
+    fill_columns(values, v, s.p, s.q, &places);
+    first_unmet(b, v, s, &places, values)
 }
 
 // "then 15 (record 0) when the answer is not exactly of its form, 16 (the answer's first such record) .."
@@ -293,13 +276,13 @@ fn judge_behind(b: &[u8], v: &[u8], s: Progress) -> Finding
         return found(Judgement::Refused(15, 0), Side::Answer, 0, v.len());
     }
     match first_outside(v, s.n, s.p, s.q) {
-        Outside::Record(r, at) => found(
-            Judgement::Refused(16, r),
+        Some(outside) => found(
+            Judgement::Refused(16, outside.number),
             Side::Answer,
-            at,
-            record_end(v, at),
+            outside.at,
+            record_end(v, outside.at),
         ),
-        Outside::Nowhere => judge_values(b, v, s),
+        None => judge_values(b, v, s),
     }
 }
 
@@ -310,8 +293,7 @@ pub fn judge_answer(question: &[u8], answer: &[u8]) -> Finding
     match read_question(JUDGING, question) {
         Reading::Stopped(c, r) => found(Judgement::Refused(c, r), Side::Question, 0, 0),
         Reading::Ended(s, _, r) => {
-            let last = s.last;
-            if last < HEAD_RANK {
+            if s.last < HEAD_RANK {
                 found(Judgement::Refused(4, r), Side::Question, 0, 0)
             } else {
                 judge_behind(question, answer, s)

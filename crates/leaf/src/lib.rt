@@ -19,7 +19,6 @@ ghost use Rattle.question.specs.Posed.{asked, numbered, Posed};
 ghost use Rattle.leaf.specs.Leaf.{Modelled, LiteralsAt, LeafReady};
 ghost use Rattle.leaf.specs.Values.{text_fits, literal_fits, l_valid_fits, code_fits, roomy, var_fits, pair_by, pair_with, pair_fits, by_earlier};
 
-use classes::Lowest;
 use encoding::{CODE, LEN};
 use limits::LENGTH_LIMIT;
 use question::Progress;
@@ -87,11 +86,11 @@ fn literal_fits(
 {
     let found = classes::class_literal(labels, s.literals + 1, x);
     match found {
-        Lowest::Literal(l) => {
+        Some(l) => {
             let text = question::placed_text(ticket, places, l);
             fits_text(ticket, text.at, text.count, len, code)
         }
-        Lowest::Nothing => true,
+        None => true,
     }
 }
 

@@ -7,3 +7,4 @@ pub mod Every
 pub mod Stores
 pub mod Below
 pub mod Searches
+pub mod Library

@@ -1,8 +1,8 @@
--- The slices of pending splits: what stores leave, and where a step leads by them.
+-- The pending splits in their array: what a store leaves, and where a step leads by them.
 use Prim.Native.Nat.{ℕ, zero, suc, ◌+◌, ◌-◌, ◌≤◌, ◌<◌}
 use native.Mathlib.Omega.{arith}
 use native.Mathlib.Numerals.{add-one}
-use mathlib.Core.Path.{◌≡◌, refl, sym, ◌∙◌, ap, ap₂, subst}
+use mathlib.Core.Path.{◌≡◌, refl, sym, ◌∙◌, ap, subst}
 use mathlib.Core.List.{List, [], ◌∷◌}
 use mathlib.Core.Bool.{true}
 use mathlib.Core.Option
@@ -13,91 +13,74 @@ use Rattle.lists.specs.Lists.{All}
 use Rattle.lists.proofs.Lists.{down}
 use Rattle.lists.proofs.Tests.{and_both}
 use Rattle.calculus.specs.Children.{child_at}
-use Rattle.calculus.specs.Walk.{Waiting, Walk, working, closed, wait, cut_back, enter}
+use Rattle.calculus.specs.Walk.{Waiting, working, closed, wait, cut_back, enter}
 use Rattle.calculus.proofs.Shapes.{Alike}
 use Rattle.format.specs.StepForms.{is_child}
-use Rattle.needs.specs.Pending.{waiting, pending_of, Lent}
+use Rattle.needs.specs.declared.Split.{Split}
+use Rattle.needs.specs.Pending.{waiting, no_split, last_first}
 
-waiting_same : {a b c x y z : ℕ} → a ≡ x → b ≡ y → c ≡ z → waiting a b c ≡ waiting x y z
-waiting_same e f g = rw (e, f, g)
+-- a store at or above n leaves the first n
+first_set : (n : ℕ) (l : List Split) (i : ℕ) (s : Split) → n ≤ i → last_first n (set l i s) ≡ last_first n l
+unfolding last_first
+first_set zero l i s h = refl
+first_set (suc n) l i s h = rw (get_or-set_other l i n s no_split (λ e. omega arith), first_set n l i s (omega arith))
 
--- the same numbers below d are the same splits
-pending_same : (ms es ls ns fs ks : List ℕ) (d : ℕ) → ((j : ℕ) → j < d → (get_or ns j 0 ≡ get_or ms j 0) × (get_or fs j 0 ≡ get_or es j 0) × (get_or ks j 0 ≡ get_or ls j 0))
-    → pending_of ns fs ks d ≡ pending_of ms es ls d
-unfolding pending_of
-pending_same ms es ls ns fs ks zero h = refl
-pending_same ms es ls ns fs ks (suc d) h =
-    let (e, f, g) = h d (omega arith) in
-    ap₂ (λ w ws. w ∷ ws) (waiting_same e f g) (pending_same ms es ls ns fs ks d (λ j l. h j (omega arith)))
+-- one more on top
+pub first_push : (n : ℕ) (l : List Split) (s : Split) → n < length l → last_first (n + 1) (set l n s) ≡ waiting s ∷ last_first n l
+unfolding last_first
+first_push n l s h = rw (add-one, get_or-set_same l n s no_split h, first_set n l n s (omega arith))
 
-pub pending_length : (ms es ls : List ℕ) (d : ℕ) → length (pending_of ms es ls d) ≡ d
-unfolding pending_of
-pending_length ms es ls zero = refl
-pending_length ms es ls (suc d) = ap suc (pending_length ms es ls d)
-
--- a split is stored after the first d
-pub pended : (ms es ls : List ℕ) (d mark facts more : ℕ) → Lent ms es ls d
-    → pending_of (set ms d mark) (set es d facts) (set ls d more) (d + 1) ≡ waiting mark facts more ∷ pending_of ms es ls d
-unfolding pending_of
-pended ms es ls d mark facts more (hm, he, hl) =
-    ap (pending_of (set ms d mark) (set es d facts) (set ls d more)) (add-one d)
-    ∙ ap₂ (λ w ws. w ∷ ws) (waiting_same (get_or-set_same ms d mark 0 hm) (get_or-set_same es d facts 0 he) (get_or-set_same ls d more 0 hl))
-    (pending_same ms es ls (set ms d mark) (set es d facts) (set ls d more) d (λ j l. (
-      get_or-set_other ms d j mark 0 (λ e. omega arith),
-      get_or-set_other es d j facts 0 (λ e. omega arith),
-      get_or-set_other ls d j more 0 (λ e. omega arith),
-    )))
+pub length-last_first : (n : ℕ) (l : List Split) → length (last_first n l) ≡ n
+unfolding last_first
+length-last_first zero l = refl
+length-last_first (suc n) l = ap suc (length-last_first n l)
 
 -- ---- the branch is cut back
 
-module _ (ms es ls : List ℕ) where
-  pub cut_none : (d : ℕ) → d ≡ 0 → closed ≡ cut_back ◌+◌ (pending_of ms es ls d)
-  unfolding pending_of
+module _ (l : List Split) where
+  pub cut_none : (n : ℕ) → n ≡ 0 → closed ≡ cut_back ◌+◌ (last_first n l)
+  unfolding last_first
   cut_none zero e = refl
-  cut_none (suc d) e = absurd (omega arith)
+  cut_none (suc n) e = absurd (omega arith)
 
-  -- where the last split is the one at d
-  module _ (d : ℕ) where
-    abbrev mark : ℕ
-    mark = get_or ms d 0
+  -- the last split
+  abbrev last : ℕ → Split
+  last n = get_or l n no_split
 
-    abbrev facts : ℕ
-    facts = get_or es d 0
+  -- with so many children after the next
+  abbrev after : ℕ → ℕ → Split
+  after n k = record { mark = (last n).mark; facts = (last n).facts; more = k }
 
-    abbrev cut : Walk ℕ ℕ
-    cut = cut_back ◌+◌ (pending_of ms es ls (suc d))
+  begins : (n k : ℕ) → (last n).more ≡ k
+      → working ((last n).mark + (last n).facts) (wait (last n).mark (replicate k (last n).facts) (last_first n l)) ≡ cut_back ◌+◌ (last_first (suc n) l)
+  unfolding last_first
+  begins n k e = rw e refl
 
-    -- the walk with so many children after the next
-    abbrev next : ℕ → Walk ℕ ℕ
-    next k = working (mark + facts) (wait mark (replicate k facts) (pending_of ms es ls d))
-
-    last_begins : get_or ls d 0 ≡ 0 → working (mark + facts) (pending_of ms es ls d) ≡ cut
-    unfolding pending_of
-    last_begins e = ap next (sym e)
-
-    other_begins : (k : ℕ) → get_or ls d 0 ≡ k → (k ≡ 0 → ⊥) → d < length ls → working (mark + facts) (pending_of ms es (set ls d (k - 1)) (suc d)) ≡ cut
-    unfolding pending_of
-    other_begins zero e n h = absurd (n refl)
-    other_begins (suc k) e n h =
-        ap₂ (λ j ws. working (mark + facts) (waiting mark facts j ∷ ws)) (get_or-set_same ls d (suc k - 1) 0 h ∙ down k)
-        (pending_same ms es ls ms es (set ls d (suc k - 1)) d (λ j l. (refl, refl, get_or-set_other ls d j (suc k - 1) 0 (λ e. omega arith))))
-        ∙ ap next (sym e)
-
-  -- its last split's last child begins
-  pub cut_last : (d : ℕ) → (d ≡ 0 → ⊥) → get_or ls (d - 1) 0 ≡ 0
-      → working (get_or ms (d - 1) 0 + get_or es (d - 1) 0) (pending_of ms es ls (d - 1)) ≡ cut_back ◌+◌ (pending_of ms es ls d)
-  cut_last zero n e = absurd (n refl)
-  cut_last (suc d) n e =
-      subst (λ j. get_or ls j 0 ≡ 0 → working (get_or ms j 0 + get_or es j 0) (pending_of ms es ls j) ≡ cut d) (sym (down d)) (last_begins d) e
+  -- its last child begins
+  pub cut_last : (n : ℕ) → (n ≡ 0 → ⊥) → (last (n - 1)).more ≡ 0
+      → working ((last (n - 1)).mark + (last (n - 1)).facts) (last_first (n - 1) l) ≡ cut_back ◌+◌ (last_first n l)
+  cut_last zero x e = absurd (x refl)
+  cut_last (suc n) x e = rw (down n) (begins n 0 (subst (λ k. (last k).more ≡ 0) (down n) e))
 
   -- another child of it does
-  pub cut_more : (d : ℕ) → (d ≡ 0 → ⊥) → (get_or ls (d - 1) 0 ≡ 0 → ⊥) → d - 1 < length ls
-      → working (get_or ms (d - 1) 0 + get_or es (d - 1) 0) (pending_of ms es (set ls (d - 1) (get_or ls (d - 1) 0 - 1)) d) ≡ cut_back ◌+◌ (pending_of ms es ls d)
-  cut_more zero n m h = absurd (n refl)
-  cut_more (suc d) n m h =
-      subst (λ j. (get_or ls j 0 ≡ 0 → ⊥) → j < length ls
-      → working (get_or ms j 0 + get_or es j 0) (pending_of ms es (set ls j (get_or ls j 0 - 1)) (suc d)) ≡ cut d) (sym (down d))
-      (other_begins d (get_or ls d 0) refl) m h
+  pub cut_more : (n : ℕ) → (n ≡ 0 → ⊥) → ((last (n - 1)).more ≡ 0 → ⊥) → n - 1 < length l
+      → working ((last (n - 1)).mark + (last (n - 1)).facts)
+      (last_first n (set l (n - 1) (after (n - 1) ((last (n - 1)).more - 1))))
+      ≡ cut_back ◌+◌ (last_first n l)
+  cut_more zero x y h = absurd (x refl)
+  cut_more (suc n) x y h =
+      subst (λ k. ((last k).more ≡ 0 → ⊥) → k < length l
+      → working ((last k).mark + (last k).facts) (last_first (suc n) (set l k (after k ((last k).more - 1))))
+      ≡ cut_back ◌+◌ (last_first (suc n) l)) (sym (down n)) (go (last n).more refl) y h
+    where
+      go : (k : ℕ) → (last n).more ≡ k → ((last n).more ≡ 0 → ⊥) → n < length l
+          → working ((last n).mark + (last n).facts) (last_first (suc n) (set l n (after n ((last n).more - 1)))) ≡ cut_back ◌+◌ (last_first (suc n) l)
+      go zero e y h = absurd (y e)
+      go (suc k) e y h =
+          ap (working ((last n).mark + (last n).facts))
+          (ap (λ j. last_first j (set l n (after n ((last n).more - 1)))) (sym (add-one n)) ∙ first_push n l (after n ((last n).more - 1)) h)
+          ∙ ap (λ j. working ((last n).mark + (last n).facts) (waiting (after n j) ∷ last_first n l)) (ap (λ j. j - 1) e ∙ down k)
+          ∙ begins n (suc k) e
 
 -- ---- a step is entered
 
@@ -111,7 +94,7 @@ module _ (f : ℕ) (ss : List (Waiting ℕ ℕ)) where
   enter_one (c ∷ []) e = refl
   enter_one (c ∷ d ∷ ds) e = absurd (omega arith)
 
-  pub enter_more : (cs : List ℕ) → Alike cs → 2 ≤ length cs → working (f + get_or cs 0 0) (waiting f (get_or cs 1 0) (length cs - 2) ∷ ss) ≡ enter ◌+◌ f cs ss
+  pub enter_more : (cs : List ℕ) → Alike cs → 2 ≤ length cs → working (f + get_or cs 0 0) (waiting (record { mark = f; facts = get_or cs 1 0; more = length cs - 2 }) ∷ ss) ≡ enter ◌+◌ f cs ss
   enter_more [] a h = absurd (omega arith)
   enter_more (c ∷ []) a h = absurd (omega arith)
   enter_more (c ∷ d ∷ ds) a h =

@@ -6,6 +6,7 @@ use native.Mathlib.Numerals.{add-one}
 use mathlib.Core.Path.{◌≡◌, refl, sym, ◌∙◌, ap, ap₂, subst}
 use mathlib.Core.Bool.{true, false}
 use mathlib.Core.List.{List, []}
+use Rattle.std.specs.Prelude.{Option, Some, None}
 use lib.ListN.{length}
 use borrow.Author.Tests.{eqb-true}
 use Rattle.calculus.specs.Limits.{ticket_bytes}
@@ -28,11 +29,9 @@ use Rattle.delimiters.specs.Claims.{open_under, ends_at}
 use Rattle.delimiters.proofs.Open.{open_number}
 use Rattle.steps.proofs.Table.{least_four}
 use Rattle.steps.proofs.Numbers.{tried_by}
-use Rattle.needs.specs.declared.Entered.{Entered}
-use Rattle.needs.specs.declared.Entered.TheVariants.{Closed, Open}
 use Rattle.needs.specs.declared.Walked as walked
 use Rattle.needs.specs.declared.Report as code
-use Rattle.needs.specs.Pending.{pending_of, deepest, Lent}
+use Rattle.needs.specs.Pending.{deepest}
 use Rattle.needs.specs.Steps.{Fit, state_of, Enters}
 use Rattle.needs.specs.Outcomes.{report_is, with_state, with_step, nothing_met, need_from, need_started, Within, WalksTo}
 use Rattle.needs.proofs.Low.{Low, low_stepped, one_pends}
@@ -66,28 +65,19 @@ none_tried NoSolution b s f ss body m = refl
 none_tried Strings b s f ss body m = refl
 
 module _ (b : List ℕ) (s : Progress) where
-  abbrev stands_at : Claim → List ℕ → List ℕ → List ℕ → ℕ → ℕ → State ℕ ℕ
-  stands_at claim ms es ls f d = open_under claim f (pending_of ms es ls d)
-
-  -- where the loop stands before record k at position i: the outcome n is fixed, and so are the lengths of the slices
-  pub record Going (claim : Claim) (n : goal.Need) (xs ys zs ms es ls : List ℕ) (r : code.Report) (f d i k : ℕ) : Type 0 where
-    pub marks_kept : length ms ≡ length xs
-    pub each_kept : length es ≡ length ys
-    pub left_kept : length ls ≡ length zs
+  -- where the loop stands before record k at position i, on a branch of f facts with the splits ss pending: the outcome n is fixed
+  pub record Going (claim : Claim) (n : goal.Need) (ss : List (Waiting ℕ ℕ)) (r : code.Report) (f i k : ℕ) : Type 0 where
     pub low : k ≤ i
     pub counted : r.steps ≤ k
-    pub shallow : 10 * d ≤ i
-    pub depth_is : pending_in (stands_at claim ms es ls f d) ≡ d
-    pub few : Low i (stands_at claim ms es ls f d)
-    pub rest : need_from b (asked b s) (stands_at claim ms es ls f d) (report_is r) k i ≡ n
+    pub shallow : 10 * length ss ≤ i
+    pub depth_is : pending_in (open_under claim f ss) ≡ length ss
+    pub few : Low i (open_under claim f ss)
+    pub rest : need_from b (asked b s) (open_under claim f ss) (report_is r) k i ≡ n
 
-  pub starts : (claim : Claim) (ms es ls : List ℕ) (at r : ℕ) → Within b s at r
-      → Going claim (need_started claim b s r at) ms es ls ms es ls (record { steps = 0; facts = 0; pending = 0 }) s.constraints 0 at r
-  unfolding pending_of asked
-  starts claim ms es ls at r h = record {
-    marks_kept = refl;
-    each_kept = refl;
-    left_kept = refl;
+  pub starts : (claim : Claim) (at r : ℕ) → Within b s at r
+      → Going claim (need_started claim b s r at) [] (record { steps = 0; facts = 0; pending = 0 }) s.constraints at r
+  unfolding asked
+  starts claim at r h = record {
     low = h.low;
     counted = omega arith;
     shallow = omega arith;
@@ -99,39 +89,39 @@ module _ (b : List ℕ) (s : Progress) where
 
   -- ---- a state is met
 
-  module _ {claim : Claim} {n : goal.Need} {xs ys zs ms es ls : List ℕ} {r : code.Report} {f d i k : ℕ} (g : Going claim n xs ys zs ms es ls r f d i k)
-      (m : code.Report) (e : report_is m ≡ with_state (report_is r) f d) where
+  module _ {claim : Claim} {n : goal.Need} {ss : List (Waiting ℕ ℕ)} {r : code.Report} {f i k : ℕ} (g : Going claim n ss r f i k)
+      (m : code.Report) (e : report_is m ≡ with_state (report_is r) f (length ss)) where
     -- the report has its facts and its pending splits
     has_facts : f ≤ m.facts
     has_facts = omega (arith, ap (λ (x : goal.Report). x.facts) e, le-max_right r.facts f)
 
-    has_pending : d ≤ m.pending
-    has_pending = omega (arith, ap (λ (x : goal.Report). x.pending) e, le-max_right r.pending d)
+    has_pending : length ss ≤ m.pending
+    has_pending = omega (arith, ap (λ (x : goal.Report). x.pending) e, le-max_right r.pending (length ss))
 
     same_steps : m.steps ≡ r.steps
     same_steps = ap (λ (x : goal.Report). x.steps) e
 
-    met_rest : need_from b (asked b s) (stands_at claim ms es ls f d) (report_is m) k i ≡ n
+    met_rest : need_from b (asked b s) (open_under claim f ss) (report_is m) k i ≡ n
     met_rest =
-        ap (λ (x : goal.Report). need_from b (asked b s) (stands_at claim ms es ls f d) x k i) (e
-        ∙ ap₂ (with_state (report_is r)) (sym (open_facts claim f (pending_of ms es ls d))) (sym g.depth_is))
-        ∙ from_met b (asked b s) (stands_at claim ms es ls f d) (report_is r) k i
+        ap (λ (x : goal.Report). need_from b (asked b s) (open_under claim f ss) x k i) (e
+        ∙ ap₂ (with_state (report_is r)) (sym (open_facts claim f ss)) (sym g.depth_is))
+        ∙ from_met b (asked b s) (open_under claim f ss) (report_is r) k i
         ∙ g.rest
 
     -- ---- a record that ends the steps
 
     pub going_none : length b < next b i → WalksTo b s n (walked.TheVariants.Refused 3 k)
     unfolding WalksTo
-    going_none h = sym (from_none b (asked b s) (stands_at claim ms es ls f d) (report_is r) k i h) ∙ g.rest
+    going_none h = sym (from_none b (asked b s) (open_under claim f ss) (report_is r) k i h) ∙ g.rest
 
     pub going_refused : next b i ≤ length b
         → (c : ℕ)
-        → c ≡ open_number (by_shape (asked b s)) b (asked b s) (stands_at claim ms es ls f d) i
+        → c ≡ open_number (by_shape (asked b s)) b (asked b s) (open_under claim f ss) i
         → (c ≡ 0 → ⊥)
         → WalksTo b s n (walked.TheVariants.Refused c k)
     unfolding WalksTo
     going_refused h c q z =
-        sym (from_open b (asked b s) (stands_at claim ms es ls f d) (report_is r) k i (still_open claim f (pending_of ms es ls d)) h c q z) ∙ g.rest
+        sym (from_open b (asked b s) (open_under claim f ss) (report_is r) k i (still_open claim f ss) h c q z) ∙ g.rest
 
     pub going_model : (at₀ r₀ j : ℕ) → Within b s at₀ r₀ → at₀ ≤ i → ends_at claim j ≡ true → j ≡ kind b i → next b i ≤ length b
         → WalksTo b s n (walked.TheVariants.Model i k m)
@@ -151,64 +141,57 @@ module _ (b : List ℕ) (s : Progress) where
         ends_model NoSolution j q = absurd (not_both false q refl)
         ends_model Strings j q = eqb-true j 7 q
 
-        taking_there : (c : Claim) (j : ℕ) → ends_at c j ≡ true → open_under c f (pending_of ms es ls d) ≡ taking f
+        taking_there : (c : Claim) (j : ℕ) → ends_at c j ≡ true → open_under c f ss ≡ taking f
         taking_there NoSolution j q = absurd (not_both false q refl)
         taking_there Strings j q = refl
 
     -- ---- a step
 
     module _ (z : ℕ) (fit : Fit claim b s i z) (w : next b i ≤ length b) (k6 : kind b i ≡ 6)
-        (clean : fault (by_shape (asked b s)) b (asked b s) (stands_at claim ms es ls f d) i ≡ 0) (m' : code.Report) (e' : report_is m' ≡ with_step (report_is m)) where
+        (clean : fault (by_shape (asked b s)) b (asked b s) (open_under claim f ss) i ≡ 0) (m' : code.Report) (e' : report_is m' ≡ with_step (report_is m)) where
       -- a step takes ten bytes at least
       ten : i + 10 ≤ i + 6 + z
       ten = let r = rule b (i + 6) in omega (arith, at_least (form_for r) z fit.formed.fits, least_four r)
 
-      onward : need_from b (asked b s) (stepped (by_shape (asked b s)) (stands_at claim ms es ls f d) (step_with_child b i)) (report_is m') (k + 1) (i + 6 + z) ≡ n
+      onward : need_from b (asked b s) (stepped (by_shape (asked b s)) (open_under claim f ss) (step_with_child b i)) (report_is m') (k + 1) (i + 6 + z) ≡ n
       onward =
           ap (λ (x : goal.Report). need_from b (asked b s) next_state x (k + 1) (i + 6 + z)) e'
           ∙ ap₂ (λ l q. need_from b (asked b s) next_state (with_step (report_is m)) q (i + 6 + l)) fit.sized (add-one k)
-          ∙ sym (from_stepped b (asked b s) (stands_at claim ms es ls f d) (report_is m) k i
-          (omega (arith, open_facts claim f (pending_of ms es ls d), has_facts)) (omega (arith, g.depth_is, has_pending)) w k6 clean)
+          ∙ sym (from_stepped b (asked b s) (open_under claim f ss) (report_is m) k i
+          (omega (arith, open_facts claim f ss, has_facts)) (omega (arith, g.depth_is, has_pending)) w k6 clean)
           ∙ met_rest
         where
           next_state : State ℕ ℕ
-          next_state = stepped (by_shape (asked b s)) (stands_at claim ms es ls f d) (step_with_child b i)
+          next_state = stepped (by_shape (asked b s)) (open_under claim f ss) (step_with_child b i)
 
-      pub going_closed : (ms' es' ls' : List ℕ) (x : Entered) → Enters claim b s i f (pending_of ms es ls d) ms' es' ls' x → x ≡ Closed
+      pub going_closed : (ss' : List (Waiting ℕ ℕ)) (x : Option ℕ) → Enters claim b s i f ss ss' x → x ≡ None
           → WalksTo b s n (walked.TheVariants.Closed (i + 6 + z) (k + 1) m')
       unfolding WalksTo
-      going_closed ms' es' ls' x h q =
-          ap (λ (st : State ℕ ℕ). need_from b (asked b s) st (report_is m') (k + 1) (i + 6 + z)) (ap (state_of claim ms' es' ls') (sym q) ∙ h.state) ∙ onward
+      going_closed ss' x h q =
+          ap (λ (st : State ℕ ℕ). need_from b (asked b s) st (report_is m') (k + 1) (i + 6 + z)) (ap (state_of claim ss') (sym q) ∙ h.state) ∙ onward
 
-      pub going_open : (ms' es' ls' : List ℕ) (x : Entered) (f' d' : ℕ) → Enters claim b s i f (pending_of ms es ls d) ms' es' ls' x → x ≡ Open f' d'
-          → length ms' ≡ length ms → length es' ≡ length es → length ls' ≡ length ls
-          → Going claim n xs ys zs ms' es' ls' m' f' d' (i + 6 + z) (k + 1)
-      going_open ms' es' ls' x f' d' h q a b' c =
-          let (state, depth) = opened in
-          let one = one_pends (asked b s) (stands_at claim ms es ls f d) (step_with_child b i) in
+      pub going_open : (ss' : List (Waiting ℕ ℕ)) (x : Option ℕ) (f' : ℕ) → Enters claim b s i f ss ss' x → x ≡ Some f'
+          → Going claim n ss' m' f' (i + 6 + z) (k + 1)
+      going_open ss' x f' h q =
+          let state : open_under claim f' ss' ≡ stepped (by_shape (asked b s)) (open_under claim f ss) (step_with_child b i) =
+          ap (state_of claim ss') (sym q) ∙ h.state in
+          let depth = h.depth f' g.depth_is in
+          let one = one_pends (asked b s) (open_under claim f ss) (step_with_child b i) in
           record {
-            marks_kept = a ∙ g.marks_kept;
-            each_kept = b' ∙ g.each_kept;
-            left_kept = c ∙ g.left_kept;
             low = omega (arith, g.low);
             counted = omega (arith, ap (λ (x : goal.Report). x.steps) e', same_steps, g.counted);
             shallow = omega (arith, g.shallow, ten, one, ap pending_in state, depth, g.depth_is);
             depth_is = depth;
-            few = subst (Low (i + 6 + z)) (sym state) (low_stepped (asked b s) i (i + 6 + z) (stands_at claim ms es ls f d) (step_with_child b i) (omega (arith, ten)) g.few);
+            few = subst (Low (i + 6 + z)) (sym state) (low_stepped (asked b s) i (i + 6 + z) (open_under claim f ss) (step_with_child b i) (omega (arith, ten)) g.few);
             rest = ap (λ (st : State ℕ ℕ). need_from b (asked b s) st (report_is m') (k + 1) (i + 6 + z)) state ∙ onward;
           }
-        where
-          opened : (stands_at claim ms' es' ls' f' d' ≡ stepped (by_shape (asked b s)) (stands_at claim ms es ls f d) (step_with_child b i))
-              × (pending_in (stands_at claim ms' es' ls' f' d') ≡ d')
-          opened = let y = subst (Enters claim b s i f (pending_of ms es ls d) ms' es' ls') q h in (y.state, y.depth)
 
   -- ---- room for a split more
 
-  pub roomy : {claim : Claim} {n : goal.Need} {xs ys zs ms es ls : List ℕ} {r : code.Report} {f d i k : ℕ} → Going claim n xs ys zs ms es ls r f d i k
-      → Lent xs ys zs deepest
-      → i ≤ ticket_bytes
-      → (f < 65536) × Lent ms es ls d
-  roomy {claim} {n} {xs} {ys} {zs} {ms} {es} {ls} {r} {f} {d} {i} {k} g (hx, hy, hz) h = (
-    omega (arith, open_low claim i f (pending_of ms es ls d) g.few),
-    (omega (arith, g.shallow, g.marks_kept), omega (arith, g.shallow, g.each_kept), omega (arith, g.shallow, g.left_kept)),
+  pub roomy : {claim : Claim} {n : goal.Need} {ss : List (Waiting ℕ ℕ)} {r : code.Report} {f i k : ℕ} → Going claim n ss r f i k
+      → i + 10 ≤ ticket_bytes
+      → (f < 65536) × (length ss < deepest)
+  roomy {claim} {n} {ss} {r} {f} {i} {k} g h = (
+    omega (arith, open_low claim i f ss g.few),
+    omega (arith, g.shallow),
   )

@@ -2,7 +2,7 @@
 // them, but every step is taken as if it fitted, so that a branch is the number of its facts.
 #![tactic(auto)]
 
-ghost use Rattle.std.specs.Prelude.{◌≡◌, true, List, ◌∷◌, ℕ, ◌+◌, ◌<◌, ◌≤◌, max};
+ghost use Rattle.std.specs.Prelude.{◌≡◌, true, List, ◌∷◌, ℕ, ◌+◌, ◌<◌, ◌≤◌, [], length};
 ghost use Rattle.std.proofs.Math.Option.{get_or};
 ghost use Rattle.calculus.specs.Limits.{ticket_bytes};
 ghost use Rattle.calculus.specs.Children.{child_at};
@@ -14,7 +14,7 @@ ghost use Rattle.format.specs.StepForms.{form_for, fits_form, is_child};
 ghost use Rattle.question.specs.Posed.{asked, ReadTo};
 ghost use Rattle.steps.specs.Rules.{rule_named, shape_of};
 ghost use Rattle.question.specs.declared.Progress.{Progress};
-ghost use Rattle.needs.specs.Pending.{waiting, pending_of, deepest, Lent, walk_of};
+ghost use Rattle.needs.specs.Pending.{waiting, deepest, walk_of};
 ghost use Rattle.needs.specs.Steps.{Fit, Enters};
 ghost use Rattle.needs.specs.Outcomes.{report_is, with_step, with_state, need_of, need_from, Within, WalksTo, need_started, ModelHere, need_claimed};
 
@@ -23,86 +23,120 @@ use encoding::RECORD_HEAD;
 use limits::TICKET_BYTES;
 use question::{NEEDING, Progress, Reading, read_question};
 use records::{Found, read_at, u16_at, u32_at};
+use std::marker::Model;
 use steps::{CHILD_FIELD, Rule, child_count, child_facts, record_fault, rule_of};
 
-// ---- pending splits: three slices of numbers, for each split its mark, how many facts each child to come adds, and how many children stand after the next
+// ---- pending splits
 
-// A step takes ten bytes at least: where one is taken, at most so many splits but one are pending.
-const PENDING_ROOM: usize = TICKET_BYTES / 10 + 1;
-
-// A split pends after the first depth.
-fn pend(
-    mark: usize,
-    facts: usize,
-    more: usize,
-    depth: usize,
-    marks: &mut [u16],
-    each: &mut [u16],
-    left: &mut [u16],
-)
-    requires { Lent marks.old each.old left.old depth × (mark < 65536) × (facts < 65536) × (more < 65536) }
-    ensures { pending_of marks.new each.new left.new (depth + 1)
-        ≡ waiting mark facts more ∷ pending_of marks.old each.old left.old depth }
-{
-    marks[depth] = mark as u16;
-    each[depth] = facts as u16;
-    left[depth] = more as u16;
+// A split with children pending: its mark, how many facts each child to come adds, and how many children stand after the next.
+#[derive(Clone, Copy)]
+struct Split {
+    mark: u16,
+    facts: u16,
+    more: u16,
 }
 
-// Where a step leads: every branch is closed; or a branch of so many facts is worked on, with so many splits pending.
+// A step takes ten bytes at least: no ticket has more splits pending.
+const PENDING_ROOM: usize = TICKET_BYTES / 10;
+
+// The pending splits of a walk: so many, from the first one of the array on.
 #[derive(Drop)]
-enum Entered {
-    Closed,
-    Open(usize, usize),
+struct PendingSplits {
+    depth: usize,
+    splits: [Split; PENDING_ROOM],
 }
 
-// "a closed branch is cut back to the mark of its last pending split", and its next child begins.
-fn cut_back(depth: usize, marks: &[u16], each: &[u16], left: &mut [u16]) -> Entered
-    requires { Lent marks.now each.now left.old depth }
-    ensures { walk_of marks.now each.now left.new result
-        ≡ cut_back ◌+◌ (pending_of marks.now each.now left.old depth) }
-{
-    if depth == 0 {
-        return Entered::Closed;
+impl Model for PendingSplits {
+    ghost use Rattle.std.specs.Prelude.{ℕ, ◌≤◌, List};
+    ghost use Rattle.calculus.specs.Walk.{Waiting};
+    ghost use Rattle.needs.specs.Pending.{last_first, deepest};
+
+    ghost Value = { List (Waiting ℕ ℕ) };
+
+    ghost view = { λ p. last_first p.depth p.splits };
+
+    ghost invariant = { λ p. p.depth ≤ deepest };
+}
+
+impl PendingSplits {
+    fn new() -> PendingSplits
+        ensures { result ≡ [] }
+    {
+        let none = Split {
+            mark: 0,
+            facts: 0,
+            more: 0,
+        };
+        PendingSplits {
+            depth: 0,
+            splits: [none; PENDING_ROOM],
+        }
     }
-    let last = depth - 1;
-    let facts = marks[last] as usize + each[last] as usize;
-    let more = left[last];
-    if more == 0 {
-        return Entered::Open(facts, last);
+
+    fn len(&self) -> usize
+        ensures { result ≡ length self.now }
+    {
+        self.depth
     }
-    left[last] = more - 1;
-    Entered::Open(facts, depth)
+
+    // A split pends after the others.
+    fn push(&mut self, split: Split)
+        requires { length self.old < deepest }
+        ensures { self.new ≡ waiting split ∷ self.old }
+    {
+        self.splits[self.depth] = split;
+        self.depth += 1;
+    }
+
+    // "a closed branch is cut back to the mark of its last pending split", and its next child begins, on a branch of so many facts; with no split pending,
+    // every branch is closed.
+    fn take_next(&mut self) -> Option<usize>
+        ensures { walk_of result self.new ≡ cut_back ◌+◌ self.old }
+    {
+        if self.depth == 0 {
+            return None;
+        }
+        let last = self.depth - 1;
+        let split = self.splits[last];
+        if split.more == 0 {
+            self.depth = last;
+        } else {
+            self.splits[last] = Split {
+                more: split.more - 1,
+                ..split
+            };
+        }
+        Some(usize::from(split.mark) + usize::from(split.facts))
+    }
 }
 
 // ---- a step
 
-// Claim 1: the first child of a rule's step begins on a branch of so many facts, or the branch closes.
+// Claim 1: the first child of a rule's step begins on a branch of so many facts; none does once every branch is closed.
 fn enter(
     rule: Rule,
     n: usize,
     size: usize,
     facts: usize,
-    depth: usize,
-    marks: &mut [u16],
-    each: &mut [u16],
-    left: &mut [u16],
-) -> Entered
-    requires { (fits_form (form_for (rule_named rule)) size ≡ true) × (facts < 65536) × Lent marks.old each.old left.old depth }
-    ensures { (b : List ℕ) (body : ℕ) → walk_of marks.new each.new left.new result
-        ≡ calculus.enter ◌+◌ facts (shape_of rule n b body size) (pending_of marks.old each.old left.old depth) }
+    pending: &mut PendingSplits,
+) -> Option<usize>
+    requires { (fits_form (form_for (rule_named rule)) size ≡ true) × (facts < 65536) × (length pending.old < deepest) }
+    ensures { (b : List ℕ) (body : ℕ) → walk_of result pending.new ≡ calculus.enter ◌+◌ facts (shape_of rule n b body size) pending.old }
 {
     let children = child_count(rule, n, size);
     if children == 0 {
-        return cut_back(depth, marks, each, left);
+        return pending.take_next();
     }
     let first = facts + child_facts(rule, 1);
     if children == 1 {
-        return Entered::Open(first, depth);
+        return Some(first);
     }
-    let further = child_facts(rule, 2);
-    pend(facts, further, children - 2, depth, marks, each, left);
-    Entered::Open(first, depth + 1)
+    pending.push(Split {
+        mark: facts as u16,
+        facts: child_facts(rule, 2) as u16,
+        more: (children - 2) as u16,
+    });
+    Some(first)
 }
 
 // Claim 2: how many facts child k adds; "a closing rule .. adds no fact".
@@ -118,7 +152,7 @@ fn taken_facts(rule: Rule, n: usize, size: usize, k: usize) -> usize
     }
 }
 
-// The step of proper form in the record at a position, on a branch of so many facts with so many splits pending.
+// The step of proper form in the record at a position, on a branch of so many facts: how many stand on the branch that is worked on next, if any is.
 fn take_step(
     ticket: &[u8],
     s: Progress,
@@ -126,21 +160,17 @@ fn take_step(
     at: usize,
     size: usize,
     facts: usize,
-    depth: usize,
-    marks: &mut [u16],
-    each: &mut [u16],
-    left: &mut [u16],
-) -> Entered
-    requires { Fit claim ticket.now s at size × (facts < 65536) × Lent marks.old each.old left.old depth }
-    ensures { Enters claim ticket.now s at facts (pending_of marks.old each.old left.old depth)
-        marks.new each.new left.new result }
+    pending: &mut PendingSplits,
+) -> Option<usize>
+    requires { Fit claim ticket.now s at size × (facts < 65536) × (length pending.old < deepest) }
+    ensures { Enters claim ticket.now s at facts pending.old pending.new result }
 {
     let rule = rule_of(u16_at(ticket, at + RECORD_HEAD));
     match claim {
-        Claim::NoSolution => enter(rule, s.n, size, facts, depth, marks, each, left),
+        Claim::NoSolution => enter(rule, s.n, size, facts, pending),
         Claim::Strings => {
             let k = u16_at(ticket, at + RECORD_HEAD + CHILD_FIELD);
-            Entered::Open(facts + taken_facts(rule, s.n, size, k), 0)
+            Some(facts + taken_facts(rule, s.n, size, k))
         }
     }
 }
@@ -156,33 +186,28 @@ pub struct Report {
     pub pending: usize,
 }
 
-// With a state met where so many facts stand on the branch and so many splits are pending.
-fn with_state(report: Report, facts: usize, pending: usize) -> Report
-    ensures { report_is result ≡ with_state (report_is report) facts pending }
-{
-    Report {
-        steps: report.steps,
-        facts: greater(report.facts, facts),
-        pending: greater(report.pending, pending),
+impl Report {
+    // With a state met where so many facts stand on the branch and so many splits are pending.
+    fn with_state(self, facts: usize, pending: usize) -> Report
+        ensures { report_is result ≡ with_state (report_is self) facts pending }
+    {
+        Report {
+            facts: self.facts.max(facts),
+            pending: self.pending.max(pending),
+            ..self
+        }
     }
-}
 
-// With a step more.
-fn with_step(report: Report) -> Report
-    requires { report.steps ≤ ticket_bytes }
-    ensures { report_is result ≡ with_step (report_is report) }
-{
-    Report {
-        steps: report.steps + 1,
-        facts: report.facts,
-        pending: report.pending,
+    // With a step more.
+    fn with_step(self) -> Report
+        requires { self.steps ≤ ticket_bytes }
+        ensures { report_is result ≡ with_step (report_is self) }
+    {
+        Report {
+            steps: self.steps + 1,
+            ..self
+        }
     }
-}
-
-fn greater(a: usize, b: usize) -> usize
-    ensures { result ≡ max a b }
-{
-    if a < b { b } else { a }
 }
 
 // ---- all steps
@@ -197,30 +222,21 @@ enum Walked {
 }
 
 // The records from the one after the claim, record r at a position, on the question's constraints: until every branch is closed, or up to the model.
-fn walk(
-    ticket: &[u8],
-    s: Progress,
-    claim: Claim,
-    at: usize,
-    r: usize,
-    marks: &mut [u16],
-    each: &mut [u16],
-    left: &mut [u16],
-) -> Walked
-    requires { Within ticket.now s at r × Lent marks.old each.old left.old deepest }
+fn walk(ticket: &[u8], s: Progress, claim: Claim, at: usize, r: usize) -> Walked
+    requires { Within ticket.now s at r }
     ensures { WalksTo ticket.now s (need_started claim ticket.now s r at) result }
 {
+    let mut pending = PendingSplits::new();
     let mut report = Report {
         steps: 0,
         facts: 0,
         pending: 0,
     };
     let mut facts = s.constraints;
-    let mut depth = 0;
     let mut i = at;
     let mut k = r;
     loop {
-        report = with_state(report, facts, depth);
+        report = report.with_state(facts, pending.len());
         let Found::Whole(kind, size) = read_at(ticket, i) else {
             return Walked::Refused(3, k);
         };
@@ -231,16 +247,14 @@ fn walk(
         if fault != 0 {
             return Walked::Refused(fault, k);
         }
-        report = with_step(report);
-        match take_step(ticket, s, claim, i, size, facts, depth, marks, each, left) {
-            Entered::Closed => return Walked::Closed(i + RECORD_HEAD + size, k + 1, report),
-            Entered::Open(f, d) => {
-                facts = f;
-                depth = d;
-            }
-        }
-        i = i + RECORD_HEAD + size;
+        report = report.with_step();
+        let entered = take_step(ticket, s, claim, i, size, facts, &mut pending);
+        i += RECORD_HEAD + size;
         k += 1;
+        match entered {
+            Some(next) => facts = next,
+            None => return Walked::Closed(i, k, report),
+        }
     }
 }
 
@@ -287,10 +301,7 @@ fn behind_claim(ticket: &[u8], s: Progress, claim: Claim, at: usize, r: usize) -
     requires { Within ticket.now s at r }
     ensures { need_of result ≡ need_started claim ticket.now s r at }
 {
-    let mut marks = [0u16; PENDING_ROOM];
-    let mut each = [0u16; PENDING_ROOM];
-    let mut left = [0u16; PENDING_ROOM];
-    match walk(ticket, s, claim, at, r, &mut marks, &mut each, &mut left) {
+    match walk(ticket, s, claim, at, r) {
         Walked::Refused(c, k) => Need::Refused(c, k),
         Walked::Closed(to, k, report) => at_end(ticket, to, k, report),
         Walked::Model(to, k, report) => at_model(ticket, s, to, k, report),

@@ -1,21 +1,12 @@
--- Integers within their limit, one after another.
-use Prim.Native.Nat.{ℕ, ◌+◌, ◌-◌, ◌≤◌, ◌<◌}
+-- Integers within their limit, one after another, tested by std's word for a test of all.
+use Prim.Native.Nat.{ℕ}
 use mathlib.Core.Path.{◌≡◌}
-use mathlib.Core.Bool.{true, false}
 use mathlib.Core.List.{List}
-use Rattle.lists.proofs.Every.{along_done, along_fails, along_on}
+use Rattle.std.specs.List.{list_all}
+use Rattle.lists.proofs.Library.{list_all_is}
 use Rattle.calculus.specs.Limits.{value_limit}
-use Rattle.format.specs.Fields.{i32, i32s, within, all_within}
+use Rattle.format.specs.Fields.{fields, i32, i32s, within, all_within}
 
-module _ (b : List ℕ) (at : ℕ) where
-  pub within_done : (k : ℕ) → k ≤ 0 → all_within value_limit (i32s b at k) ≡ true
-  unfolding all_within i32s
-  within_done k h = along_done (within value_limit) (λ i. i + 4) (i32 b) at k h
-
-  pub within_yes : (k : ℕ) → 0 < k → within value_limit (i32 b at) ≡ true → all_within value_limit (i32s b at k) ≡ all_within value_limit (i32s b (at + 4) (k - 1))
-  unfolding all_within i32s
-  within_yes k h e = along_on (within value_limit) (λ i. i + 4) (i32 b) at k h e
-
-  pub within_no : (k : ℕ) → 0 < k → within value_limit (i32 b at) ≡ false → all_within value_limit (i32s b at k) ≡ false
-  unfolding all_within i32s
-  within_no k h e = along_fails (within value_limit) (λ i. i + 4) (i32 b) at k h e
+pub all_within_is : (b : List ℕ) (at k : ℕ) → list_all (within value_limit) (fields 4 (i32 b) at k) ≡ all_within value_limit (i32s b at k)
+unfolding all_within i32s
+all_within_is b at k = list_all_is (within value_limit) (fields 4 (i32 b) at k)

@@ -17,7 +17,6 @@ ghost use Rattle.question.specs.Posed.{asked, numbered};
 ghost use Rattle.leaf.specs.Leaf.{Modelled, LeafReady, ShortSizes};
 ghost use Rattle.strings.specs.Filling.{sized, string_in, given_strings, is_it, fixed_at, completed_by};
 
-use classes::Lowest;
 use encoding::{CODE, LEN};
 use limits::{LENGTH_LIMIT, VARIABLE_LIMIT};
 use question::Progress;
@@ -197,12 +196,12 @@ fn fill_fixed(
 {
     let found = classes::class_literal(labels, s.literals + 1, x);
     match found {
-        Lowest::Literal(l) => {
+        Some(l) => {
             let literal = question::placed_text(ticket, places, l);
             fill_text(row, ticket, literal.at, literal.count);
             literal.count
         }
-        Lowest::Nothing => {
+        None => {
             let len = leaf::value_of(model, s, LEN, x);
             let code = leaf::value_of(model, s, CODE, x);
             fill_character(row, len, code)

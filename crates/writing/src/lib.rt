@@ -10,18 +10,14 @@ pub fn put_u16(buffer: &mut [u8], at: usize, v: usize)
     requires { at + 2 ≤ length buffer.old }
     ensures { buffer.new ≡ sets buffer.old at (bytes_of 2 v) }
 {
-    buffer[at] = (v % 256) as u8;
-    buffer[at + 1] = (v / 256 % 256) as u8;
+    buffer[at..at + 2].copy_from_slice(&v.to_le_bytes()[..2]);
 }
 
 pub fn put_u32(buffer: &mut [u8], at: usize, v: usize)
     requires { at + 4 ≤ length buffer.old }
     ensures { buffer.new ≡ sets buffer.old at (bytes_of 4 v) }
 {
-    buffer[at] = (v % 256) as u8;
-    buffer[at + 1] = (v / 256 % 256) as u8;
-    buffer[at + 2] = (v / 256 / 256 % 256) as u8;
-    buffer[at + 3] = (v / 256 / 256 / 256 % 256) as u8;
+    buffer[at..at + 4].copy_from_slice(&v.to_le_bytes()[..4]);
 }
 
 // The body length and the kind of a record; its body follows them.

@@ -57,8 +57,8 @@ string_code-requires c =
     let h : c.args.j - c.args.q - c.args.p < c.args.p = omega arith in
     rw (c.requires.1 x (omega arith)) (text_there c.args.v.now c.args.p c.args.q c.requires.0 x h)
 
-pub returns : goal.returns
-returns c =
+pub returns-else-x-p : goal.returns-else-x-p
+returns-else-x-p c =
     let x : ℕ = c.args.j - c.args.q - c.args.p in
     let h : c.args.j - c.args.q - c.args.p < c.args.p = omega arith in
     let e : c.args.q + (c.args.p + (c.args.j - c.args.q - c.args.p)) ≡ c.args.j = omega arith in

@@ -1,4 +1,3 @@
-use Prim.Native.Nat.{◌+◌, ◌-◌, ◌≤◌}
 use lib.ListN.{length, take}
 use mathlib.Core.Path.{◌≡◌}
 use Rattle.assignment.specs.Form.{columns_at}
@@ -6,7 +5,4 @@ use Rattle.assignment.proofs.fill_columns.Given as goal
 
 abbrev pub invariant-loop-j : goal.invariant-loop-j
 invariant-loop-j l =
-    (l.j ≤ l.q + (l.p + l.p)) × (length l.values ≡ length l.initial.values) × (take l.j l.values ≡ take l.j (columns_at l.v l.p l.q))
-
-abbrev pub decreases-loop-j : goal.decreases-loop-j
-decreases-loop-j l = l.q + (l.p + l.p) - l.j
+    (length l.values ≡ length l.initial.values) × (take l.j l.values ≡ take l.j (columns_at l.v l.p l.q))

@@ -11,4 +11,4 @@ returns c =
     let s = c.args in
     to_z-of_z {w = w64} (record { sfits = c.text_code.type_inv })
     ∙ c.text_code.ensures.0
-    ∙ ap (λ (m : ℕ). code_of (u32s s.v.now (s.at + 6) (m / 4))) c.u32_at-size.ensures.0
+    ∙ ap (λ (m : ℕ). code_of (u32s s.v.now (s.at + 6) (m / 4))) c.u32_at.ensures.0

@@ -1,5 +1,4 @@
 use Prim.Native.Nat.{◌*◌, ◌+◌}
-use borrow.Author.Tests.{not-false, not-true}
 use mathlib.Core.Path.{◌∙◌, sym}
 use native.Mathlib.Nat.{add-zero}
 use native.Mathlib.Omega.{arith}
@@ -11,38 +10,38 @@ pub returns-then-not-record_is : goal.returns-then-not-record_is
 unfolding answer_form
 returns-then-not-record_is c =
     let s = c.args in
-    sym (rw (sym c.record_is.ensures ∙ not-true _ c.if-not-record_is.true-raw))
+    sym (rw (sym c.if-not-record_is.ensures))
 
 pub overflow_add-end : goal.overflow_add-end
 overflow_add-end c =
     let s = c.args in
-    omega (arith, (record_there s.v.now s.at 10 (4 * s.q) (sym c.record_is.ensures ∙ not-false _ c.if-not-record_is.false-raw)).0)
+    omega (arith, (record_there s.v.now s.at 10 (4 * s.q) (sym c.if-not-record_is.ensures)).0)
 
 pub overflow_add-end-2 : goal.overflow_add-end-2
 overflow_add-end-2 c =
     let s = c.args in
-    let (e, m) = record_there s.v.now s.at 10 (4 * s.q) (sym c.record_is.ensures ∙ not-false _ c.if-not-record_is.false-raw) in
+    let (e, m) = record_there s.v.now s.at 10 (4 * s.q) (sym c.if-not-record_is.ensures) in
     omega arith
-
-pub returns-then-not-record_is-2 : goal.returns-then-not-record_is-2
-unfolding answer_form
-returns-then-not-record_is-2 c =
-    let s = c.args in
-    let t = sym c.record_is.ensures ∙ not-false _ c.if-not-record_is.false-raw in
-    let m = (record_there s.v.now s.at 10 (4 * s.q) t).1 in
-    sym (rw (t, m, sym c.record_is-2.ensures ∙ not-true _ c.if-not-record_is-2.true-raw))
 
 pub overflow_add-result : goal.overflow_add-result
 overflow_add-result c =
     let s = c.args in
-    omega (arith, (record_there s.v.now (s.at + 6 + 4 * s.q) 8 0 (sym c.record_is-2.ensures ∙ not-false _ c.if-not-record_is-2.false-raw)).0)
+    omega (arith, (record_there s.v.now (s.at + 6 + 4 * s.q) 8 0 (sym c.if-record_is.ensures)).0)
 
-pub returns : goal.returns
+pub returns-then-record_is : goal.returns-then-record_is
 unfolding answer_form
-returns c =
+returns-then-record_is c =
     let s = c.args in
-    let t = sym c.record_is.ensures ∙ not-false _ c.if-not-record_is.false-raw in
+    let t = sym c.if-not-record_is.ensures in
     let m = (record_there s.v.now s.at 10 (4 * s.q) t).1 in
-    let e = sym c.record_is-2.ensures ∙ not-false _ c.if-not-record_is-2.false-raw in
+    let e = sym c.if-record_is.ensures in
     let z = (record_there s.v.now (s.at + 6 + 4 * s.q) 8 0 e).1 in
     sym (rw (t, m, e, z, add-zero (s.at + 6 + 4 * s.q + 6)))
+
+pub returns-else-record_is : goal.returns-else-record_is
+unfolding answer_form
+returns-else-record_is c =
+    let s = c.args in
+    let t = sym c.if-not-record_is.ensures in
+    let m = (record_there s.v.now s.at 10 (4 * s.q) t).1 in
+    c.if-record_is.false ∙ sym (rw (t, m, sym c.if-record_is.ensures))

@@ -1,28 +1,19 @@
-use mathlib.Core.Path.{◌∙◌, refl, sym}
-use native.Mathlib.Omega.{arith}
-use Rattle.classes.proofs.Laws.{lowest_done, lowest_no, lowest_yes}
+use borrow.Author.Rules.{rules}
+use borrow.Author.Tests.{tests}
+use mathlib.Core.Path.{◌∙◌, ap, sym}
+use Rattle.std.proofs.lemmas.Iterator.{YieldsList-from_range}
+use Rattle.std.proofs.lemmas.Iterator.Search.{find_from_yields_List}
+use Rattle.std.proofs.lemmas.Iterator.Adapters.{option_map_id}
+use Rattle.calculus.specs.Chains.{var_node, lit_node}
+use Rattle.calculus.specs.Classes.{same_class}
+use Rattle.classes.proofs.Laws.{lowest_found}
 use Rattle.classes.specs.Classes.{literal_of}
 use Rattle.classes.proofs.class_literal.Goals as goal
 
-pub loop-left-init : goal.loop-left-init
-loop-left-init c = (omega arith, refl)
-
-pub returns-then-class_holds : goal.returns-then-class_holds
-unfolding literal_of
-returns-then-class_holds c =
-    let l = c.loop-left in
-    let s = c.args in
-    sym (lowest_yes s.labels.now s.x l.l l.left (omega arith) (sym c.class_holds.ensures ∙ c.if-class_holds.true)) ∙ l.invariant.1
-
-pub loop-left-preserved : goal.loop-left-preserved
-loop-left-preserved c =
-    let l = c.loop-left in
-    let s = c.args in
-    (omega arith, sym (lowest_no s.labels.now s.x l.l l.left (omega arith) (sym c.class_holds.ensures ∙ c.if-class_holds.false)) ∙ l.invariant.1)
-
 pub returns : goal.returns
-unfolding literal_of
 returns c =
-    let l = c.loop-left in
     let s = c.args in
-    sym (lowest_done s.labels.now s.x l.l l.left (omega arith)) ∙ l.invariant.1
+    ap literal_of
+    (sym (option_map_id c.find.result) ∙ find_from_yields_List (λ l. same_class s.labels.now (var_node s.x) (lit_node l)) _ _ c.find.result c.find.ensures.ran
+    (YieldsList-from_range 0 s.m s.m (search rules) (search rules)) (λ x b q k. search (rules, tests)))
+    ∙ lowest_found s.labels.now s.x 0 s.m

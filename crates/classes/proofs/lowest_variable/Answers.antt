@@ -1,25 +1,19 @@
-use mathlib.Core.Path.{◌∙◌, refl, sym}
-use native.Mathlib.Omega.{arith}
-use Rattle.classes.proofs.Laws.{first_done, first_no, first_yes}
+use borrow.Author.Rules.{rules}
+use borrow.Author.Tests.{tests}
+use mathlib.Core.Path.{◌∙◌, ap, sym}
+use Rattle.std.specs.Option.{unwrap_or}
+use Rattle.std.proofs.lemmas.Iterator.{YieldsList-from_range}
+use Rattle.std.proofs.lemmas.Iterator.Adapters.{option_map_id}
+use Rattle.std.proofs.lemmas.Iterator.Search.{find_from_yields_List}
+use Rattle.calculus.specs.Chains.{var_node}
+use Rattle.calculus.specs.Classes.{same_class}
+use Rattle.classes.proofs.Laws.{first_found}
 use Rattle.classes.proofs.lowest_variable.Goals as goal
-
-pub loop-left-init : goal.loop-left-init
-loop-left-init c = (omega arith, refl)
-
-pub returns-then-one_class : goal.returns-then-one_class
-returns-then-one_class c =
-    let l = c.loop-left in
-    let s = c.args in
-    sym (first_yes s.labels.now s.x l.y l.left (omega arith) (sym c.one_class.ensures ∙ c.if-one_class.true)) ∙ l.invariant.1
-
-pub loop-left-preserved : goal.loop-left-preserved
-loop-left-preserved c =
-    let l = c.loop-left in
-    let s = c.args in
-    (omega arith, sym (first_no s.labels.now s.x l.y l.left (omega arith) (sym c.one_class.ensures ∙ c.if-one_class.false)) ∙ l.invariant.1)
 
 pub returns : goal.returns
 returns c =
-    let l = c.loop-left in
     let s = c.args in
-    sym (first_done s.labels.now s.x l.y l.left (omega arith)) ∙ l.invariant.1
+    c.unwrap_or.ensures ∙ ap (λ o. unwrap_or o s.x)
+    (sym (option_map_id c.find.result) ∙ find_from_yields_List (λ y. same_class s.labels.now (var_node s.x) (var_node y)) _ _ c.find.result c.find.ensures.ran
+    (YieldsList-from_range 0 s.x s.x (search rules) (search rules)) (λ x b q k. search (rules, tests)))
+    ∙ first_found s.labels.now s.x 0 s.x

@@ -19,6 +19,6 @@ returns-then-old-new c =
     sym (relabel_same (get_or ls c.args.i 0) ls) ∙ ap (λ (old : ℕ). relabel old (get_or ls c.args.i 0) ls) (sym c.if-old-new.true)
     ∙ merged ls c.args.i c.args.j (search rules) c.requires.0 c.requires.1
 
-pub returns : goal.returns
-returns c =
+pub returns-else-old-new : goal.returns-else-old-new
+returns-else-old-new c =
     c.relabel.ensures ∙ merged c.args.labels c.args.i c.args.j (search rules) c.requires.0 c.requires.1

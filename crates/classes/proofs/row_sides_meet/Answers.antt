@@ -1,4 +1,5 @@
 use Prim.Native.Nat.{ℕ}
+use borrow.Author.Tests.{ne_eqb}
 use mathlib.Core.Path.{◌∙◌, ap₂, sym}
 use Rattle.calculus.specs.Chains.{var_node}
 use Rattle.calculus.specs.Classes.{same_class}
@@ -9,11 +10,11 @@ pub returns-then-tag_of-eq-TAG_NOT_SAME : goal.returns-then-tag_of-eq-TAG_NOT_SA
 returns-then-tag_of-eq-TAG_NOT_SAME c =
     let k = c.tag_of in
     c.one_class.ensures
-    ∙ ap₂ (λ (a b : ℕ). same_class c.args.labels.now (var_node a) (var_node b)) c.variable_at-a.ensures.value
-    c.variable_at-b.ensures.value
+    ∙ ap₂ (λ (a b : ℕ). same_class c.args.labels.now (var_node a) (var_node b)) c.variable_at.ensures.value
+    c.variable_at-then-tag_of-eq-TAG_NOT_SAME.ensures.value
     ∙ sym (row_sides c.args.row.now c.args.labels.now k.result k.ensures c.if-tag_of-eq-TAG_NOT_SAME.true)
 
-pub returns : goal.returns
-returns c =
+pub returns-else-tag_of-eq-TAG_NOT_SAME : goal.returns-else-tag_of-eq-TAG_NOT_SAME
+returns-else-tag_of-eq-TAG_NOT_SAME c =
     let k = c.tag_of in
-    sym (row_no_sides c.args.row.now c.args.labels.now k.result k.ensures c.if-tag_of-eq-TAG_NOT_SAME.false)
+    ne_eqb k.result 4 c.if-tag_of-eq-TAG_NOT_SAME.false ∙ sym (row_no_sides c.args.row.now c.args.labels.now k.result k.ensures c.if-tag_of-eq-TAG_NOT_SAME.false)

@@ -8,7 +8,7 @@ returns-then-known-mark c =
     let a = c.args in
     ap (λ t. cond t a.known a.first) (sym (le-leb a.known.upto a.mark c.if-known-mark.true))
 
-pub returns : goal.returns
-returns c =
+pub returns-else-known-mark : goal.returns-else-known-mark
+returns-else-known-mark c =
     let a = c.args in
     ap (λ t. cond t a.known a.first) (sym (lt-leb a.known.upto a.mark c.if-known-mark.false))

@@ -24,37 +24,37 @@ use Rattle.question.specs.Posed.{asked}
 use Rattle.rows.specs.Rows.{branch_of}
 use Rattle.rows.specs.Work.{single}
 use Rattle.conclusions.proofs.of_literal.Goals as goal
-use Rattle.conclusions.proofs.of_literal.Goals.{After-column_of-column, After-negative_of_text-constant, In-Literal, Start}
+use Rattle.conclusions.proofs.of_literal.Goals.{After-column_of-column, After-negative_of_text-constant, In-Some, Start}
 
 -- the labels, which are lent on
 abbrev labelsOf : Start → List ℕ
 labelsOf s = s.args.labels
 
 -- the literal that was found
-found-is : (c : In-Literal) →
+found-is : (c : In-Some) →
     let a = c.args in
-    lowest_literal (labelsOf (goal.at.In-Literal c).Start) a.x 0 (a.s.literals + 1) ≡ some c.in-Literal.l
+    lowest_literal (labelsOf (goal.at.In-Some c).Start) a.x 0 (a.s.literals + 1) ≡ some c.in-Some.l
 unfolding literal_of
-found-is c = sym c.class_literal-found.ensures ∙ ap literal_of c.in-Literal.is
+found-is c = sym c.class_literal-found.ensures ∙ ap literal_of c.in-Some.is
 
-few : (c : In-Literal) →
+few : (c : In-Some) →
     let a = c.args in
-    c.in-Literal.l ≤ a.s.literals
+    c.in-Some.l ≤ a.s.literals
 few c =
     let a = c.args in
-    omega (arith, literal_below (labelsOf (goal.at.In-Literal c).Start) a.x (a.s.literals + 1) c.in-Literal.l (found-is c))
+    omega (arith, literal_below (labelsOf (goal.at.In-Some c).Start) a.x (a.s.literals + 1) c.in-Some.l (found-is c))
 
 -- the constant
 constant_is : (c : After-negative_of_text-constant) →
     let a = c.args in
     c.negative_of_text-constant.result
-    ≡ neg_ℤ (value_of (function_of a.function) (literal (asked a.ticket.now a.s) c.in-Literal.l))
+    ≡ neg_ℤ (value_of (function_of a.function) (literal (asked a.ticket.now a.s) c.in-Some.l))
 unfolding asked
 constant_is c =
     let a = c.args in
     c.negative_of_text-constant.ensures
     ∙ ap (λ (t : List ℕ). neg_ℤ (value_of (function_of a.function) t))
-    (c.literal_text-text.ensures.1 a.s.literals (few (goal.at.After-negative_of_text-constant c).In-Literal))
+    (c.literal_text-text.ensures.1 a.s.literals (few (goal.at.After-negative_of_text-constant c).In-Some))
 
 -- the fact by its column and its constant
 adds : (c : After-column_of-column) →
@@ -64,21 +64,21 @@ adds : (c : After-column_of-column) →
 adds c =
     let a = c.args in
     literal_adds a.ticket.now a.s (branch_of a.work.now a.count) (labelsOf (goal.at.After-column_of-column c).Start) a.x c.requires.labels_value a.function
-    c.in-Literal.l
-    c.column_of-column.result c.negative_of_text-constant.result (found-is (goal.at.After-column_of-column c).In-Literal) c.column_of-column.ensures.0
+    c.in-Some.l
+    c.column_of-column.result c.negative_of_text-constant.result (found-is (goal.at.After-column_of-column c).In-Some) c.column_of-column.ensures.0
     c.column_of-column.ensures.1
     (constant_is (goal.at.After-column_of-column c).After-negative_of_text-constant)
 
 small : (c : After-column_of-column)
     → fact_within (arithmetic eq (single c.negative_of_text-constant.result c.column_of-column.result (pos 1))) ≡ true
 small c =
-    literal_within c.requires.posed.0 (function_of c.args.function) c.in-Literal.l c.column_of-column.result
-    c.negative_of_text-constant.result (few (goal.at.After-column_of-column c).In-Literal)
+    literal_within c.requires.posed.0 (function_of c.args.function) c.in-Some.l c.column_of-column.result
+    c.negative_of_text-constant.result (few (goal.at.After-column_of-column c).In-Some)
     (constant_is (goal.at.After-column_of-column c).After-negative_of_text-constant)
 
 pub literal_text-text-requires : goal.literal_text-text-requires
 literal_text-text-requires c =
-    literals_to c.requires.posed.0 c.in-Literal.l (few c)
+    literals_to c.requires.posed.0 c.in-Some.l (few c)
 
 pub returns-then-count-ge-FACT_LIMIT : goal.returns-then-count-ge-FACT_LIMIT
 returns-then-count-ge-FACT_LIMIT c =
@@ -86,14 +86,14 @@ returns-then-count-ge-FACT_LIMIT c =
     ten a.work.now _ a.count _ _ (adds (goal.at.returns-then-count-ge-FACT_LIMIT c).After-column_of-column)
     (small (goal.at.returns-then-count-ge-FACT_LIMIT c).After-column_of-column) c.if-count-ge-FACT_LIMIT.true
 
-pub returns-in-Nothing : goal.returns-in-Nothing
+pub returns-in-None : goal.returns-in-None
 unfolding literal_of
-returns-in-Nothing c =
+returns-in-None c =
     let a = c.args in
     eight a.work.now _ a.count _
-    (literal_none a.ticket.now a.s (branch_of a.work.now a.count) (labelsOf (goal.at.returns-in-Nothing c).Start) a.x c.requires.labels_value
+    (literal_none a.ticket.now a.s (branch_of a.work.now a.count) (labelsOf (goal.at.returns-in-None c).Start) a.x c.requires.labels_value
     (function_of a.function)
-    (sym c.class_literal-found.ensures ∙ ap literal_of c.in-Nothing.is))
+    (sym c.class_literal-found.ensures ∙ ap literal_of c.in-None.is))
 
 pub returns-else-count-ge-FACT_LIMIT : goal.returns-else-count-ge-FACT_LIMIT
 returns-else-count-ge-FACT_LIMIT c =

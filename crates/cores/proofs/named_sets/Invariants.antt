@@ -1,4 +1,3 @@
-use Prim.Native.Nat.{◌-◌, ◌≤◌}
 use Rattle.calculus.specs.Cores.{Rested, named_sets}
 use Rattle.cores.proofs.Resting.{Gathers, named_from}
 use Rattle.cores.specs.Sets.{Carries}
@@ -7,7 +6,4 @@ use Rattle.cores.proofs.named_sets.Given as goal
 
 abbrev pub invariant-loop-k : goal.invariant-loop-k
 invariant-loop-k l =
-    (l.k ≤ l.pairs) × ((r : Rested) → Carries l.sets l.count r → Gathers l.set (named_from r l.b l.at l.pairs l.k) (named_sets r (pairs_at l.b l.at l.pairs)))
-
-abbrev pub decreases-loop-k : goal.decreases-loop-k
-decreases-loop-k l = l.pairs - l.k
+    (r : Rested) → Carries l.sets l.count r → Gathers l.set (named_from r l.b l.at l.pairs l.k) (named_sets r (pairs_at l.b l.at l.pairs))

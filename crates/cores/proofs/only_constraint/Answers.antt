@@ -13,8 +13,8 @@ returns-then-k-lt64 c =
     let h : k < 64 = c.if-k-lt64.true in
     ap (λ (n : ℕ). two_words n 0) (one_shifted k h) ∙ sym (words_only_low k h)
 
-pub returns : goal.returns
-returns c =
+pub returns-else-k-lt64 : goal.returns-else-k-lt64
+returns-else-k-lt64 c =
     let k = c.args.k in
     let h : k - 64 < 64 = omega (arith, c.if-k-lt64.false, c.requires) in
     let e : k - 64 + 64 ≡ k = omega (arith, c.if-k-lt64.false) in

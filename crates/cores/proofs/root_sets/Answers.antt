@@ -1,7 +1,6 @@
 use Prim.Native.Nat.{◌*◌, ◌+◌, ◌<◌}
-use borrow.Author.Rules.{rules}
 use lib.ListN.{length}
-use mathlib.Core.Path.{◌∙◌, refl, sym, subst}
+use mathlib.Core.Path.{sym, subst}
 use native.Mathlib.Omega.{arith}
 use Rattle.calculus.specs.Cores.{only}
 use Rattle.cores.proofs.Filling.{stored_more}
@@ -10,24 +9,14 @@ use Rattle.cores.proofs.root_sets.Goals as goal
 use Rattle.cores.proofs.root_sets.Invariants.{RootedTo}
 
 pub loop-k-init : goal.loop-k-init
-loop-k-init c = (search rules, refl, λ j h. absurd (omega arith))
-
-pub put_set-requires : goal.put_set-requires
-put_set-requires c = let loop = c.loop-k in (omega arith, omega (arith, loop.invariant.1))
+loop-k-init c = λ j h. absurd (omega arith)
 
 pub loop-k-preserved : goal.loop-k-preserved
 loop-k-preserved c =
-    let loop = c.loop-k in
-    let inv = loop.invariant in
-    let k = loop.k in
-    let sets = loop.sets in
-    let set = c.only_constraint.result in
-    let room : 2 * k + 1 < length sets = omega (arith, inv.1) in (
-      omega arith,
-      c.put_set.auto.sets ∙ inv.1,
-      subst (RootedTo (k + 1)) (sym c.put_set.ensures)
-          (λ j h. stored_more (λ i. words_of (only i)) sets 0 k set room c.only_constraint.ensures (λ i l. inv.2 i) j (omega arith) h),
-    )
+    let l = c.loop-k in
+    let room : 2 * l.k + 1 < length l.sets = omega (arith, c.requires) in
+    subst (RootedTo (l.k + 1)) (sym c.put_set.ensures)
+    (λ j h. stored_more (λ i. words_of (only i)) l.sets 0 l.k c.only_constraint.result room c.only_constraint.ensures (λ i x. l.invariant i) j (omega arith) h)
 
 pub returns : goal.returns
-returns c = let inv = c.loop-k.invariant in λ k h. inv.2 k (omega arith)
+returns c = λ k h. c.loop-k.invariant k (omega arith)

@@ -1,5 +1,4 @@
-use Prim.Native.Nat.{◌-◌, ◌<◌, ◌≤◌, ℕ}
-use lib.ListN.{length}
+use Prim.Native.Nat.{◌<◌, ℕ}
 use mathlib.Core.List.{List}
 use mathlib.Core.Path.{◌≡◌}
 use Rattle.calculus.specs.Cores.{only}
@@ -12,7 +11,4 @@ abbrev pub RootedTo : ℕ → List ℕ → Type 0
 RootedTo k v = (j : ℕ) → j < k → words_at v j ≡ words_of (only j)
 
 abbrev pub invariant-loop-k : goal.invariant-loop-k
-invariant-loop-k l = (l.k ≤ l.constraints) × (length l.sets ≡ length l.initial.sets) × RootedTo l.k l.sets
-
-abbrev pub decreases-loop-k : goal.decreases-loop-k
-decreases-loop-k l = l.constraints - l.k
+invariant-loop-k l = RootedTo l.k l.sets

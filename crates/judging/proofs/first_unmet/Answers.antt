@@ -1,5 +1,4 @@
 use Prim.Native.Nat.{◌≤◌, suc, ℕ}
-use borrow.Author.Tests.{not-false, not-true}
 use lib.ListN.{length}
 use mathlib.Core.List.{List}
 use mathlib.Core.Path.{◌∙◌, ◌≡◌, ap, subst, sym}
@@ -31,7 +30,7 @@ pub loop-k-init : goal.loop-k-init
 unfolding skip
 loop-k-init c =
     let s = c.args in
-    (omega arith, c.behind_literals-at.ensures, met_none s.b.now s.v.now s.s (values_of s.b.now s.v.now s.s))
+    (c.behind_literals-at.ensures, met_none s.b.now s.v.now s.s (values_of s.b.now s.v.now s.s))
 
 -- the constraint in turn
 module _ (c : In-loop-k) where
@@ -47,13 +46,13 @@ module _ (c : In-loop-k) where
   -- it is one of the two sorts
   constraint_here : ConstraintAt b s.p s.q s.literals c.loop-k.at
   constraint_here =
-      subst (ConstraintAt b s.p s.q s.literals) (sym c.loop-k.invariant.1)
+      subst (ConstraintAt b s.p s.q s.literals) (sym c.loop-k.invariant.0)
       (judged_at b (numbers_of s) posed.to posed.stands c.loop-k.k (omega arith))
 
   -- and all there
   record_there : next b c.loop-k.at ≤ length b
   record_there =
-      subst (λ i. next b i ≤ length b) (sym c.loop-k.invariant.1)
+      subst (λ i. next b i ≤ length b) (sym c.loop-k.invariant.0)
       (constraint_whole b (numbers_of s) posed.to posed.stands posed.head c.loop-k.k (omega arith))
 
 pub constraint_met-requires : goal.constraint_met-requires
@@ -66,8 +65,8 @@ pub returns-then-not-constraint_met : goal.returns-then-not-constraint_met
 returns-then-not-constraint_met c =
     let l = c.loop-k in
     let s = c.args in
-    rw c.found.ensures (finds_unmet s.b.now s.v.now s.s (values_of s.b.now s.v.now s.s) (posed (goal.at.returns-then-not-constraint_met c).In-loop-k) l.k l.at l.invariant.2
-    l.invariant.1 (omega arith) (sym c.constraint_met.ensures ∙ not-true _ c.if-not-constraint_met.true-raw)
+    rw c.found.ensures (finds_unmet s.b.now s.v.now s.s (values_of s.b.now s.v.now s.s) (posed (goal.at.returns-then-not-constraint_met c).In-loop-k) l.k l.at l.invariant.1
+    l.invariant.0 (omega arith) (sym c.if-not-constraint_met.ensures)
     c.record_end.ensures)
 
 pub record_end-at-requires : goal.record_end-at-requires
@@ -79,16 +78,15 @@ loop-k-preserved c =
     let s = c.args in
     let b = s.b.now in
     let here : next b l.at ≡ skip b (suc l.k) (constraints_from b s.s.literals) =
-    ap (next b) l.invariant.1 ∙ sym (skip_snoc b l.k (constraints_from b s.s.literals)) in (
-      omega arith,
+    ap (next b) l.invariant.0 ∙ sym (skip_snoc b l.k (constraints_from b s.s.literals)) in (
       c.record_end-at.ensures ∙ rw (add-one l.k) here,
-      met_more b s.v.now s.s (values_of b s.v.now s.s) l.k l.at l.invariant.2 l.invariant.1
-          (sym c.constraint_met.ensures ∙ not-false _ c.if-not-constraint_met.false-raw),
+      met_more b s.v.now s.s (values_of b s.v.now s.s) l.k l.at l.invariant.1 l.invariant.0
+          (sym c.if-not-constraint_met.ensures),
     )
 
 pub returns : goal.returns
 returns c =
     let l = c.loop-k in
     let s = c.args in
-    rw c.found-2.ensures (finds_all_met s.b.now s.v.now s.s (values_of s.b.now s.v.now s.s) c.requires.texts.posed l.k l.invariant.2
+    rw c.found-2.ensures (finds_all_met s.b.now s.v.now s.s (values_of s.b.now s.v.now s.s) c.requires.texts.posed l.k l.invariant.1
     (omega arith))

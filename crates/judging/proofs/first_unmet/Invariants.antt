@@ -1,4 +1,3 @@
-use Prim.Native.Nat.{◌+◌, ◌-◌, ◌≤◌}
 use mathlib.Core.Path.{◌≡◌}
 use Rattle.format.specs.Places.{constraints_from, skip}
 use Rattle.judging.proofs.Unmet.{MetTo}
@@ -7,7 +6,4 @@ use Rattle.judging.proofs.first_unmet.Given as goal
 
 abbrev pub invariant-loop-k : goal.invariant-loop-k
 invariant-loop-k l =
-    (l.k ≤ l.s.constraints + l.s.extended) × (l.at ≡ skip l.b l.k (constraints_from l.b l.s.literals)) × MetTo l.b l.v l.s (values_of l.b l.v l.s) l.k
-
-abbrev pub decreases-loop-k : goal.decreases-loop-k
-decreases-loop-k l = l.s.constraints + l.s.extended - l.k
+    (l.at ≡ skip l.b l.k (constraints_from l.b l.s.literals)) × MetTo l.b l.v l.s (values_of l.b l.v l.s) l.k

@@ -21,17 +21,17 @@ returns-in-Stopped c =
     rw c.found.ensures (stopped s.question.now s.answer.now
     (sym c.in-Stopped.ensures))
 
-pub returns-then-last-lt-HEAD_RANK : goal.returns-then-last-lt-HEAD_RANK
+pub returns-then-s-lt-HEAD_RANK : goal.returns-then-s-lt-HEAD_RANK
 unfolding reading_of
-returns-then-last-lt-HEAD_RANK c =
+returns-then-s-lt-HEAD_RANK c =
     let s = c.args in
-    rw c.found-then-last-lt-HEAD_RANK.ensures (headless s.question.now s.answer.now
+    rw c.found-then-s-lt-HEAD_RANK.ensures (headless s.question.now s.answer.now
     (sym c.in-Ended.ensures)
     (omega arith))
 
-pub returns-else-last-lt-HEAD_RANK : goal.returns-else-last-lt-HEAD_RANK
+pub returns-else-s-lt-HEAD_RANK : goal.returns-else-s-lt-HEAD_RANK
 unfolding reading_of asked extended_asked
-returns-else-last-lt-HEAD_RANK c =
+returns-else-s-lt-HEAD_RANK c =
     let s = c.args in
     headed s.question.now s.answer.now
     (sym c.in-Ended.ensures) (omega arith) c.judge_behind.ensures

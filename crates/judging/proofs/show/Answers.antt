@@ -1,7 +1,6 @@
-use borrow.Author.Tests.{not-false, not-true}
 use lib.ListN.{length}
 use mathlib.Core.Bool.{true}
-use mathlib.Core.Path.{◌≡◌, ◌∙◌, sym}
+use mathlib.Core.Path.{◌≡◌, sym}
 use Rattle.format.specs.Judging.{part_within}
 use Rattle.judging.proofs.Parts.{ends_within, nothing_shown_law, part_shown}
 use Rattle.judging.specs.Judgements.{shown_of}
@@ -11,14 +10,14 @@ use Rattle.judging.proofs.show.Goals.{Else-not-part_within}
 pub returns-then-not-part_within : goal.returns-then-not-part_within
 returns-then-not-part_within c =
     let s = c.args in
-    nothing_shown_law s.question s.answer (shown_of s.s) _ (sym c.part_within.ensures ∙ not-true _ c.if-not-part_within.true-raw)
+    nothing_shown_law s.question s.answer (shown_of s.s) _ (sym c.if-not-part_within.ensures)
     c.between.ensures
 
 -- the part lies within
 inside : (c : Else-not-part_within) →
     let args = c.args in
     part_within (length args.question.now) (length args.answer.now) (shown_of args.s) ≡ true
-inside c = sym c.part_within.ensures ∙ not-false _ c.if-not-part_within.false-raw
+inside c = sym c.if-not-part_within.ensures
 
 pub between-requires-in-Question : goal.between-requires-in-Question
 between-requires-in-Question c =

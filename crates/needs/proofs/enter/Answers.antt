@@ -10,16 +10,16 @@ use Rattle.format.specs.StepForms.{step_of}
 use Rattle.steps.specs.declared.Rule.{Rule}
 use Rattle.steps.specs.Rules.{rule_named, shape_of}
 use Rattle.steps.proofs.Children.{few_by}
-use Rattle.needs.specs.Pending.{waiting, pending_of}
+use Rattle.needs.specs.Pending.{waiting}
 use Rattle.needs.proofs.Stacks.{enter_none, enter_one, enter_more}
 use Rattle.needs.proofs.enter.Goals as goal
-use Rattle.needs.proofs.enter.Goals.{After-child_facts, After-child_facts-further}
+use Rattle.needs.proofs.enter.Goals.{After-child_facts, After-child_facts-2}
 
 pub returns-then-children-eq0 : goal.returns-then-children-eq0
 returns-then-children-eq0 c =
-    let cut = c.cut_back in
+    let cut = c.take_next in
     let a = c.args in
-    let ss = pending_of a.marks.now a.each.now a.left.now a.depth in
+    let ss = a.pending.now in
     λ b body. cut.ensures ∙ enter_none a.facts ss (shape_of a.rule a.n b body a.size) (sym (c.child_count-children.ensures b body) ∙ c.if-children-eq0.true)
 
 -- no child adds more than three facts
@@ -46,41 +46,42 @@ overflow_add-first c =
 pub returns-then-children-eq1 : goal.returns-then-children-eq1
 returns-then-children-eq1 c =
     let a = c.args in
-    let ss = pending_of a.marks.now a.each.now a.left.now a.depth in
+    let ss = a.pending.now in
     λ b body.
     let cs = shape_of a.rule a.n b body a.size in
     ap (λ k. working (a.facts + k) ss) (first-for (goal.at.returns-then-children-eq1 c).After-child_facts b body)
     ∙ enter_one a.facts ss cs (sym (c.child_count-children.ensures b body) ∙ c.if-children-eq1.true)
 
 -- there are two children at least, and the second adds as many
-several : (c : After-child_facts-further) (b : List ℕ) (body : ℕ) →
+several : (c : After-child_facts-2) (b : List ℕ) (body : ℕ) →
     let a = c.args in
     2 ≤ length (shape_of a.rule a.n b body a.size)
 several c b body = omega (arith, c.child_count-children.ensures b body, c.if-children-eq0.false, c.if-children-eq1.false)
 
-second-for : (c : After-child_facts-further) (b : List ℕ) (body : ℕ) →
+second-for : (c : After-child_facts-2) (b : List ℕ) (body : ℕ) →
     let a = c.args in
-    c.child_facts-further.result ≡ get_or (shape_of a.rule a.n b body a.size) 1 0
+    c.child_facts-2.result ≡ get_or (shape_of a.rule a.n b body a.size) 1 0
 second-for c b body =
     let a = c.args in
-    c.child_facts-further.ensures b a.n body a.size (omega arith) (omega (arith, several c b body))
+    c.child_facts-2.ensures b a.n body a.size (omega arith) (omega (arith, several c b body))
 
-pub pend-requires : goal.pend-requires
-pend-requires c =
-    let a = c.args in (
-      c.requires.2,
-      c.requires.1,
-      omega (arith, small_by a.rule a.n a.size 1, second-for (goal.at.pend-requires c).After-child_facts-further [] 0),
-      omega (arith, few_by [] a.n 0 a.size (rule_named a.rule) c.requires.0, c.child_count-children.ensures [] 0),
-    )
+pub overflow_cast-child_facts : goal.overflow_cast-child_facts
+overflow_cast-child_facts c =
+    let a = c.args in
+    omega (arith, small_by a.rule a.n a.size 1, second-for (goal.at.overflow_cast-child_facts c).After-child_facts-2 [] 0)
+
+pub overflow_cast-children : goal.overflow_cast-children
+overflow_cast-children c =
+    let a = c.args in
+    omega (arith, few_by [] a.n 0 a.size (rule_named a.rule) c.requires.0, c.child_count-children.ensures [] 0)
 
 pub returns : goal.returns
 returns c =
     let a = c.args in
-    let ss = pending_of a.marks.now a.each.now a.left.now a.depth in
+    let ss = a.pending.now in
     λ b body.
     let cs = shape_of a.rule a.n b body a.size in
-    ap (working (a.facts + c.child_facts.result)) c.pend.ensures
+    ap (working (a.facts + c.child_facts.result)) c.push.ensures
     ∙ ap₂ (λ k w. working (a.facts + k) (w ∷ ss)) (first-for (goal.at.returns c).After-child_facts b body)
-    (ap₂ (waiting a.facts) (second-for (goal.at.returns c).After-child_facts-further b body) (ap (λ k. k - 2) (c.child_count-children.ensures b body)))
-    ∙ enter_more a.facts ss cs (shape_alike a.n (step_of b (rule_named a.rule) body a.size)) (several (goal.at.returns c).After-child_facts-further b body)
+    (ap₂ (λ f m. waiting (record { mark = a.facts; facts = f; more = m })) (second-for (goal.at.returns c).After-child_facts-2 b body) (ap (λ k. k - 2) (c.child_count-children.ensures b body)))
+    ∙ enter_more a.facts ss cs (shape_alike a.n (step_of b (rule_named a.rule) body a.size)) (several (goal.at.returns c).After-child_facts-2 b body)

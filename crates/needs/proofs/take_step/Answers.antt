@@ -8,7 +8,6 @@ use Rattle.format.specs.StepForms.{rule_of, form_for, rule, is_child}
 use Rattle.format.proofs.Decoded.{at_least}
 use Rattle.steps.specs.Rules.{rule_named, shape_of}
 use Rattle.steps.proofs.Table.{least_four, fits_by}
-use Rattle.needs.specs.Pending.{pending_of}
 use Rattle.needs.proofs.Taking.{enters_tree, its_child, child_small, enters_path}
 use Rattle.needs.proofs.take_step.Goals as goal
 use Rattle.needs.proofs.take_step.Goals.{After-rule_of-rule, After-taken_facts, Start}
@@ -65,10 +64,10 @@ returns-in-NoSolution c =
     let a = c.args in
     let b = a.ticket.now in
     enters_tree a.claim b a.s a.at a.size c.rule_of-rule.result c.requires.0 (its-rule (goal.at.returns-in-NoSolution c).After-rule_of-rule) a.facts
-    (pending_of a.marks.now a.each.now a.left.now a.depth) _ _ _ _ c.in-NoSolution.is (c.enter.ensures b (a.at + 6))
+    a.pending.now _ _ c.in-NoSolution.is (c.enter.ensures b (a.at + 6))
 
 pub returns-in-Strings : goal.returns-in-Strings
 returns-in-Strings c =
     let a = c.args in
     enters_path a.claim a.ticket.now a.s a.at a.size c.rule_of-rule.result c.requires.0 (its-rule (goal.at.returns-in-Strings c).After-rule_of-rule) a.facts c.u16_at-k.result _
-    (pending_of a.marks.now a.each.now a.left.now a.depth) _ _ _ c.in-Strings.is c.u16_at-k.ensures.0 (adds c)
+    a.pending.now c.in-Strings.is c.u16_at-k.ensures.0 (adds c)

@@ -6,7 +6,7 @@ use Rattle.needs.proofs.walk.Given as goal
 
 abbrev pub invariant-loop-kind : goal.invariant-loop-kind
 invariant-loop-kind l =
-    Going l.ticket l.s l.claim (need_started l.claim l.ticket l.s l.r l.at) l.initial.marks l.initial.each l.initial.left l.marks l.each l.left l.report l.facts l.depth l.i l.k × (l.at ≤ l.i)
+    Going l.ticket l.s l.claim (need_started l.claim l.ticket l.s l.r l.at) l.pending l.report l.facts l.i l.k × (l.at ≤ l.i)
 
 abbrev pub decreases-loop-kind : goal.decreases-loop-kind
 decreases-loop-kind l = length l.ticket - l.i

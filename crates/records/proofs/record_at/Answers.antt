@@ -1,4 +1,3 @@
-use borrow.Author.Rules.{rules}
 use Prim.Native.Nat.{◌+◌, ◌<◌, ◌≤◌}
 use native.Mathlib.Omega.{arith}
 use borrow.Author.Tests.{le-leb, lt-leb}
@@ -6,18 +5,15 @@ use lib.ListN.{length}
 use Rattle.format.specs.Fields.{u32}
 use Rattle.records.specs.Found.{found_at}
 use Rattle.records.proofs.record_at.Goals as goal
+use Rattle.records.proofs.record_at.Goals.{then-b-lt-RECORD_HEAD-via-then-b-lt-RECORD_HEAD, then-b-lt-RECORD_HEAD-via-else-b-lt-RECORD_HEAD+then-b-at}
 
 pub returns-then-b-lt-RECORD_HEAD : goal.returns-then-b-lt-RECORD_HEAD
 unfolding found_at
 returns-then-b-lt-RECORD_HEAD c =
-    let h : length c.args.b.now < c.args.at + 6 = omega arith in
-    simp (lt-leb _ _ h)
-
-pub returns-then-b-at : goal.returns-then-b-at
-unfolding found_at
-returns-then-b-at c =
-    let h : length c.args.b.now < c.args.at + 6 = omega arith in
-    simp (lt-leb _ _ h)
+    let short : length c.args.b.now < c.args.at + 6 =
+    elim c.then-b-lt-RECORD_HEAD.branch
+    [ then-b-lt-RECORD_HEAD-via-then-b-lt-RECORD_HEAD w ↦ omega arith | then-b-lt-RECORD_HEAD-via-else-b-lt-RECORD_HEAD+then-b-at w ↦ omega arith ] in
+    simp (lt-leb _ _ short)
 
 pub returns-then-b-at-2 : goal.returns-then-b-at-2
 unfolding found_at

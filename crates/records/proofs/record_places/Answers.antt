@@ -1,11 +1,9 @@
-use Prim.Native.Nat.{◌-◌, ◌<◌, ◌≤◌, suc, ℕ}
-use borrow.Author.Rules.{rules}
-use lib.ListN.{get_or, length, length-set}
+use Prim.Native.Nat.{suc, ℕ}
+use lib.ListN.{length-set}
 use mathlib.Core.Path.{◌∙◌, ◌≡◌, ap, refl, sym}
 use native.Mathlib.Numerals.{add-one}
 use native.Mathlib.Omega.{arith}
 use Rattle.records.proofs.Placing.{placed_more}
-use Rattle.calculus.proofs.Shapes.{count}
 use Rattle.format.proofs.Places.{skip_room, skip_snoc}
 use Rattle.format.specs.Places.{skip}
 use Rattle.format.specs.Records.{next}
@@ -46,7 +44,7 @@ loop-x-preserved c =
     let here : next s.b.now l.at ≡ skip s.b.now (suc l.x) s.from =
     ap (next s.b.now) l.invariant.1 ∙ sym (skip_snoc s.b.now l.x s.from) in (
       omega arith,
-      rw (c.u32_at.ensures.0, add-one l.x) here,
+      rw (c.u32_at.ensures.0, add-one l.x) (omega (arith, here)),
       simp length-set l.invariant.2,
       λ k h. placed_more l.places l.at (λ (j : ℕ). skip s.b.now j s.from) l.x l.invariant.2 (omega arith) l.invariant.1 l.invariant.3 k
           (omega arith),
@@ -57,4 +55,4 @@ returns c =
     let l = c.loop-x in
     let s = c.args in
     let e : l.x ≡ s.count = omega arith in
-    λ k h. placed_more l.places l.at (λ (j : ℕ). skip s.b.now j s.from) l.x l.invariant.2 (omega arith) l.invariant.1 l.invariant.3 k (omega arith)
+    λ k h. placed_more l.places l.at (λ (j : ℕ). skip s.b.now j s.from) s.count l.invariant.2 (omega arith) (l.invariant.1 ∙ ap (λ j. skip s.b.now j s.from) e) (λ j g. l.invariant.3 j (omega arith)) k (omega arith)

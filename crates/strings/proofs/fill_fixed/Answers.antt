@@ -20,36 +20,36 @@ use Rattle.question.proofs.Posed.{literal_in_law, literal_short}
 use Rattle.question.specs.Posed.{asked, numbered}
 use Rattle.strings.proofs.Table.{fixed_literal, fixed_other, sized_some}
 use Rattle.strings.proofs.fill_fixed.Goals as goal
-use Rattle.strings.proofs.fill_fixed.Goals.{After-placed_text-literal, In-Literal}
+use Rattle.strings.proofs.fill_fixed.Goals.{After-placed_text-literal, In-Some}
 
 -- the literal that was found
-found-is : (c : In-Literal) →
+found-is : (c : In-Some) →
     let args = c.args in
-    literal_in (asked args.ticket.now args.s) args.labels.now args.x ≡ some c.in-Literal.l
+    literal_in (asked args.ticket.now args.s) args.labels.now args.x ≡ some c.in-Some.l
 unfolding literal_of
 found-is c =
     let s = c.args in
     literal_in_law s.ticket.now s.s s.labels.now s.x
     ∙ sym c.class_literal-found.ensures
-    ∙ ap literal_of c.in-Literal.is
+    ∙ ap literal_of c.in-Some.is
 
 -- it is one of the question's
-within : (c : In-Literal) →
+within : (c : In-Some) →
     let args = c.args in
-    c.in-Literal.l ≤ args.s.literals
+    c.in-Some.l ≤ args.s.literals
 within c =
     let s = c.args in
-    literal_known s.ticket.now s.s s.labels.now s.x c.in-Literal.l (found-is c)
+    literal_known s.ticket.now s.s s.labels.now s.x c.in-Some.l (found-is c)
 
 -- its text was found
 text_is : (c : After-placed_text-literal) →
     let args = c.args in
     u32s args.ticket.now c.placed_text-literal.result.at c.placed_text-literal.result.count
-    ≡ literal (asked args.ticket.now args.s) c.in-Literal.l
+    ≡ literal (asked args.ticket.now args.s) c.in-Some.l
 unfolding asked
 text_is c =
     let args = c.args in
-    c.placed_text-literal.ensures.1 args.s.literals (within (goal.at.After-placed_text-literal c).In-Literal)
+    c.placed_text-literal.ensures.1 args.s.literals (within (goal.at.After-placed_text-literal c).In-Some)
 
 -- and has at most 64 characters
 short : (c : After-placed_text-literal) → c.placed_text-literal.result.count ≤ 64
@@ -58,7 +58,7 @@ short c =
     let r = c.placed_text-literal.result in
     omega (
       arith,
-      literal_short c.requires.leaf_ready.0.posed c.in-Literal.l (within (goal.at.After-placed_text-literal c).In-Literal),
+      literal_short c.requires.leaf_ready.0.posed c.in-Some.l (within (goal.at.After-placed_text-literal c).In-Some),
       ap length (text_is c),
       length_u32s b r.at r.count,
     )
@@ -66,7 +66,7 @@ short c =
 pub placed_text-literal-requires : goal.placed_text-literal-requires
 placed_text-literal-requires c =
     let ready = c.requires.leaf_ready.0 in
-    let p = literal_placed c.args.ticket.now c.args.s c.args.labels.now c.args.x c.in-Literal.l (found-is c) ready.posed
+    let p = literal_placed c.args.ticket.now c.args.s c.args.labels.now c.args.x c.in-Some.l (found-is c) ready.posed
     ready.literals in
     record { literals_from_in_bounds = p.0; placed = p.1 }
 
@@ -83,23 +83,23 @@ fill_character-requires c =
     to_z-of_z {w = w64} (record { sfits = c.value_of-code.type_inv }) ∙ c.value_of-code.ensures in
     (omega (arith, ap nat_abs e, c.requires.within (column_of (numbered c.args.s) code c.args.x)), c.requires.leaf_ready.3)
 
-pub returns-in-Literal : goal.returns-in-Literal
-returns-in-Literal c =
+pub returns-in-Some : goal.returns-in-Some
+returns-in-Some c =
     let s = c.args in
-    let l = c.in-Literal.l in
-    sized_some c.placed_text-literal.result.count _ (short (goal.at.returns-in-Literal c).After-placed_text-literal)
-    ∙ ap some (c.fill_text.ensures ∙ text_is (goal.at.returns-in-Literal c).After-placed_text-literal)
-    ∙ sym (fixed_literal (asked s.ticket.now s.s) s.labels.now s.model.now s.x l (found-is (goal.at.returns-in-Literal c).In-Literal))
+    let l = c.in-Some.l in
+    sized_some c.placed_text-literal.result.count _ (short (goal.at.returns-in-Some c).After-placed_text-literal)
+    ∙ ap some (c.fill_text.ensures ∙ text_is (goal.at.returns-in-Some c).After-placed_text-literal)
+    ∙ sym (fixed_literal (asked s.ticket.now s.s) s.labels.now s.model.now s.x l (found-is (goal.at.returns-in-Some c).In-Some))
 
-pub returns-in-Nothing : goal.returns-in-Nothing
+pub returns-in-None : goal.returns-in-None
 unfolding asked literal_of
-returns-in-Nothing c =
+returns-in-None c =
     let valueOf = c.value_of-len in
     let class-literal = c.class_literal-found in
     let s = c.args in
     let b = s.ticket.now in
     let e : literal_in (asked b s.s) s.labels.now s.x ≡ none =
-    literal_in_law b s.s s.labels.now s.x ∙ sym class-literal.ensures ∙ ap literal_of c.in-Nothing.is in
+    literal_in_law b s.s s.labels.now s.x ∙ sym class-literal.ensures ∙ ap literal_of c.in-None.is in
     c.fill_character.ensures
     ∙ ap₂ (λ (z w : ℤ). one_char (eqℤ z (pos 1)) w) (to_z-of_z {w = w64} (record { sfits = valueOf.type_inv }) ∙ valueOf.ensures)
     (to_z-of_z {w = w64} (record { sfits = c.value_of-code.type_inv }) ∙ c.value_of-code.ensures)

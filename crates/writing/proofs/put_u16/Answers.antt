@@ -1,15 +1,11 @@
-use Prim.Native.Nat.{◌+◌, suc}
-use lib.ListN.{length-set}
-use mathlib.Core.Path.{◌≡◌}
-use native.Mathlib.Omega.{arith}
+use lib.ListN.{take}
+use mathlib.Core.Path.{◌∙◌, ap, sym}
 use Rattle.format.specs.Fields.{bytes_of}
+use Rattle.format.proofs.Encoded.{length_bytes}
+use Rattle.writing.proofs.Stores.{copied, lowest_two}
 use Rattle.writing.proofs.put_u16.Goals as goal
 
-pub bounds-buffer-at-2 : goal.bounds-buffer-at-2
-bounds-buffer-at-2 c = simp length-set (omega arith)
-
 pub returns : goal.returns
-unfolding bytes_of
 returns c =
-    let e1 : c.args.at + 1 ≡ suc c.args.at = omega arith in
-    rw e1
+    copied c.args.buffer.now c.args.at 2 (bytes_of 2 c.args.v) _ (c.copy_from_slice.ensures.after ∙ ap (take 2) c.to_le_bytes.ensures ∙ lowest_two c.args.v)
+    (sym (length_bytes 2 c.args.v)) c.requires

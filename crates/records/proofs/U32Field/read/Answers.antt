@@ -1,6 +1,6 @@
-use borrow.Author.Rules.{rules}
+use Rattle.std.proofs.Common.{rules}
 use Rattle.format.specs.Fields.{u32}
-use Rattle.records.proofs.u32_at.Goals as goal
+use Rattle.records.proofs.U32Field.read.Goals as goal
 
 pub returns : goal.returns
 unfolding u32
