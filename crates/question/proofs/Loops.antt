@@ -4,8 +4,9 @@ use mathlib.Core.Bool.{Bool, true, false, ◌&&◌, and-false}
 use mathlib.Core.List.{List, [], ◌∷◌}
 use Prim.Native.Nat.{ℕ, zero, suc, ◌+◌, ◌*◌, ◌-◌, ◌≤◌, ◌<◌}
 use native.Mathlib.Omega.{arith}
+use native.Mathlib.Numerals.{add-one}
 use lib.Dec.{eqb}
-use lib.ListN.{get_or}
+use lib.ListN.{length, get_or}
 use borrow.Author.Tests.{lt-ltb, le-ltb, eq-eqb, ne_eqb, le-leb, lt-leb}
 use Rattle.lists.proofs.Every.{along_done, along_fails, along_on}
 use Rattle.lists.proofs.Lists.{down, eq_list_lengths}
@@ -15,7 +16,8 @@ use Rattle.calculus.specs.Strings.{eq_string, given}
 use Rattle.format.specs.Fields.{u16, u32, i32, u32s, pairs_at}
 use Rattle.format.specs.Records.{size, next}
 use Rattle.format.specs.Question.{text_of, pair_in_range, rising}
-use Rattle.format.specs.Places.{texts}
+use Rattle.format.specs.Places.{skip, texts}
+use Rattle.format.proofs.Places.{skip_room, skip_snoc}
 use Rattle.format.proofs.Fields.{field_at, length_u32s}
 
 -- the tests of a definition, each from a fact in scope
@@ -67,6 +69,17 @@ text_char b at k i h = field_at 4 (u32 b) at k i 0 h
 -- texts of different lengths differ
 pub same_lengths : (a b : List ℕ) (m k x y : ℕ) → (m ≡ k → ⊥) → eq_string (u32s a x m) (u32s b y k) ≡ false
 same_lengths a b m k x y h = eq_list_lengths eqb (u32s a x m) (u32s b y k) (λ e. h (sym (length_u32s a x m) ∙ e ∙ length_u32s b y k))
+
+-- ---- records one after another
+
+module _ (b : List ℕ) (from k j : ℕ) (e : j ≡ skip b k from) where
+  -- one more was passed
+  pub record_passed : (m : ℕ) → m ≡ size b j → j + (6 + m) ≡ skip b (k + 1) from
+  record_passed m f = rw (add-one k) (omega (arith, skip_snoc b k from, ap (next b) e))
+
+  -- one of the first n is within the bytes
+  pub record_within : (n : ℕ) → k < n → skip b n from ≤ length b → next b j ≤ length b
+  record_within n h g = rw e (omega (arith, skip_room b k n from h))
 
 -- ---- literals one after another
 

@@ -70,36 +70,12 @@ pub fn all_characters(b: &[u8], n: usize, at: usize, count: usize) -> bool
     true
 }
 
-// Whether the m characters at one position and the k at another are the same. The last ones are compared first, since texts that share their front are common;
-// the loop has no exit, so that it is compiled to compare several characters at once.
+// Whether the m characters at one position and the k at another are the same: their bytes are.
 pub fn same_text(a: &[u8], x: usize, m: usize, b: &[u8], y: usize, k: usize) -> bool
     requires { (x + 4 * m ≤ length a.now) × (y + 4 * k ≤ length b.now) }
     ensures { result ≡ eq_string (u32s a.now x m) (u32s b.now y k) }
 {
-    if m != k {
-        return false;
-    }
-    if m == 0 {
-        return true;
-    }
-    let last = 4 * (m - 1);
-    if u32_at(a, x + last) != u32_at(b, y + last) {
-        return false;
-    }
-    let mut same = true;
-    let mut i = x;
-    let mut j = y;
-    let mut left = m;
-    while 0 < left {
-        let c = u32_at(a, i);
-        let d = u32_at(b, j);
-        let one = c == d;
-        same = same & one;
-        i += 4;
-        j += 4;
-        left -= 1;
-    }
-    same
+    a[x..x + 4 * m] == b[y..y + 4 * k]
 }
 
 // Whether the text of a body is one of those of the first k literals.
@@ -108,14 +84,12 @@ fn repeats(b: &[u8], k: usize, at: usize, size: usize) -> bool
     ensures { result ≡ given (text_of b.now at size) (texts b.now k literals_from) }
 {
     let mut j = LITERALS_FROM;
-    let mut left = k;
-    while 0 < left {
+    for _ in 0..k {
         let other = u32_at(b, j);
         if same_text(b, at, size / 4, b, j + RECORD_HEAD, other / 4) {
             return true;
         }
-        j = j + RECORD_HEAD + other;
-        left -= 1;
+        j += RECORD_HEAD + other;
     }
     false
 }
@@ -527,10 +501,8 @@ pub fn behind_records(b: &[u8], k: usize, from: usize) -> usize
     ensures { result ≡ skip b.now k from }
 {
     let mut j = from;
-    let mut left = k;
-    while 0 < left {
-        j = j + RECORD_HEAD + u32_at(b, j);
-        left -= 1;
+    for _ in 0..k {
+        j += RECORD_HEAD + u32_at(b, j);
     }
     j
 }

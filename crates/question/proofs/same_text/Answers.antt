@@ -1,97 +1,59 @@
-use mathlib.Core.Path.{◌≡◌, ◌∙◌, sym, ap, ap₂}
-use mathlib.Core.Bool.{Bool, ◌&&◌, and_assoc, and-true}
-use Prim.Native.Nat.{ℕ, ◌+◌, ◌-◌}
+use mathlib.Core.Path.{◌≡◌, sym, ◌∙◌, ap, ap₂}
+use mathlib.Core.Bool.{Bool}
+use mathlib.Core.List.{List, ◌++◌}
+use Prim.Native.Nat.{ℕ, ◌+◌, ◌*◌, ◌-◌, ◌≤◌, ◌<◌}
 use native.Mathlib.Omega.{arith}
 use lib.Dec.{eqb}
+use lib.ListN.{length, get_or, take, drop}
+use lib.Pointwise.{pointwise}
+use Rattle.std.proofs.Math.Seq.{take-append_seam}
+use Rattle.std.proofs.lemmas.Slice.Eq.{bytes_eq-Decides}
+use Rattle.lists.proofs.Lists.{get_d_all}
+use Rattle.lists.proofs.Tests.{equal_tests, →true, true→}
 use Rattle.calculus.specs.Strings.{eq_string}
+use Rattle.calculus.proofs.Words.{eq_string→, →eq_string}
 use Rattle.format.specs.Fields.{u32s}
-use Rattle.question.proofs.Loops.{same_differs, same_done, same_more, same_lengths, text_char}
+use Rattle.format.specs.Answer.{character_bytes}
+use Rattle.format.specs.Demands.{Bytes}
+use Rattle.format.proofs.Fields.{length_u32s}
+use Rattle.format.proofs.Encoded.{length_characters}
+use Rattle.format.proofs.BytesRead.{u32s_back}
+use Rattle.format.proofs.BytesWritten.{u32s_written, u32s_held}
 use Rattle.question.proofs.same_text.Goals as goal
-use Rattle.question.proofs.same_text.Goals.{Else-m-k}
 
-pub returns-then-m-k : goal.returns-then-m-k
-returns-then-m-k c = sym (same_lengths _ _ _ _ _ _ c.if-m-k.true)
+-- the bytes of the k characters at a position
+abbrev part : List ℕ → ℕ → ℕ → List ℕ
+part b at k = take (at + 4 * k - at) (drop at b)
 
--- texts of m characters each
-same_count : (c : Else-m-k)
-    → eq_string (u32s c.args.a.now c.args.x c.args.m)
-    (u32s c.args.b.now c.args.y c.args.m)
-    ≡ eq_string (u32s c.args.a.now c.args.x c.args.m)
-    (u32s c.args.b.now c.args.y c.args.k)
-same_count c =
-    let s = c.args in
-    ap (λ (n : ℕ). eq_string (u32s s.a.now s.x s.m) (u32s s.b.now s.y n)) c.if-m-k.false
+module _ (b : List ℕ) (bytes : Bytes b) (at k : ℕ) (there : at + 4 * k ≤ length b) where
+  count : length (character_bytes (u32s b at k)) ≡ 4 * k
+  count = length_characters (u32s b at k) ∙ ap (λ n. 4 * n) (length_u32s b at k)
 
-pub returns-then-m-eq0 : goal.returns-then-m-eq0
-returns-then-m-eq0 c =
-    let s = c.args in
-    sym (same_done s.a.now s.b.now s.x s.y s.m (omega arith)) ∙ same_count (goal.at.returns-then-m-eq0 c).Else-m-k
+  -- they are those that the characters are written by
+  written : part b at k ≡ character_bytes (u32s b at k)
+  written =
+      ap₂ take (let z : at + 4 * k - at ≡ 4 * k = omega arith in z ∙ sym count) (u32s_written b bytes at k there)
+      ∙ take-append_seam (character_bytes (u32s b at k)) (drop (at + 4 * k) b)
 
-pub overflow_sub-last : goal.overflow_sub-last
-overflow_sub-last c = omega arith
+-- equal texts have equal bytes, and the other way
+module _ (a b : List ℕ) (below : Bytes a) (within : Bytes b) (x m y k : ℕ) (h : x + 4 * m ≤ length a) (g : y + 4 * k ≤ length b) where
+  alike : part a x m ≡ part b y k → u32s a x m ≡ u32s b y k
+  alike e =
+      let s : List ℕ = u32s a x m in
+      let same : character_bytes s ≡ character_bytes (u32s b y k) = sym (written a below x m h) ∙ e ∙ written b within y k g in
+      let many : length s ≡ k = omega (arith, length_u32s a x m, ap length same, count a below x m h, count b within y k g) in
+      sym (u32s_back b y s (drop (y + 4 * k) b) (u32s_held a below x m) (u32s_written b within y k g ∙ ap (λ t. t ++ drop (y + 4 * k) b) (sym same)))
+      ∙ ap (u32s b y) many
 
-pub overflow_mul-last : goal.overflow_mul-last
-overflow_mul-last c = omega arith
-
-pub overflow_add-x : goal.overflow_add-x
-overflow_add-x c = omega arith
-
-pub u32_at-requires : goal.u32_at-requires
-u32_at-requires c = omega arith
-
-pub overflow_add-y : goal.overflow_add-y
-overflow_add-y c = omega arith
-
-pub u32_at-requires-2 : goal.u32_at-requires-2
-u32_at-requires-2 c = omega arith
-
-pub returns-then-u32_at : goal.returns-then-u32_at
-returns-then-u32_at c =
-    let s = c.args in
-    let p = text_char s.a.now s.x s.m (s.m - 1) (omega arith) in
-    let q = text_char s.b.now s.y s.m (s.m - 1) (omega arith) in
-    sym (same_differs (u32s s.a.now s.x s.m) (u32s s.b.now s.y s.m) (s.m - 1)
-    (λ e. c.if-u32_at.true (c.u32_at.ensures.0 ∙ sym p ∙ e ∙ q ∙ sym c.u32_at-2.ensures.0)))
-    ∙ same_count (goal.at.returns-then-u32_at c).Else-m-k
-
-pub loop-left-init : goal.loop-left-init
-loop-left-init c = (omega arith, omega arith, same_count (goal.at.loop-left-init c).Else-m-k)
-
-pub u32_at-c-requires : goal.u32_at-c-requires
-u32_at-c-requires c = omega arith
-
-pub u32_at-d-requires : goal.u32_at-d-requires
-u32_at-d-requires c = omega arith
-
-pub overflow_add-i : goal.overflow_add-i
-overflow_add-i c = omega arith
-
-pub overflow_add-j : goal.overflow_add-j
-overflow_add-j c = omega arith
-
-pub overflow_sub-left : goal.overflow_sub-left
-overflow_sub-left c = omega arith
-
-pub loop-left-smaller : goal.loop-left-smaller
-loop-left-smaller c = omega arith
-
-pub loop-left-preserved : goal.loop-left-preserved
-loop-left-preserved c =
-    let l = c.loop-left in
-    let s = c.args in
-    let a = s.a.now in
-    let b = s.b.now in
-    let rest = eq_string (u32s a (l.i + 4) (l.left - 1)) (u32s b (l.j + 4) (l.left - 1)) in (
-      omega arith,
-      omega arith,
-      and_assoc l.same (eqb c.u32_at-c.result c.u32_at-d.result) rest
-          ∙ ap (λ (t : Bool). l.same && t) (ap₂ (λ (v w : ℕ). eqb v w && rest) c.u32_at-c.ensures.0 c.u32_at-d.ensures.0
-          ∙ sym (same_more a b l.i l.j l.left (omega arith)))
-          ∙ l.invariant.2,
-    )
+  texts_compared : (r : Bool) → r ≡ pointwise eqb (part a x m) (part b y k) → r ≡ eq_string (u32s a x m) (u32s b y k)
+  texts_compared r e =
+      let (to, from) = bytes_eq-Decides (part a x m) (part b y k) in
+      equal_tests r (eq_string (u32s a x m) (u32s b y k))
+      (λ z. →eq_string (alike (to (sym e ∙ →true r z))))
+      (λ z. true→ (e ∙ from (written a below x m h ∙ ap character_bytes (eq_string→ _ _ z) ∙ sym (written b within y k g))))
 
 pub returns : goal.returns
 returns c =
-    let l = c.loop-left in
-    let s = c.args in
-    sym (ap (λ (t : Bool). l.same && t) (same_done s.a.now s.b.now l.i l.j l.left (omega arith)) ∙ and-true l.same) ∙ l.invariant.2
+    let a = c.args in
+    texts_compared a.a.now a.b.now (get_d_all (λ k. k < 256) a.a.now 0 (λ i _. omega (arith, c.type_inv.a i))) (get_d_all (λ k. k < 256) a.b.now 0 (λ i _. omega (arith, c.type_inv.b i)))
+    a.x a.m a.y a.k c.requires.0 c.requires.1 c.eq.result c.eq.ensures
