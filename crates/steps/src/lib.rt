@@ -10,6 +10,7 @@ ghost use Rattle.format.specs.Fields.{u16s, pairs_at};
 ghost use Rattle.format.specs.StepForms as forms;
 ghost use Rattle.format.specs.StepForms.{rule_of, form_for, fits_form, length_fits, multipliers_within, are_variables, operands_in_range, step_of, is_child};
 ghost use Rattle.records.specs.Found.{WholeRecord};
+ghost use Rattle.faults.specs.Numbers.{fault_in};
 ghost use Rattle.delimiters.specs.Numbers.{open_fault};
 ghost use Rattle.steps.specs.Rules.{rule_named, shape_of};
 ghost use Rattle.steps.specs.Lengths.{counted, worked_out};
@@ -18,6 +19,7 @@ ghost use Rattle.steps.specs.Conclusions.{conclusions_of};
 
 use delimiters::{Claim, open_fault};
 use encoding::{CODE, RECORD_HEAD};
+use faults::Fault;
 use limits::{COLUMN_LIMIT, NUMBER_LIMIT, SUMMAND_LIMIT, TICKET_BYTES, VARIABLE_LIMIT};
 use question::{Progress, form_in_range};
 use records::{bits_within, u16_at, u32_at};
@@ -293,22 +295,21 @@ fn child_in_range(rule: Rule, n: usize, size: usize, k: usize) -> bool
     k <= child_count(rule, n, size)
 }
 
-// ---- the numbers 5 and 6 of a step's body, 0 for neither
+// ---- the faults of a step's body: its length fits no form, or a field is outside its range
 
 // All but the child field.
-fn operands_fault(b: &[u8], s: Progress, body: usize, size: usize) -> usize
+fn operands_fault(b: &[u8], s: Progress, body: usize, size: usize) -> Result<(), Fault>
     requires { (body + size ≤ length b.now) × (s.p ≤ variable_limit) × (s.q ≤ variable_limit) }
-    ensures { result ≡ fault_but b.now s body size }
+    ensures { fault_in result ≡ fault_but b.now s body size }
 {
     if !length_fits(b, body, size) {
-        return 5;
+        return Err(Fault::NoForm);
     }
     let rule = rule_of(u16_at(b, body));
-    if operands_in_range(b, rule, s.p, s.q + (s.p + s.p), body, size) {
-        0
-    } else {
-        6
+    if !operands_in_range(b, rule, s.p, s.q + (s.p + s.p), body, size) {
+        return Err(Fault::OutOfRange);
     }
+    Ok(())
 }
 
 // The child field under a claim: "Under claim 1 the child field is 0", "Under claim 2 it is the child taken".
@@ -323,26 +324,22 @@ fn child_field_fits(claim: Claim, rule: Rule, n: usize, size: usize, k: usize) -
 }
 
 // The whole body.
-fn step_fault(b: &[u8], s: Progress, claim: Claim, body: usize, size: usize) -> usize
+fn step_fault(b: &[u8], s: Progress, claim: Claim, body: usize, size: usize) -> Result<(), Fault>
     requires { (body + size ≤ length b.now) × (s.p ≤ variable_limit) × (s.q ≤ variable_limit) }
-    ensures { result ≡ fault_under claim b.now s body size }
+    ensures { fault_in result ≡ fault_under claim b.now s body size }
 {
-    let f = operands_fault(b, s, body, size);
-    if f != 0 {
-        return f;
-    }
+    operands_fault(b, s, body, size)?;
     let rule = rule_of(u16_at(b, body));
     let k = u16_at(b, body + CHILD_FIELD);
-    if child_field_fits(claim, rule, s.n, size, k) {
-        0
-    } else {
-        6
+    if !child_field_fits(claim, rule, s.n, size, k) {
+        return Err(Fault::OutOfRange);
     }
+    Ok(())
 }
 
 // ---- a record
 
-// A whole record where a branch is open: its place, then its form. 0 for a step of proper form.
+// A whole record where a branch is open: its place, then its form. A step of proper form has no fault.
 pub fn record_fault(
     b: &[u8],
     s: Progress,
@@ -350,13 +347,10 @@ pub fn record_fault(
     at: usize,
     kind: usize,
     size: usize,
-) -> usize
+) -> Result<(), Fault>
     requires { WholeRecord b.now at kind size × (s.p ≤ variable_limit) × (s.q ≤ variable_limit) }
-    ensures { result ≡ open_fault (length b.now) (at + 6 + size) kind size (fault_under claim b.now s (at + 6) size) }
+    ensures { fault_in result ≡ open_fault (length b.now) (at + 6 + size) kind size (fault_under claim b.now s (at + 6) size) }
 {
-    let place = open_fault(b.len(), at + RECORD_HEAD + size, kind, size);
-    if place != 0 {
-        return place;
-    }
+    open_fault(b.len(), at + RECORD_HEAD + size, kind, size)?;
     step_fault(b, s, claim, at + RECORD_HEAD, size)
 }

@@ -50,14 +50,14 @@ operands_in_range-requires c = (
       (fits (goal.at.operands_in_range-requires c).Else-not-length_fits),
 )
 
-pub returns-then-operands_in_range : goal.returns-then-operands_in_range
+pub returns-then-not-operands_in_range : goal.returns-then-not-operands_in_range
 unfolding asked
-returns-then-operands_in_range c =
-    by_operands c.args.b.now (asked c.args.b.now c.args.s) true c.args.body c.args.size _ (fits (goal.at.returns-then-operands_in_range c).Else-not-length_fits)
-    (sym (said (goal.at.returns-then-operands_in_range c).After-operands_in_range) ∙ c.if-operands_in_range.true)
+returns-then-not-operands_in_range c =
+    by_operands c.args.b.now (asked c.args.b.now c.args.s) true c.args.body c.args.size _ (fits (goal.at.returns-then-not-operands_in_range c).Else-not-length_fits)
+    (sym (said (goal.at.returns-then-not-operands_in_range c).After-operands_in_range) ∙ c.if-not-operands_in_range.true)
 
-pub returns-else-operands_in_range : goal.returns-else-operands_in_range
+pub returns : goal.returns
 unfolding asked
-returns-else-operands_in_range c =
-    by_operands c.args.b.now (asked c.args.b.now c.args.s) true c.args.body c.args.size _ (fits (goal.at.returns-else-operands_in_range c).Else-not-length_fits)
-    (sym (said (goal.at.returns-else-operands_in_range c).After-operands_in_range) ∙ c.if-operands_in_range.false)
+returns c =
+    by_operands c.args.b.now (asked c.args.b.now c.args.s) true c.args.body c.args.size _ (fits (goal.at.returns c).Else-not-length_fits)
+    (sym (said (goal.at.returns c).After-operands_in_range) ∙ c.if-not-operands_in_range.false)
