@@ -19,10 +19,8 @@ fn put_characters(buffer: &mut [u8], at: usize, characters: &[u32])
     requires { at + 4 * length characters.now ≤ length buffer.old }
     ensures { buffer.new ≡ sets buffer.old at (character_bytes characters.now) }
 {
-    let mut i = 0;
-    while i < characters.len() {
-        put_u32(buffer, at + 4 * i, characters[i] as usize);
-        i += 1;
+    for (i, character) in characters.iter().enumerate() {
+        put_u32(buffer, at + 4 * i, *character as usize);
     }
 }
 
@@ -46,8 +44,7 @@ fn put_row(buffer: &mut [u8], at: usize, characters: &[u32], x: usize, size: usi
     ensures buffer_after { buffer.new ≡ sets buffer.old at (record_bytes 9 (character_bytes (row characters.now x size))) }
 {
     let from = LENGTH_LIMIT * x;
-    let to = from + size;
-    put_string(buffer, at, &characters[from..to])
+    put_string(buffer, at, &characters[from..from + size])
 }
 
 // "one record of kind 9 for each string variable"; answers the index after them.
@@ -57,11 +54,8 @@ fn put_strings(buffer: &mut [u8], characters: &[u32], sizes: &[usize], p: usize)
     ensures buffer_after { buffer.new ≡ sets buffer.old 0 (string_records (table_strings characters.now sizes.now p)) }
 {
     let mut at = 0;
-    let mut x = 0;
-    while x < p {
-        let size = sizes[x];
-        at = put_row(buffer, at, characters, x, size);
-        x += 1;
+    for x in 0..p {
+        at = put_row(buffer, at, characters, x, sizes[x]);
     }
     at
 }
@@ -71,8 +65,7 @@ fn bits_of(z: i64) -> usize
     requires { nat_abs z ≤ number_limit }
     ensures { result ≡ unsigned z }
 {
-    let v = (z + 4294967296) as usize;
-    v % 4294967296
+    (z as i32).cast_unsigned() as usize
 }
 
 // The first q numbers of a model, 4 bytes each.
@@ -80,12 +73,8 @@ fn put_integers(buffer: &mut [u8], at: usize, model: &[i64], q: usize)
     requires { Integers model.now q × (at + 4 * q ≤ length buffer.old) }
     ensures { buffer.new ≡ sets buffer.old at (integer_bytes (take q model.now)) }
 {
-    let mut i = 0;
-    while i < q {
-        let z = model[i];
-        let v = bits_of(z);
-        put_u32(buffer, at + 4 * i, v);
-        i += 1;
+    for i in 0..q {
+        put_u32(buffer, at + 4 * i, bits_of(model[i]));
     }
 }
 

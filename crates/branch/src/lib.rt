@@ -49,27 +49,25 @@ impl Branch {
         requires { count ≤ fact_limit }
         ensures { (result.count ≡ count) × (stack result ≡ stack self) }
     {
-        let mut b = self;
-        b.count = count as u16;
-        b
+        Branch {
+            count: count as u16,
+            ..self
+        }
     }
 
     // The split of the step in the record at a position, whose first child is begun.
-    pub fn mark(self, at: usize, last: usize) -> Branch
+    pub fn mark(mut self, at: usize, last: usize) -> Branch
         requires { (self.depth < pending_limit) × (at ≤ ticket_bytes) × (last < 256) }
         ensures { (result.count ≡ self.count) × (stack result ≡ split self.count at 2 last ∷ stack self) }
     {
-        let d = self.depth as usize;
-        let mark = self.count;
-        let mut b = self;
-        b.splits[d] = Split {
-            mark,
+        self.splits[usize::from(self.depth)] = Split {
+            mark: self.count,
             at: at as u16,
             child: 2,
             last: last as u8,
         };
-        b.depth = (d + 1) as u16;
-        b
+        self.depth += 1;
+        self
     }
 
     // The last pending split.
@@ -77,9 +75,7 @@ impl Branch {
         requires { (0 < self.depth) × (self.depth ≤ pending_limit) }
         ensures { result ≡ latest_of (stack self) }
     {
-        let d = self.depth as usize - 1;
-        let b = self;
-        b.splits[d]
+        self.splits[usize::from(self.depth) - 1]
     }
 
     // "a closed branch is cut back to the mark of its last pending split"
@@ -87,31 +83,27 @@ impl Branch {
         requires { (0 < self.depth) × (self.depth ≤ pending_limit) }
         ensures { (result.count ≡ (latest_of (stack self)).mark) × (stack result ≡ stack self) }
     {
-        let d = self.depth as usize - 1;
-        let mut b = self;
-        let s = b.splits[d];
-        b.count = s.mark;
-        b
+        let split = self.latest();
+        Branch {
+            count: split.mark,
+            ..self
+        }
     }
 
     // The next child of the last pending split is begun.
-    pub fn take_next_child(self) -> Branch
+    pub fn take_next_child(mut self) -> Branch
         requires { (0 < self.depth) × (self.depth ≤ pending_limit) }
         ensures { (result.count ≡ self.count) × (stack result ≡ begun_of (stack self)) }
     {
-        let d = self.depth as usize - 1;
-        let mut b = self;
-        let s = b.splits[d];
-        if s.child < s.last {
-            b.splits[d] = Split {
-                mark: s.mark,
-                at: s.at,
-                child: s.child + 1,
-                last: s.last,
+        let split = self.latest();
+        if split.child < split.last {
+            self.splits[usize::from(self.depth) - 1] = Split {
+                child: split.child + 1,
+                ..split
             };
-            return b;
+        } else {
+            self.depth -= 1;
         }
-        b.depth = d as u16;
-        b
+        self
     }
 }

@@ -12,13 +12,11 @@ pub fn least_power(n: usize, m: usize) -> usize
     ensures upper_bound { result ≤ m }
 {
     let mut power = 1;
-    let mut k = 0;
-    while k < m {
+    for k in 0..m {
         if m <= power {
             return k;
         }
-        power = power * n;
-        k += 1;
+        power *= n;
     }
-    k
+    m
 }

@@ -1,37 +1,20 @@
 // Checking: the operation `check_ticket`. "Checking names the first faulty record from 0 (0 for 1 and 2), and there the first of" 1 to 14.
 #![tactic(auto)]
 
-ghost use Rattle.std.specs.Prelude.{◌≡◌, ◌≤◌, length, replicate, pos};
-ghost use Rattle.calculus.specs.Limits.{work_numbers};
 ghost use Rattle.checking.specs.Outcomes.{Promised};
 
 use deciding::{Outcome, decide};
 use limits::{ANSWER_BYTES, WORK_NUMBERS};
-
-// Sets every number of the work area to 0.
-fn clear(work: &mut [i64])
-    requires { work_numbers ≤ length work.old }
-    ensures { work.new ≡ replicate (length work.old) (pos 0) }
-{
-    let mut i = 0;
-    while i < work.len() {
-        work[i] = 0;
-        i += 1;
-    }
-}
 
 // Checks a ticket. "1 when the work area has under 6,400 numbers or the answer buffer under 4,268 bytes"; "The whole work area, numbers past
 // 6,400 too, is zero after every call, except that 1 does not touch it".
 pub fn check_ticket(ticket: &[u8], work: &mut [i64], answer: &mut [u8]) -> Outcome
     ensures { Promised ticket.now work.old work.new answer.old answer.new result }
 {
-    if work.len() < WORK_NUMBERS {
-        return Outcome::Refused(1, 0);
-    }
-    if answer.len() < ANSWER_BYTES {
+    if work.len() < WORK_NUMBERS || answer.len() < ANSWER_BYTES {
         return Outcome::Refused(1, 0);
     }
     let outcome = decide(ticket, work, answer);
-    clear(work);
+    work.fill(0);
     outcome
 }

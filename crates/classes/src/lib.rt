@@ -112,6 +112,7 @@ pub fn bring_up(known: Known, work: &[i64], count: usize) -> Known
 {
     let mut labels = known.labels;
     for k in known.upto..count {
+        // `labels = merge_row(..)` gets no proof: the result would be laid where the argument is read.
         let next = merge_row(row_at(work, k), labels);
         labels = next;
     }

@@ -1,10 +1,10 @@
 -- The lines, text by text.
-use Prim.Native.Nat.{ℕ, zero, suc, ◌+◌, ◌-◌, ◌/◌, ◌%◌, ◌≤◌, ◌<◌}
+use Prim.Native.Nat.{ℕ, zero, suc, ◌+◌, ◌-◌, ◌*◌, ◌/◌, ◌%◌, ◌≤◌, ◌<◌}
 use native.Mathlib.Numerals.{add-one}
 use native.Mathlib.Omega.{arith}
 use mathlib.Core.Path.{◌≡◌, refl, sym, ◌∙◌, ap, ap₂}
 use mathlib.Core.Bool.{Bool, true, false}
-use mathlib.Core.List.{List, [], ◌∷◌, ◌++◌}
+use mathlib.Core.List.{List, [], ◌∷◌, ◌++◌, append-nil, append_assoc}
 use lib.ListN.{length}
 use lib.Dec.{leb, eqb}
 use borrow.Author.Tests.{lt-ltb, le-ltb, le-leb, lt-leb, leb-true, leb-false, eq-eqb, ne_eqb}
@@ -48,29 +48,34 @@ integer_negative v h l = rw (le-ltb v 2147483648 h) (ap (λ n. 45 ∷ decimal n)
     same : 4294967296 - v ≡ suc (4294967295 - v)
     same = omega arith
 
--- ---- the characters and integers left
+-- ---- one character or integer more
 
-pub spaced_done : (b : List ℕ) (at k : ℕ) → k ≤ 0 → spaced (u32s b at k) ≡ []
+spaced_last : (b : List ℕ) (at k : ℕ) → spaced (u32s b at k) ++ (32 ∷ decimal (u32 b (at + 4 * k))) ≡ spaced (u32s b at (suc k))
 unfolding spaced u32s
-spaced_done b at zero h = refl
-spaced_done b at (suc k) h = absurd (omega arith)
+spaced_last b at zero = ap (λ n. 32 ∷ decimal (u32 b n)) (let e : at + 4 * 0 ≡ at = omega arith in e) ∙ sym (append-nil (32 ∷ decimal (u32 b at)))
+spaced_last b at (suc k) = ap (λ l. 32 ∷ l)
+    (append_assoc (decimal (u32 b at)) (spaced (u32s b (at + 4) k)) (32 ∷ decimal (u32 b (at + 4 * suc k)))
+    ∙ ap (λ l. decimal (u32 b at) ++ l)
+    (ap (λ n. spaced (u32s b (at + 4) k) ++ (32 ∷ decimal (u32 b n))) (let e : at + 4 * suc k ≡ at + 4 + 4 * k = omega arith in e)
+    ∙ spaced_last b (at + 4) k))
 
-pub spaced_more : (b : List ℕ) (at k : ℕ) → 0 < k → (32 ∷ decimal (u32 b at)) ++ spaced (u32s b (at + 4) (k - 1)) ≡ spaced (u32s b at k)
-unfolding spaced u32s
-spaced_more b at zero h = absurd (omega arith)
-spaced_more b at (suc k) h = ap (λ j. (32 ∷ decimal (u32 b at)) ++ spaced (u32s b (at + 4) j)) (down k)
+pub spaced_next : (b : List ℕ) (at k : ℕ) → spaced (u32s b at k) ++ (32 ∷ decimal (u32 b (at + 4 * k))) ≡ spaced (u32s b at (k + 1))
+spaced_next b at k = rw (add-one k) (spaced_last b at k)
 
-pub integers_done : (b : List ℕ) (j at k : ℕ) → k ≤ 0 → integer_lines j (i32s b at k) ≡ []
+integers_last : (b : List ℕ) (j at k : ℕ) → integer_lines j (i32s b at k) ++ integer_line (j + k) (i32 b (at + 4 * k)) ≡ integer_lines j (i32s b at (suc k))
 unfolding integer_lines i32s
-integers_done b j at zero h = refl
-integers_done b j at (suc k) h = absurd (omega arith)
+integers_last b j at zero =
+    ap₂ (λ i n. integer_line i (i32 b n)) (let e : j + 0 ≡ j = omega arith in e) (let e : at + 4 * 0 ≡ at = omega arith in e)
+    ∙ sym (append-nil (integer_line j (i32 b at)))
+integers_last b j at (suc k) =
+    append_assoc (integer_line j (i32 b at)) (integer_lines (suc j) (i32s b (at + 4) k)) (integer_line (j + suc k) (i32 b (at + 4 * suc k)))
+    ∙ ap (λ l. integer_line j (i32 b at) ++ l)
+    (ap₂ (λ i n. integer_lines (suc j) (i32s b (at + 4) k) ++ integer_line i (i32 b n)) (let e : j + suc k ≡ suc j + k = omega arith in e)
+    (let e : at + 4 * suc k ≡ at + 4 + 4 * k = omega arith in e)
+    ∙ integers_last b (suc j) (at + 4) k)
 
-pub integers_more : (b : List ℕ) (j at k : ℕ)
-    → 0 < k
-    → integer_line j (i32 b at) ++ integer_lines (j + 1) (i32s b (at + 4) (k - 1)) ≡ integer_lines j (i32s b at k)
-unfolding integer_lines i32s
-integers_more b j at zero h = absurd (omega arith)
-integers_more b j at (suc k) h = rw (add-one j) (ap (λ m. integer_line j (i32 b at) ++ integer_lines (suc j) (i32s b (at + 4) m)) (down k))
+pub integers_next : (b : List ℕ) (at k : ℕ) → integer_lines 0 (i32s b at k) ++ integer_line k (i32 b (at + 4 * k)) ≡ integer_lines 0 (i32s b at (k + 1))
+integers_next b at k = rw (add-one k) (ap (λ i. integer_lines 0 (i32s b at k) ++ integer_line i (i32 b (at + 4 * k))) (let e : k ≡ 0 + k = omega arith in e) ∙ integers_last b 0 at k)
 
 -- ---- a string's line
 

@@ -1,4 +1,5 @@
 pub mod Lines
 pub mod Put
+pub mod Pages
 pub mod Buffers
 pub mod Reports

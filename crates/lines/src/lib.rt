@@ -1,4 +1,4 @@
-// The program's lines, put into a buffer one after another. Each function takes the position to write at and answers the one after.
+// The program's lines, put into a buffer one after another.
 #![tactic(auto)]
 
 ghost use Rattle.std.specs.Prelude.{◌≡◌, [], ◌∷◌, ◌++◌, ◌+◌, ◌*◌, ◌≤◌, ◌<◌, length};
@@ -7,7 +7,7 @@ ghost use Rattle.format.specs.Records.{records};
 ghost use Rattle.lines.specs.Lines.{digits, decimal, integer, spaced, refused_line, string_line, integer_line, integer_lines, end_line};
 ghost use Rattle.lines.specs.Buffers.{record_lines, lines_by};
 ghost use Rattle.lines.specs.Reports.{Reports};
-ghost use Rattle.lines.specs.Put.{Put};
+ghost use Rattle.lines.specs.Pages.{Puts, Room};
 
 use checking::check_ticket;
 use deciding::Outcome;
@@ -15,210 +15,179 @@ use encoding::{KIND_VALUE, RECORD_HEAD};
 use limits::{ANSWER_BYTES, REPORT_BYTES, WORK_NUMBERS};
 use records::{Found, read_at, u32_at};
 
-// One byte.
-fn put_byte(out: &mut [u8], at: usize, x: u8) -> usize
-    requires { at < length out.old }
-    ensures put { Put out.old at (x ∷ []) out.new result }
-    ensures behind { result ≡ at + 1 }
-{
-    out[at] = x;
-    at + 1
-}
-
-// The bytes of a text.
-fn put_text(out: &mut [u8], at: usize, text: &[u8]) -> usize
-    requires { at + length text.now ≤ length out.old }
-    ensures put { Put out.old at text.now out.new result }
-    ensures behind { result ≡ at + length text.now }
-{
-    let mut i = at;
-    let mut j = 0;
-    while j < text.len() {
-        i = put_byte(out, i, text[j]);
-        j += 1;
-    }
-    i
-}
-
-// ---- numbers
-
-// A number in decimal, of at most so many places.
-fn put_digits(out: &mut [u8], at: usize, n: usize, places: usize) -> usize
-    requires { at + places ≤ length out.old }
-    ensures put { Put out.old at (digits places n) out.new result }
-    ensures behind { result ≤ at + places }
-{
-    if places == 0 {
-        return at;
-    }
-    if n < 10 {
-        return put_byte(out, at, (48 + n) as u8);
-    }
-    let i = put_digits(out, at, n / 10, places - 1);
-    put_byte(out, i, (48 + n % 10) as u8)
-}
-
-fn put_decimal(out: &mut [u8], at: usize, n: usize) -> usize
-    requires { at + 20 ≤ length out.old }
-    ensures put { Put out.old at (decimal n) out.new result }
-    ensures behind { result ≤ at + 20 }
-{
-    put_digits(out, at, n, 20)
-}
-
-// The number whose two's complement at 32 bits is v.
-fn put_integer(out: &mut [u8], at: usize, v: usize) -> usize
-    requires { (v < 4294967296) × (at + 21 ≤ length out.old) }
-    ensures put { Put out.old at (integer (signed v)) out.new result }
-    ensures behind { result ≤ at + 21 }
-{
-    if v < 2147483648 {
-        return put_decimal(out, at, v);
-    }
-    let i = put_byte(out, at, b'-');
-    put_decimal(out, i, 4294967296 - v)
-}
-
-// A number after a space.
-fn put_spaced(out: &mut [u8], at: usize, n: usize) -> usize
-    requires { at + 21 ≤ length out.old }
-    ensures put { Put out.old at (32 ∷ decimal n) out.new result }
-    ensures behind { result ≤ at + 21 }
-{
-    let i = put_byte(out, at, b' ');
-    put_decimal(out, i, n)
-}
-
-// ---- lines
-
-// "`refused 13 at 4` (number, record)"
-fn put_refused(out: &mut [u8], at: usize, number: usize, at_record: usize) -> usize
-    requires { at + 53 ≤ length out.old }
-    ensures put { Put out.old at (refused_line number at_record) out.new result }
-    ensures behind { result ≤ at + 53 }
-{
-    let i = put_text(out, at, b"refused ");
-    let j = put_decimal(out, i, number);
-    let k = put_text(out, j, b" at ");
-    let l = put_decimal(out, k, at_record);
-    put_byte(out, l, b'\n')
-}
-
-// The count characters at a position of the answer, each after a space.
-fn put_characters(out: &mut [u8], at: usize, answer: &[u8], from: usize, count: usize) -> usize
-    requires { (from + 4 * count ≤ length answer.now) × (at + 21 * count ≤ length out.old) }
-    ensures put { Put out.old at (spaced (u32s answer.now from count)) out.new result }
-    ensures behind { result ≤ at + 21 * count }
-{
-    let mut i = at;
-    let mut j = from;
-    let mut left = count;
-    while 0 < left {
-        i = put_spaced(out, i, u32_at(answer, j));
-        j += 4;
-        left -= 1;
-    }
-    i
-}
-
-// "`x0 1 0` (variable, length, code points)"
-fn put_string(
-    out: &mut [u8],
+// The lines so far: the buffer that they are put into, and the position after them.
+#[derive(Drop)]
+struct Page<'a> {
+    out: &'a mut [u8],
     at: usize,
-    variable: usize,
-    answer: &[u8],
-    from: usize,
-    count: usize,
-) -> usize
-    requires { (from + 4 * count ≤ length answer.now) × (at + 43 + 21 * count ≤ length out.old) }
-    ensures put { Put out.old at (string_line variable (u32s answer.now from count)) out.new result }
-    ensures behind { result ≤ at + 43 + 21 * count }
-{
-    let i = put_byte(out, at, b'x');
-    let j = put_decimal(out, i, variable);
-    let k = put_spaced(out, j, count);
-    let l = put_characters(out, k, answer, from, count);
-    put_byte(out, l, b'\n')
 }
 
-// "Integers follow strings as `i0 -5`"
-fn put_integer_line(out: &mut [u8], at: usize, variable: usize, v: usize) -> usize
-    requires { (v < 4294967296) × (at + 44 ≤ length out.old) }
-    ensures put { Put out.old at (integer_line variable (signed v)) out.new result }
-    ensures behind { result ≤ at + 44 }
-{
-    let i = put_byte(out, at, b'i');
-    let j = put_decimal(out, i, variable);
-    let k = put_byte(out, j, b' ');
-    let l = put_integer(out, k, v);
-    put_byte(out, l, b'\n')
-}
-
-// The lines of the count integers at a position of the answer.
-fn put_integers(out: &mut [u8], at: usize, answer: &[u8], from: usize, count: usize) -> usize
-    requires { (from + 4 * count ≤ length answer.now) × (at + 44 * count ≤ length out.old) }
-    ensures put { Put out.old at (integer_lines 0 (i32s answer.now from count)) out.new result }
-    ensures behind { result ≤ at + 44 * count }
-{
-    let mut i = at;
-    let mut j = from;
-    let mut variable = 0;
-    let mut left = count;
-    while 0 < left {
-        i = put_integer_line(out, i, variable, u32_at(answer, j));
-        j += 4;
-        variable += 1;
-        left -= 1;
+impl Page<'_> {
+    // One byte.
+    fn byte(&mut self, x: u8)
+        requires { Room self.old 1 }
+        ensures { Puts self.old (x ∷ []) 1 self.new }
+    {
+        self.out[self.at] = x;
+        self.at += 1;
     }
-    i
-}
 
-// The lines of the answer's integers, and the last line.
-fn put_tail(out: &mut [u8], at: usize, answer: &[u8], from: usize, count: usize) -> usize
-    requires { (from + 4 * count ≤ length answer.now) × (at + 44 * count + 4 ≤ length out.old) }
-    ensures put { Put out.old at (integer_lines 0 (i32s answer.now from count) ++ end_line) out.new result }
-    ensures behind { result ≤ at + 44 * count + 4 }
-{
-    let i = put_integers(out, at, answer, from, count);
-    put_text(out, i, b"end\n")
-}
+    // The bytes of a text.
+    fn text(&mut self, text: &[u8])
+        requires { Room self.old (length text.now) }
+        ensures { Puts self.old text.now (length text.now) self.new }
+    {
+        let end = self.at + text.len();
+        self.out[self.at..end].copy_from_slice(text);
+        self.at = end;
+    }
 
-// The lines of the answer's records, from the buffer's first byte on.
-fn put_records(out: &mut [u8], at: usize, answer: &[u8]) -> usize
-    requires { at + 12 * length answer.now + 4 ≤ length out.old }
-    ensures put { Put out.old at (record_lines answer.now 0 (records answer.now 0)) out.new result }
-    ensures behind { result ≤ at + 12 * length answer.now + 4 }
-{
-    let mut i = at;
-    let mut j = 0;
-    let mut variable = 0;
-    loop {
-        let Found::Whole(kind, size) = read_at(answer, j) else {
-            return put_text(out, i, b"end\n");
-        };
-        if kind != KIND_VALUE {
-            return put_tail(out, i, answer, j + RECORD_HEAD, size / 4);
+    // ---- numbers
+
+    // A number in decimal, of at most so many places.
+    fn digits(&mut self, n: usize, places: usize)
+        requires { Room self.old places }
+        ensures { Puts self.old (digits places n) places self.new }
+    {
+        if places == 0 {
+            return;
         }
-        i = put_string(out, i, variable, answer, j + RECORD_HEAD, size / 4);
-        j = j + RECORD_HEAD + size;
-        variable += 1;
+        if 10 <= n {
+            self.digits(n / 10, places - 1);
+        }
+        self.byte(b'0' + (n % 10) as u8);
     }
-}
 
-// ---- the program's lines
+    fn decimal(&mut self, n: usize)
+        requires { Room self.old 20 }
+        ensures { Puts self.old (decimal n) 20 self.new }
+    {
+        self.digits(n, 20);
+    }
 
-// The lines for an outcome of checking, with the answer buffer as it was left.
-fn put_lines(out: &mut [u8], outcome: Outcome, answer: &[u8]) -> usize
-    requires { 12 * length answer.now + 64 ≤ length out.old }
-    ensures put { Put out.old 0 (lines_by outcome answer.now) out.new result }
-    ensures behind { result ≤ length out.old }
-{
-    match outcome {
-        Outcome::Refused(c, r) => put_refused(out, 0, c, r),
-        Outcome::NoSolution(_, _) => put_text(out, 0, b"verdict none\n"),
-        Outcome::Strings => {
-            let i = put_text(out, 0, b"verdict strings\n");
-            put_records(out, i, answer)
+    // The number whose two's complement at 32 bits is v.
+    fn integer(&mut self, v: usize)
+        requires { (v < 4294967296) × Room self.old 21 }
+        ensures { Puts self.old (integer (signed v)) 21 self.new }
+    {
+        if v < 2147483648 {
+            self.decimal(v);
+        } else {
+            self.byte(b'-');
+            self.decimal(4294967296 - v);
+        }
+    }
+
+    // A number after a space.
+    fn spaced(&mut self, n: usize)
+        requires { Room self.old 21 }
+        ensures { Puts self.old (32 ∷ decimal n) 21 self.new }
+    {
+        self.byte(b' ');
+        self.decimal(n);
+    }
+
+    // ---- lines
+
+    // "`refused 13 at 4` (number, record)"
+    fn refused(&mut self, number: usize, at_record: usize)
+        requires { Room self.old 53 }
+        ensures { Puts self.old (refused_line number at_record) 53 self.new }
+    {
+        self.text(b"refused ");
+        self.decimal(number);
+        self.text(b" at ");
+        self.decimal(at_record);
+        self.byte(b'\n');
+    }
+
+    // The count characters at a position of the answer, each after a space.
+    fn characters(&mut self, answer: &[u8], from: usize, count: usize)
+        requires { (from + 4 * count ≤ length answer.now) × Room self.old (21 * count) }
+        ensures { Puts self.old (spaced (u32s answer.now from count)) (21 * count) self.new }
+    {
+        for i in 0..count {
+            self.spaced(u32_at(answer, from + 4 * i));
+        }
+    }
+
+    // "`x0 1 0` (variable, length, code points)"
+    fn string(&mut self, variable: usize, answer: &[u8], from: usize, count: usize)
+        requires { (from + 4 * count ≤ length answer.now) × Room self.old (43 + 21 * count) }
+        ensures { Puts self.old (string_line variable (u32s answer.now from count)) (43 + 21 * count) self.new }
+    {
+        self.byte(b'x');
+        self.decimal(variable);
+        self.spaced(count);
+        self.characters(answer, from, count);
+        self.byte(b'\n');
+    }
+
+    // "Integers follow strings as `i0 -5`"
+    fn integer_line(&mut self, variable: usize, v: usize)
+        requires { (v < 4294967296) × Room self.old 44 }
+        ensures { Puts self.old (integer_line variable (signed v)) 44 self.new }
+    {
+        self.byte(b'i');
+        self.decimal(variable);
+        self.byte(b' ');
+        self.integer(v);
+        self.byte(b'\n');
+    }
+
+    // The lines of the count integers at a position of the answer.
+    fn integers(&mut self, answer: &[u8], from: usize, count: usize)
+        requires { (from + 4 * count ≤ length answer.now) × Room self.old (44 * count) }
+        ensures { Puts self.old (integer_lines 0 (i32s answer.now from count)) (44 * count) self.new }
+    {
+        for variable in 0..count {
+            self.integer_line(variable, u32_at(answer, from + 4 * variable));
+        }
+    }
+
+    // The lines of the answer's integers, and the last line.
+    fn tail(&mut self, answer: &[u8], from: usize, count: usize)
+        requires { (from + 4 * count ≤ length answer.now) × Room self.old (44 * count + 4) }
+        ensures { Puts self.old (integer_lines 0 (i32s answer.now from count) ++ end_line) (44 * count + 4) self.new }
+    {
+        self.integers(answer, from, count);
+        self.text(b"end\n");
+    }
+
+    // The lines of the answer's records, from the buffer's first byte on.
+    fn records(&mut self, answer: &[u8])
+        requires { Room self.old (12 * length answer.now + 4) }
+        ensures { Puts self.old (record_lines answer.now 0 (records answer.now 0)) (12 * length answer.now + 4) self.new }
+    {
+        let mut at = 0;
+        let mut variable = 0;
+        loop {
+            let Found::Whole(kind, size) = read_at(answer, at) else {
+                return self.text(b"end\n");
+            };
+            if kind != KIND_VALUE {
+                return self.tail(answer, at + RECORD_HEAD, size / 4);
+            }
+            self.string(variable, answer, at + RECORD_HEAD, size / 4);
+            at += RECORD_HEAD + size;
+            variable += 1;
+        }
+    }
+
+    // ---- the program's lines
+
+    // The lines for an outcome of checking, with the answer buffer as it was left.
+    fn outcome(&mut self, outcome: Outcome, answer: &[u8])
+        requires { Room self.old (12 * length answer.now + 64) }
+        ensures { Puts self.old (lines_by outcome answer.now) (12 * length answer.now + 64) self.new }
+    {
+        match outcome {
+            Outcome::Refused(c, r) => self.refused(c, r),
+            Outcome::NoSolution(_, _) => self.text(b"verdict none\n"),
+            Outcome::Strings => {
+                self.text(b"verdict strings\n");
+                self.records(answer);
+            }
         }
     }
 }
@@ -230,5 +199,7 @@ pub fn report(ticket: &[u8], out: &mut [u8; REPORT_BYTES]) -> usize
     let mut work = [0i64; WORK_NUMBERS];
     let mut answer = [0u8; ANSWER_BYTES];
     let outcome = check_ticket(ticket, &mut work, &mut answer);
-    put_lines(out, outcome, &answer)
+    let mut page = Page { out, at: 0 };
+    page.outcome(outcome, &answer);
+    page.at
 }

@@ -30,11 +30,8 @@ fn read_model(model: &mut [i64], ticket: &[u8], at: usize, columns: usize)
     requires { (model.old ≡ zeros column_limit) × (columns ≤ column_limit) × (at + 4 * columns ≤ length ticket.now) }
     ensures { model.new ≡ i32s ticket.now at columns ++ zeros (column_limit - columns) }
 {
-    let mut j = 0;
-    while j < columns {
-        let z = i32_at(ticket, at + 4 * j);
-        model[j] = z;
-        j += 1;
+    for j in 0..columns {
+        model[j] = i32_at(ticket, at + 4 * j);
     }
 }
 

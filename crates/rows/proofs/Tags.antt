@@ -7,7 +7,8 @@ use mathlib.Core.List.{List, [], ◌∷◌}
 use borrow.Author.Tests.{lt-ltb, ltb-true}
 use lib.ListN.{length, get_or, drop, set}
 use lib.Dec.{ltb}
-use lib.IntN.{ℤ, pos, negsuc}
+use lib.IntN.{ℤ, pos, negsuc, nat_abs}
+use Rattle.std.specs.Int.{FitsUnsignedBits}
 use mir.Syntax.{w64}
 use mir.Val.{SFits, to_z, of_z}
 use mir.Facts.{to_z-of_z, to_z_pos}
@@ -75,25 +76,27 @@ module _ (row : List ℤ) where
   known (suc (suc (suc (suc (suc zero))))) a b e h = refl
   known (suc (suc (suc (suc (suc (suc k)))))) a b e h = absurd (omega arith)
 
-  pub tag_known : (k : ℕ) → k ≤ 5 → get_or row 0 (pos 0) ≡ pos k → tag_of (fact_of row) ≡ k
-  tag_known k h e = tag_from (pos k) e ∙ known k (index (get_or row 1 (pos 0))) (index (get_or row 2 (pos 0))) (drop 1 row) h
-
-  other : (z : ℤ) (a b : ℕ) (e : List ℤ) → (of_z w64 z ≡ 0 → ⊥) → (of_z w64 z ≡ 1 → ⊥) → (of_z w64 z ≡ 3 → ⊥) → (of_z w64 z ≡ 4 → ⊥) → (of_z w64 z ≡ 5 → ⊥)
-      → tag_of (tagged z a b e) ≡ 2
+  -- a number that is no tag is the tag of ≠
+  other : (z : ℤ) (a b : ℕ) (e : List ℤ) → (FitsUnsignedBits 64 z → 5 < nat_abs z) → tag_of (tagged z a b e) ≡ 2
   unfolding tagged tag_of
-  other (pos zero) a b e h0 h1 h3 h4 h5 = absurd (h0 refl)
-  other (pos (suc zero)) a b e h0 h1 h3 h4 h5 = absurd (h1 refl)
-  other (pos (suc (suc zero))) a b e h0 h1 h3 h4 h5 = refl
-  other (pos (suc (suc (suc zero)))) a b e h0 h1 h3 h4 h5 = absurd (h3 refl)
-  other (pos (suc (suc (suc (suc zero))))) a b e h0 h1 h3 h4 h5 = absurd (h4 refl)
-  other (pos (suc (suc (suc (suc (suc zero)))))) a b e h0 h1 h3 h4 h5 = absurd (h5 refl)
-  other (pos (suc (suc (suc (suc (suc (suc k))))))) a b e h0 h1 h3 h4 h5 = refl
-  other (negsuc k) a b e h0 h1 h3 h4 h5 = refl
+  other (pos zero) a b e h = let g = h (omega arith) in absurd (omega arith)
+  other (pos (suc zero)) a b e h = let g = h (omega arith) in absurd (omega arith)
+  other (pos (suc (suc zero))) a b e h = refl
+  other (pos (suc (suc (suc zero)))) a b e h = let g = h (omega arith) in absurd (omega arith)
+  other (pos (suc (suc (suc (suc zero))))) a b e h = let g = h (omega arith) in absurd (omega arith)
+  other (pos (suc (suc (suc (suc (suc zero)))))) a b e h = let g = h (omega arith) in absurd (omega arith)
+  other (pos (suc (suc (suc (suc (suc (suc k))))))) a b e h = refl
+  other (negsuc k) a b e h = refl
 
-  -- any other number is the tag of ≠
-  pub tag_other : (z : ℤ) → get_or row 0 (pos 0) ≡ z → (of_z w64 z ≡ 0 → ⊥) → (of_z w64 z ≡ 1 → ⊥) → (of_z w64 z ≡ 3 → ⊥) → (of_z w64 z ≡ 4 → ⊥) → (of_z w64 z ≡ 5 → ⊥)
-      → tag_of (fact_of row) ≡ 2
-  tag_other z e h0 h1 h3 h4 h5 = tag_from z e ∙ other z (index (get_or row 1 (pos 0))) (index (get_or row 2 (pos 0))) (drop 1 row) h0 h1 h3 h4 h5
+  known_at : (z : ℤ) (a b : ℕ) (e : List ℤ) → FitsUnsignedBits 64 z → nat_abs z ≤ 5 → tag_of (tagged z a b e) ≡ nat_abs z
+  known_at (pos k) a b e f h = known k a b e h
+  known_at (negsuc k) a b e f h = absurd f
+
+  pub tag_known : (z : ℤ) → get_or row 0 (pos 0) ≡ z → FitsUnsignedBits 64 z → nat_abs z ≤ 5 → tag_of (fact_of row) ≡ nat_abs z
+  tag_known z e f h = tag_from z e ∙ known_at z (index (get_or row 1 (pos 0))) (index (get_or row 2 (pos 0))) (drop 1 row) f h
+
+  pub tag_other : (z : ℤ) → get_or row 0 (pos 0) ≡ z → (FitsUnsignedBits 64 z → 5 < nat_abs z) → tag_of (fact_of row) ≡ 2
+  tag_other z e h = tag_from z e ∙ other z (index (get_or row 1 (pos 0))) (index (get_or row 2 (pos 0))) (drop 1 row) h
 
 tag_alone : (z : ℤ) (a b c d : ℕ) (e f : List ℤ) → tag_of (tagged z a b e) ≡ tag_of (tagged z c d f)
 unfolding tagged tag_of

@@ -64,37 +64,20 @@ pub fn tag_of(row: &[i64]) -> usize
     requires { length row.now ≡ row_length }
     ensures { result ≡ tag_of (fact_of row.now) }
 {
-    let tag = row[TAG];
-    if tag == TAG_GE as i64 {
-        return TAG_GE;
+    match usize::try_from(row[TAG]) {
+        Ok(tag) if tag <= TAG_LITERAL => tag,
+        _ => TAG_NE,
     }
-    if tag == TAG_EQ as i64 {
-        return TAG_EQ;
-    }
-    if tag == TAG_SAME as i64 {
-        return TAG_SAME;
-    }
-    if tag == TAG_NOT_SAME as i64 {
-        return TAG_NOT_SAME;
-    }
-    if tag == TAG_LITERAL as i64 {
-        return TAG_LITERAL;
-    }
-    TAG_NE
 }
 
 // A number below the limit, and 0 for any other.
 fn index_below(z: i64, limit: usize) -> usize
     ensures { result ≡ index_below limit z }
 {
-    if z < 0 {
-        return 0;
+    match usize::try_from(z) {
+        Ok(k) if k < limit => k,
+        _ => 0,
     }
-    let k = z as usize;
-    if k < limit {
-        return k;
-    }
-    0
 }
 
 // The number of the variable in a string fact's row, at place FIRST or SECOND.
@@ -122,11 +105,7 @@ pub fn clear_row(row: &mut [i64])
     requires { length row.old ≡ row_length }
     ensures { row.new ≡ zeros row_length }
 {
-    let mut j = 0;
-    while j < ROW_LENGTH {
-        row[j] = 0;
-        j += 1;
-    }
+    row.fill(0);
 }
 
 // A string fact by its relation's number.
@@ -215,14 +194,8 @@ fn copy_row(work: &mut [i64], k: usize, earlier: usize)
     ensures row { row_at work.new k ≡ row_at work.old earlier }
     ensures before { take (row_length * k) work.new ≡ take (row_length * k) work.old }
 {
-    let source = ROW_LENGTH * earlier;
-    let target = ROW_LENGTH * k;
-    let mut j = 0;
-    while j < ROW_LENGTH {
-        let x = work[source + j];
-        work[target + j] = x;
-        j += 1;
-    }
+    let from = ROW_LENGTH * earlier;
+    work.copy_within(from..from + ROW_LENGTH, ROW_LENGTH * k);
 }
 
 // e = 0, of the earlier row of e, after the first k facts.
@@ -244,11 +217,8 @@ fn copy_negative(work: &mut [i64], k: usize, earlier: usize)
     let source = ROW_LENGTH * earlier;
     let target = ROW_LENGTH * k;
     work[target + TAG] = TAG_GE as i64;
-    let mut j = CONSTANT;
-    while j < ROW_LENGTH {
-        let x = work[source + j];
-        work[target + j] = 0 - x;
-        j += 1;
+    for j in CONSTANT..ROW_LENGTH {
+        work[target + j] = -work[source + j];
     }
 }
 
@@ -281,13 +251,7 @@ pub fn put_below(work: &mut [i64], k: usize, earlier: usize)
 pub fn in_limit(x: i64) -> bool
     ensures { result ≡ within number_limit x }
 {
-    if x < NUMBER_MIN {
-        return false;
-    }
-    if x > NUMBER_MAX {
-        return false;
-    }
-    true
+    (NUMBER_MIN..=NUMBER_MAX).contains(&x)
 }
 
 // Is every number after the tag within the limit?
@@ -295,15 +259,7 @@ fn form_within(row: &[i64]) -> bool
     requires { length row.now ≡ row_length }
     ensures { result ≡ all_within number_limit (drop 1 row.now) }
 {
-    let mut j = CONSTANT;
-    while j < ROW_LENGTH {
-        let x = row[j];
-        if !in_limit(x) {
-            return false;
-        }
-        j += 1;
-    }
-    true
+    row[CONSTANT..].iter().all(|x| in_limit(*x))
 }
 
 // Is every number of the fact within the limit?
@@ -311,10 +267,7 @@ pub fn fact_within(row: &[i64]) -> bool
     requires { length row.now ≡ row_length }
     ensures { result ≡ fact_within (fact_of row.now) }
 {
-    if tag_of(row) > TAG_NE {
-        return true;
-    }
-    form_within(row)
+    tag_of(row) > TAG_NE || form_within(row)
 }
 
 // A row becomes another one, up to the first number after its tag that passes the limit. Is there none?
@@ -323,18 +276,11 @@ fn fill_within(out: &mut [i64], row: &[i64]) -> bool
     ensures value { result ≡ all_within number_limit (drop 1 row.now) }
     ensures out_after { result ≡ true → out.new ≡ row.now }
 {
-    let tag = row[TAG];
-    out[TAG] = tag;
-    let mut j = CONSTANT;
-    while j < ROW_LENGTH {
-        let x = row[j];
-        if !in_limit(x) {
-            return false;
-        }
-        out[j] = x;
-        j += 1;
+    let within = form_within(row);
+    if within {
+        out.copy_from_slice(row);
     }
-    true
+    within
 }
 
 // The given row of an arithmetic fact, after the first k facts, where all its numbers are within the limit. Are they?
@@ -355,28 +301,18 @@ fn constant(row: &[i64]) -> bool
     requires { length row.now ≡ row_length }
     ensures { result ≡ all_zero (drop 2 row.now) }
 {
-    let mut j = COEFFICIENTS;
-    while j < ROW_LENGTH {
-        let x = row[j];
-        if x != 0 {
-            return false;
-        }
-        j += 1;
-    }
-    true
+    row[COEFFICIENTS..].iter().all(|x| *x == 0)
 }
 
 // Does a value stand in the relation to 0, any other number being ≠?
 pub fn relation_holds(relation: usize, value: i64) -> bool
     ensures { result ≡ holds (relation_of relation) value }
 {
-    if relation == GE {
-        return value >= 0;
+    match relation {
+        GE => value >= 0,
+        EQ => value == 0,
+        _ => value != 0,
     }
-    if relation == EQ {
-        return value == 0;
-    }
-    value != 0
 }
 
 // A-Conf: an arithmetic fact without coefficients and false.
@@ -385,14 +321,7 @@ pub fn is_false(row: &[i64]) -> bool
     ensures { result ≡ is_false (fact_of row.now) }
 {
     let tag = tag_of(row);
-    if tag > TAG_NE {
-        return false;
-    }
-    let c = row[CONSTANT];
-    if relation_holds(tag, c) {
-        return false;
-    }
-    constant(row)
+    tag <= TAG_NE && !relation_holds(tag, row[CONSTANT]) && constant(row)
 }
 
 // Is the second form the negative of the first?
@@ -401,14 +330,11 @@ fn negates(row: &[i64], other: &[i64]) -> bool
     requires row_value { all_within number_limit (drop 1 row.now) ≡ true }
     ensures { result ≡ eq_integers (scale (negsuc 0) (drop 1 row.now)) (drop 1 other.now) }
 {
-    let mut j = CONSTANT;
-    while j < ROW_LENGTH {
-        let x = row[j];
-        let y = other[j];
-        if 0 - x != y {
+    // A `for`: in an `all` the check does not know that x is a number of the row, so that −x fits.
+    for (x, y) in row[CONSTANT..].iter().zip(&other[CONSTANT..]) {
+        if -*x != *y {
             return false;
         }
-        j += 1;
     }
     true
 }
@@ -427,13 +353,7 @@ pub fn joins(row: &[i64], other: &[i64]) -> bool
     requires row_value { fact_within (fact_of row.now) ≡ true }
     ensures { result ≡ fits (join_of (fact_of row.now) (fact_of other.now)) }
 {
-    if !joinable(row) {
-        return false;
-    }
-    if !joinable(other) {
-        return false;
-    }
-    negates(row, other)
+    joinable(row) && joinable(other) && negates(row, other)
 }
 
 // Are two rows the same from a place on, number by number?
@@ -441,16 +361,7 @@ pub fn same_from(row: &[i64], other: &[i64], from: usize) -> bool
     requires { (length row.now ≡ row_length) × (length other.now ≡ row_length) × (from ≤ row_length) }
     ensures { result ≡ eq_integers (drop from row.now) (drop from other.now) }
 {
-    let mut j = from;
-    while j < ROW_LENGTH {
-        let x = row[j];
-        let y = other[j];
-        if x != y {
-            return false;
-        }
-        j += 1;
-    }
-    true
+    row[from..] == other[from..]
 }
 
 // Are two rows the same? The coefficient of a column is looked at first, where rows that differ mostly do.
@@ -458,12 +369,7 @@ fn same_by(row: &[i64], other: &[i64], column: usize) -> bool
     requires { (length row.now ≡ row_length) × (length other.now ≡ row_length) × (column < column_limit) }
     ensures { result ≡ eq_integers row.now other.now }
 {
-    let x = row[column + COEFFICIENTS];
-    let y = other[column + COEFFICIENTS];
-    if x != y {
-        return false;
-    }
-    same_from(row, other, 0)
+    row[column + COEFFICIENTS] == other[column + COEFFICIENTS] && row == other
 }
 
 // Is a row one of two, which mostly differ from it in a column?
@@ -471,10 +377,7 @@ fn one_of(row: &[i64], one: &[i64], other: &[i64], column: usize) -> bool
     requires { (length row.now ≡ row_length) × (length one.now ≡ row_length) × (length other.now ≡ row_length) × (column < column_limit) }
     ensures { result ≡ (eq_integers one.now row.now || eq_integers other.now row.now) }
 {
-    if same_by(one, row, column) {
-        return true;
-    }
-    same_by(other, row, column)
+    same_by(one, row, column) || same_by(other, row, column)
 }
 
 // What a search among the facts of a branch gives.
@@ -495,14 +398,10 @@ pub fn lowest_difference(work: &[i64], count: usize, i: usize, j: usize) -> Sear
     fill_difference(&mut one, EQ, i, j);
     let mut other = [0i64; ROW_LENGTH];
     fill_difference(&mut other, EQ, j, i);
-    let mut k = 0;
-    while k < count {
-        if one_of(row_at(work, k), &one, &other, i) {
-            return Search::At(k);
-        }
-        k += 1;
+    match (0..count).find(|k| one_of(row_at(work, *k), &one, &other, i)) {
+        Some(k) => Search::At(k),
+        None => Search::Nothing,
     }
-    Search::Nothing
 }
 
 // Does a fact state that the difference of two columns is 0, in either order?
@@ -527,12 +426,8 @@ fn row_value(row: &[i64], model: &[i64]) -> i64
     ensures { result ≡ value_in model.now (drop 1 row.now) }
 {
     let mut sum = row[CONSTANT];
-    let mut i = 0;
-    while i < COLUMN_LIMIT {
-        let x = model[i];
-        let c = row[i + COEFFICIENTS];
-        sum = sum + c * x;
-        i += 1;
+    for (c, x) in row[COEFFICIENTS..].iter().zip(model) {
+        sum += c * x;
     }
     sum
 }
@@ -545,11 +440,7 @@ fn keeps_row(row: &[i64], model: &[i64]) -> bool
     ensures { result ≡ keeps_fact model.now (fact_of row.now) }
 {
     let tag = tag_of(row);
-    if tag > TAG_NE {
-        return true;
-    }
-    let value = row_value(row, model);
-    relation_holds(tag, value)
+    tag > TAG_NE || relation_holds(tag, row_value(row, model))
 }
 
 // Does the model meet every arithmetic fact?
@@ -558,12 +449,5 @@ pub fn keeps_facts(work: &[i64], count: usize, model: &[i64]) -> bool
     requires model_len { (length model.now ≡ column_limit) × Within value_limit model.now }
     ensures { result ≡ keeps model.now (branch_of work.now count) }
 {
-    let mut k = 0;
-    while k < count {
-        if !keeps_row(row_at(work, k), model) {
-            return false;
-        }
-        k += 1;
-    }
-    true
+    (0..count).all(|k| keeps_row(row_at(work, k), model))
 }

@@ -1,5 +1,4 @@
 use Prim.Native.Nat.{◌≤◌}
-use borrow.Author.Rules.{rules}
 use lib.ListN.{length}
 use lib.Seq.{take_all}
 use mathlib.Core.Path.{◌∙◌, refl}
@@ -11,19 +10,18 @@ use Rattle.answer.proofs.put_characters.Goals as goal
 
 pub loop-i-init : goal.loop-i-init
 unfolding character_bytes flat_map
-loop-i-init c = (search rules, refl, refl)
+loop-i-init c = (refl, refl)
 
 pub loop-i-preserved : goal.loop-i-preserved
 loop-i-preserved c =
     let l = c.loop-i in
     let s = c.args in (
-      omega arith,
-      c.put_u32.auto.buffer ∙ l.invariant.1,
-      c.put_u32.ensures ∙ rw l.invariant.2 (characters_more s.buffer.now s.characters.now s.at l.i (omega arith)),
+      c.put_u32.auto.buffer ∙ l.invariant.0,
+      c.put_u32.ensures ∙ rw l.invariant.1 (characters_more s.buffer.now s.characters.now s.at l.i (omega arith)),
     )
 
 pub returns : goal.returns
 returns c =
     let s = c.args in
     let done : length s.characters.now ≤ c.loop-i.i = omega arith in
-    c.loop-i.invariant.2 ∙ rw (take_all c.loop-i.i s.characters.now done)
+    c.loop-i.invariant.1 ∙ rw (take_all c.loop-i.i s.characters.now done)

@@ -1,5 +1,4 @@
 use Prim.Native.Nat.{◌+◌, ◌<◌, ℕ}
-use borrow.Author.Rules.{rules}
 use lib.ListN.{get_or, length, length-append}
 use lib.Seq.{sets}
 use mathlib.Core.List.{List, flat_map}
@@ -12,7 +11,7 @@ use Rattle.answer.proofs.put_strings.Goals as goal
 
 pub loop-x-init : goal.loop-x-init
 unfolding table_strings string_records flat_map
-loop-x-init c = (search rules, refl, refl, refl)
+loop-x-init c = (refl, refl, refl)
 
 pub bounds-sizes-x : goal.bounds-sizes-x
 bounds-sizes-x c =
@@ -34,11 +33,10 @@ loop-x-preserved c =
     let cs = s.characters.now in
     let ms = s.sizes.now in
     let r = record_bytes 9 (character_bytes (row cs l.x (get_or ms l.x 0))) in (
-      omega arith,
-      c.put_row-at.auto.buffer ∙ l.invariant.1,
-      c.put_row-at.ensures.value ∙ ap (λ (k : ℕ). k + length r) l.invariant.2
+      c.put_row-at.auto.buffer ∙ l.invariant.0,
+      c.put_row-at.ensures.value ∙ ap (λ (k : ℕ). k + length r) l.invariant.1
           ∙ sym (ap length (strings_more cs ms l.x) ∙ length-append (string_records (table_strings cs ms l.x)) r),
-      c.put_row-at.ensures.buffer_after ∙ ap₂ (λ (b : List ℕ) (k : ℕ). sets b k r) l.invariant.3 l.invariant.2 ∙ strings_put cs ms s.buffer.now l.x,
+      c.put_row-at.ensures.buffer_after ∙ ap₂ (λ (b : List ℕ) (k : ℕ). sets b k r) l.invariant.2 l.invariant.1 ∙ strings_put cs ms s.buffer.now l.x,
     )
 
 pub returns : goal.returns
@@ -46,6 +44,6 @@ returns c =
     let l = c.loop-x in
     let s = c.args in
     let e : l.x ≡ s.p = omega arith in record {
-      value = l.invariant.2 ∙ ap (λ (x : ℕ). length (string_records (table_strings s.characters.now s.sizes.now x))) e;
-      buffer_after = l.invariant.3 ∙ ap (λ (x : ℕ). sets s.buffer.now 0 (string_records (table_strings s.characters.now s.sizes.now x))) e;
+      value = l.invariant.1 ∙ ap (λ (x : ℕ). length (string_records (table_strings s.characters.now s.sizes.now x))) e;
+      buffer_after = l.invariant.2 ∙ ap (λ (x : ℕ). sets s.buffer.now 0 (string_records (table_strings s.characters.now s.sizes.now x))) e;
     }

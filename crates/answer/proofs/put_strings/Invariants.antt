@@ -1,4 +1,3 @@
-use Prim.Native.Nat.{◌-◌, ◌≤◌}
 use lib.ListN.{length}
 use lib.Seq.{sets}
 use mathlib.Core.Path.{◌≡◌}
@@ -8,10 +7,6 @@ use Rattle.answer.proofs.put_strings.Given as goal
 
 abbrev pub invariant-loop-x : goal.invariant-loop-x
 invariant-loop-x l =
-    (l.x ≤ l.p)
-    × (length l.buffer ≡ length l.initial.buffer)
+    (length l.buffer ≡ length l.initial.buffer)
     × (l.at ≡ length (string_records (table_strings l.characters l.sizes l.x)))
     × (l.buffer ≡ sets l.initial.buffer 0 (string_records (table_strings l.characters l.sizes l.x)))
-
-abbrev pub decreases-loop-x : goal.decreases-loop-x
-decreases-loop-x l = l.p - l.x

@@ -11,14 +11,14 @@ pub loop-k-init : goal.loop-k-init
 loop-k-init c =
     let m = c.args.m in
     let z : m - 0 ≡ m = omega arith in
-    (omega arith, sym (pow-zero c.args.n), ap (λ (i : ℕ). least_power i c.args.n m 0) z)
+    (sym (pow-zero c.args.n), ap (λ (i : ℕ). least_power i c.args.n m 0) z)
 
 pub returns-then-m-power : goal.returns-then-m-power
 returns-then-m-power c =
     let l = c.loop-k in
     let s = c.args in
     record {
-      value = sym (least_power_yes s.n s.m l.k (s.m - l.k) (omega (arith, l.invariant.1))) ∙ l.invariant.2;
+      value = sym (least_power_yes s.n s.m l.k (s.m - l.k) (omega (arith, l.invariant.0))) ∙ l.invariant.1;
       upper_bound = omega arith;
     }
 
@@ -35,18 +35,18 @@ loop-k-preserved c =
     let l = c.loop-k in
     let s = c.args in
     let less : s.m - l.k - 1 ≡ s.m - (l.k + 1) = omega arith in (
-      omega arith,
-      ap (λ (i : ℕ). i * s.n) l.invariant.1 ∙ sym (ap (λ (i : ℕ). s.n ^ i) (add-one l.k) ∙ pow-suc s.n l.k),
+      ap (λ (i : ℕ). i * s.n) l.invariant.0 ∙ sym (ap (λ (i : ℕ). s.n ^ i) (add-one l.k) ∙ pow-suc s.n l.k),
       ap (λ (i : ℕ). least_power i s.n s.m (l.k + 1)) (sym less)
-          ∙ sym (least_power_no s.n s.m l.k (s.m - l.k) (omega arith) (omega (arith, l.invariant.1)))
-          ∙ l.invariant.2,
+          ∙ sym (least_power_no s.n s.m l.k (s.m - l.k) (omega arith) (omega (arith, l.invariant.0)))
+          ∙ l.invariant.1,
     )
 
 pub returns : goal.returns
 returns c =
     let l = c.loop-k in
     let s = c.args in
+    let e : s.m ≡ l.k = omega arith in
     record {
-      value = sym (least_power_done s.n s.m l.k (s.m - l.k) (omega arith)) ∙ l.invariant.2;
+      value = e ∙ sym (least_power_done s.n s.m l.k (s.m - l.k) (omega arith)) ∙ l.invariant.1;
       upper_bound = omega arith;
     }

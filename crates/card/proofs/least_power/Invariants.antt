@@ -1,10 +1,7 @@
-use Prim.Native.Nat.{◌-◌, ◌^◌, ◌≤◌}
+use Prim.Native.Nat.{◌-◌, ◌^◌}
 use mathlib.Core.Path.{◌≡◌}
 use Rattle.calculus.specs.Rules.{least_power}
 use Rattle.card.proofs.least_power.Given as goal
 
 abbrev pub invariant-loop-k : goal.invariant-loop-k
-invariant-loop-k l = (l.k ≤ l.m) × (l.power ≡ l.n ^ l.k) × (least_power (l.m - l.k) l.n l.m l.k ≡ least_power l.m l.n l.m 0)
-
-abbrev pub decreases-loop-k : goal.decreases-loop-k
-decreases-loop-k l = l.m - l.k
+invariant-loop-k l = (l.power ≡ l.n ^ l.k) × (least_power (l.m - l.k) l.n l.m l.k ≡ least_power l.m l.n l.m 0)

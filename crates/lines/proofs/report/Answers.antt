@@ -8,5 +8,4 @@ use Rattle.lines.proofs.report.Goals as goal
 
 pub returns : goal.returns
 returns c =
-    let check-ticket = c.check_ticket-outcome in
-    reported check-ticket.ensures (length-replicate work_numbers (pos 0)) (length-replicate {A = ℕ} answer_bytes 0) c.put_lines.ensures.put (omega arith)
+    reported c.check_ticket-outcome.ensures (length-replicate work_numbers (pos 0)) (length-replicate {A = ℕ} answer_bytes 0) c.outcome.ensures.put (omega arith)

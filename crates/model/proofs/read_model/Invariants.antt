@@ -8,7 +8,4 @@ use Rattle.format.specs.Fields.{i32s}
 use Rattle.model.proofs.read_model.Given as goal
 
 abbrev pub invariant-loop-j : goal.invariant-loop-j
-invariant-loop-j l = (l.j ≤ l.columns) × (l.model ≡ i32s l.ticket l.at l.j ++ zeros (column_limit - l.j)) × (length l.model ≡ column_limit)
-
-abbrev pub decreases-loop-j : goal.decreases-loop-j
-decreases-loop-j l = l.columns - l.j
+invariant-loop-j l = (l.model ≡ i32s l.ticket l.at l.j ++ zeros (column_limit - l.j)) × (length l.model ≡ column_limit)

@@ -1,4 +1,4 @@
-use Prim.Native.Nat.{◌*◌, ◌-◌, ◌≤◌, ℕ}
+use Prim.Native.Nat.{◌*◌, ◌≤◌, ℕ}
 use lib.IntN.{negsuc, pos, ℤ}
 use lib.ListN.{drop, length, take}
 use mathlib.Core.List.{List, ◌∷◌}
@@ -13,8 +13,5 @@ negative w i = pos 0 ∷ scale (negsuc 0) (drop 1 (row_at w i))
 
 abbrev pub invariant-loop-j : goal.invariant-loop-j
 invariant-loop-j l =
-    (1 ≤ l.j) × (l.j ≤ 50) × (6400 ≤ length l.work) × (length l.work ≡ length l.initial.work)
+    (6400 ≤ length l.work) × (length l.work ≡ length l.initial.work)
     × (take (50 * l.k) l.work ≡ take (50 * l.k) l.initial.work) × (take l.j (row_at l.work l.k) ≡ take l.j (negative l.initial.work l.earlier))
-
-abbrev pub decreases-loop-j : goal.decreases-loop-j
-decreases-loop-j l = 50 - l.j

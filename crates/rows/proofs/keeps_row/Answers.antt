@@ -1,3 +1,4 @@
+use borrow.Author.Tests.{lt-ltb}
 use lib.ListN.{drop}
 use mathlib.Core.Path.{◌∙◌, ◌≡◌, ap, sym}
 use mir.Facts.{to_z-of_z}
@@ -19,13 +20,14 @@ is c = row_relation c.args.row.now c.tag_of-tag.result c.tag_of-tag.ensures c.if
 
 pub returns-then-tag-gt-TAG_NE : goal.returns-then-tag-gt-TAG_NE
 returns-then-tag-gt-TAG_NE c =
-    sym (string_keeps c.args.model.now (fact_of c.args.row.now) (rw c.tag_of-tag.ensures at c.if-tag-gt-TAG_NE.true))
+    let h = c.if-tag-gt-TAG_NE.true in
+    lt-ltb 2 c.tag_of-tag.result h ∙ sym (string_keeps c.args.model.now (fact_of c.args.row.now) (rw c.tag_of-tag.ensures at h))
 
-pub row_value-value-requires : goal.row_value-value-requires
-row_value-value-requires c = record { row_len = c.requires.row_len; row_value = sym (ap fact_within (is c)) ∙ c.requires.row_value; within = c.requires.within }
+pub row_value-requires-clause-row_value : goal.row_value-requires-clause-row_value
+row_value-requires-clause-row_value c = sym (ap fact_within (is c)) ∙ c.requires.row_value
 
-pub returns : goal.returns
-returns c =
-    let f : SFits w64 c.row_value-value.result = record { sfits = c.row_value-value.type_inv } in
-    (rw (to_z-of_z f, c.row_value-value.ensures) at c.relation_holds.ensures)
-    ∙ sym (ap (λ (f : Fact). keeps_fact c.args.model.now f) (is (goal.at.returns c).Else-tag-gt-TAG_NE))
+pub returns-else-tag-gt-TAG_NE : goal.returns-else-tag-gt-TAG_NE
+returns-else-tag-gt-TAG_NE c =
+    let f : SFits w64 c.row_value.result = record { sfits = c.row_value.type_inv } in
+    (rw (to_z-of_z f, c.row_value.ensures) at c.relation_holds.ensures)
+    ∙ sym (ap (λ (f : Fact). keeps_fact c.args.model.now f) (is (goal.at.returns-else-tag-gt-TAG_NE c).Else-tag-gt-TAG_NE))

@@ -1,22 +1,21 @@
-use Prim.Native.Nat.{◌+◌, ◌≤◌, ℕ}
-use borrow.Author.Rules.{rules}
+use Prim.Native.Nat.{◌+◌, ◌*◌, ◌<◌, ◌≤◌, ℕ}
+use Rattle.std.proofs.Common.{rules, tests, true, false, Some, None}
+use Rattle.std.proofs.lemmas.Iterator.{serves_from_Range, first_from_Range}
 use lib.IntN.{pos, ℤ}
 use lib.ListN.{length}
-use mathlib.Core.Bool.{◌||◌}
+use mathlib.Core.Bool.{◌||◌, Bool}
 use mathlib.Core.List.{List, ◌∷◌}
-use mathlib.Core.Option.{some}
-use mathlib.Core.Path.{◌∙◌, ◌≡◌, ap, ap₂, refl, sym}
+use mathlib.Core.Path.{◌∙◌, ◌≡◌, ap, ap₂, sym}
 use native.Mathlib.Omega.{arith}
-use Rattle.lists.specs.Lists.{lowest}
 use Rattle.calculus.specs.LinearForms.{column, eq_integers, minus}
-use Rattle.calculus.specs.Rules.{states_difference, lowest_difference}
-use Rattle.lists.proofs.Searches.{lowest_taken, lowest_behind, lowest_next}
-use Rattle.rows.specs.Rows.{branch_of, fact_of, row_at}
-use Rattle.rows.proofs.Branches.{branch_more, branch_take, length_branch, length_row}
+use Rattle.calculus.specs.Rules.{states_difference}
+use Rattle.rows.specs.Rows.{fact_of, row_at}
+use Rattle.rows.proofs.Branches.{length_row}
+use Rattle.rows.proofs.Chains.{none_found, found_at}
 use Rattle.rows.proofs.Forms.{columns_difference}
 use Rattle.rows.proofs.Tested.{equation_row, states_by_row}
 use Rattle.rows.proofs.lowest_difference.Goals as goal
-use Rattle.rows.proofs.lowest_difference.Goals.{After-fill_difference, After-fill_difference-2, After-one_of}
+use Rattle.rows.proofs.lowest_difference.Goals.{After-fill_difference, After-fill_difference-2}
 
 -- the rows that are looked for
 one-is : (c : After-fill_difference)
@@ -35,56 +34,43 @@ other-is c =
     equation_row c.fill_difference-2.new.row _ n c.fill_difference-2.ensures
     ∙ ap (λ (e : List ℤ). pos 1 ∷ e) (sym (columns_difference c.args.j c.args.i c.requires.i_lt_column_limit.1 c.requires.i_lt_column_limit.0 (λ e. c.requires.i_lt_column_limit.2 (sym e))))
 
--- a row is one of them where its fact states the difference
-test : (c : After-one_of)
-    →
-    let loop = c.loop-k in
-    let s = c.args in
-    c.one_of.result ≡ states_difference s.i s.j (fact_of (row_at s.work.now loop.k))
+-- whether row k is one of them
+abbrev found : (c : After-fill_difference-2) → ℕ → Bool
+found c k =
+    eq_integers c.fill_difference.new.row (row_at c.args.work.now k) || eq_integers c.fill_difference-2.new.row (row_at c.args.work.now k)
+
+-- it is one of them where its fact states the difference
+test : (c : After-fill_difference-2) (k : ℕ) → k < c.args.count → states_difference c.args.i c.args.j (fact_of (row_at c.args.work.now k)) ≡ found c k
 unfolding states_difference
-test c =
-    let row = row_at c.args.work.now c.loop-k.k in
-    let whole : length row ≡ 50 = length_row c.args.work.now c.loop-k.k (omega arith) in
-    let read = c.row_at.ensures in
-    c.one_of.ensures
-    ∙ ap₂ ◌||◌
-    (ap₂ eq_integers (one-is (goal.at.After-one_of c).After-fill_difference) read ∙ sym (states_by_row (minus (column c.args.i) (column c.args.j)) row whole))
-    (ap₂ eq_integers (other-is (goal.at.After-one_of c).After-fill_difference-2) read ∙ sym (states_by_row (minus (column c.args.j) (column c.args.i)) row whole))
+test c k h =
+    let row = row_at c.args.work.now k in
+    let whole : length row ≡ 50 = length_row c.args.work.now k (omega arith) in
+    sym (ap₂ ◌||◌
+    (ap (λ (r : List ℤ). eq_integers r row) (one-is (goal.at.After-fill_difference-2 c).After-fill_difference) ∙ sym (states_by_row (minus (column c.args.i) (column c.args.j)) row whole))
+    (ap (λ (r : List ℤ). eq_integers r row) (other-is c) ∙ sym (states_by_row (minus (column c.args.j) (column c.args.i)) row whole)))
 
-pub loop-k-init : goal.loop-k-init
-unfolding branch_of lowest
-loop-k-init c = (omega arith, refl)
+pub find-requires-clause-callable : goal.find-requires-clause-callable
+find-requires-clause-callable c =
+    let w = c.args.work.now in
+    serves_from_Range (λ x q r. search rules) (λ x h k.
+    let low : x < 128 = omega arith in
+    let in_work : 50 * x + 50 ≤ length w = omega arith in
+    let n = length_row w x in_work in
+    search rules)
 
-pub one_of-requires : goal.one_of-requires
-one_of-requires c =
-    let k = c.loop-k.k in
-    (ap length c.row_at.ensures ∙ length_row c.args.work.now k (omega arith), search rules, search rules, search rules)
+pub returns-in-Some : goal.returns-in-Some
+returns-in-Some c =
+    let w = c.args.work.now in
+    let here = (goal.at.returns-in-Some c).After-fill_difference-2 in
+    let m : (0 ≤ c.in-Some.k) × (c.in-Some.k < c.args.count) × (found here c.in-Some.k ≡ true) × ((k : ℕ) → 0 ≤ k → k < c.in-Some.k → found here k ≡ false) =
+    first_from_Range _ _ _ (Some c.in-Some.k) (λ k. found here k ≡ true) (λ k. found here k ≡ false) c.in-Some.ensures.ran (λ x q k. search (rules, tests)) (λ x q k. search (rules, tests)) in
+    sym (found_at (states_difference c.args.i c.args.j) w c.args.count c.in-Some.k m.1 (test here _ m.1 ∙ m.2)
+    (λ j l. test here j (omega (arith, m.1)) ∙ m.3 j (omega arith) l))
 
-pub returns-then-one_of : goal.returns-then-one_of
-returns-then-one_of c =
-    let loop-test = c.loop-k-test in
-    let s = c.args in
-    let w = s.work.now in
-    let k = c.loop-k.k in
-    let t = states_difference s.i s.j in
-    let less : k + 1 ≤ s.count = omega (arith, loop-test.true) in
-    sym (lowest_taken t (branch_of w s.count) (k + 1) k
-    (ap (lowest t) (branch_take w s.count (k + 1) less ∙ branch_more w k)
-    ∙ lowest_next t (branch_of w k) (fact_of (row_at w k)) c.loop-k.invariant.1 (sym (test (goal.at.returns-then-one_of c).After-one_of) ∙ c.if-one_of.true)
-    ∙ ap some (length_branch w k)))
-
-pub loop-k-preserved : goal.loop-k-preserved
-loop-k-preserved c =
-    let s = c.args in
-    let w = s.work.now in
-    let k = c.loop-k.k in
-    let t = states_difference s.i s.j in (
-      omega arith,
-      ap (lowest t) (branch_more w k) ∙ lowest_behind t (branch_of w k) (fact_of (row_at w k)) c.loop-k.invariant.1 (sym (test (goal.at.loop-k-preserved c).After-one_of) ∙ c.if-one_of.false),
-    )
-
-pub returns : goal.returns
-returns c =
-    let s = c.args in
-    let e : c.loop-k.k ≡ s.count = omega arith in
-    sym (ap (λ (k : ℕ). lowest_difference (branch_of s.work.now k) s.i s.j) (sym e) ∙ c.loop-k.invariant.1)
+pub returns-in-None : goal.returns-in-None
+returns-in-None c =
+    let w = c.args.work.now in
+    let here = (goal.at.returns-in-None c).After-fill_difference-2 in
+    let m : (k : ℕ) → 0 ≤ k → k < c.args.count → found here k ≡ false =
+    first_from_Range _ _ _ None (λ k. found here k ≡ true) (λ k. found here k ≡ false) c.in-None.ensures.ran (λ x q k. search (rules, tests)) (λ x q k. search (rules, tests)) in
+    sym (none_found (states_difference c.args.i c.args.j) w c.args.count (λ j l. test here j l ∙ m j (omega arith) l))

@@ -1,8 +1,7 @@
-use mathlib.Core.Path.{refl}
-use Rattle.branch.specs.Stack.{stack, latest_of}
-use Rattle.branch.proofs.Stacks.{stack_top}
+use mathlib.Core.Path.{refl, ap}
+use Rattle.branch.specs.Stack.{stack}
 use Rattle.branch.proofs.Branch.cut_back.Goals as goal
 
 pub returns : goal.returns
-unfolding stack latest_of
-returns c = (rw (stack_top c.args.self.depth c.args.self.splits c.requires.0), refl)
+unfolding stack
+returns c = (ap (λ s. s.mark) c.latest-split.ensures, refl)
