@@ -7,7 +7,7 @@ ghost use Rattle.calculus.specs.Limits.{variable_limit, column_limit};
 ghost use Rattle.calculus.specs.Alphabet.{all_characters};
 ghost use Rattle.calculus.specs.Facts.{code_of};
 ghost use Rattle.calculus.specs.Strings.{eq_string, given};
-ghost use Rattle.format.specs.Fields.{u16, u32, u32s, signed, pairs_at};
+ghost use Rattle.format.specs.Fields.{u16, u32, u32s, pairs_at};
 ghost use Rattle.format.specs.Records.{kind as kind_at, size as size_at};
 ghost use Rattle.format.specs.Question.{head_rank, literal_rank, rank_of, head_fault, text_of, literal_fault, string_range, string_fault, coefficient_in_range, pair_in_range};
 ghost use Rattle.format.specs.Question.{rising, form_range, arithmetic_fault, fact_fault, extended_range, extended_fault, rank_in_place, question_body_fault};
@@ -29,7 +29,7 @@ use limits::{
     ALPHABET_LIMIT, COLUMN_LIMIT, FACT_LIMIT, LITERAL_LIMIT, LITERALS_FROM, NUMBER_LIMIT,
     TEXT_BYTES, TICKET_BYTES, VARIABLE_LIMIT,
 };
-use records::{Found, bits_within, read_at, u16_at, u32_at};
+use records::{Found, bits_within, fields_at, read_at, u16_at, u32_at};
 
 // An arithmetic constraint in units of six bytes: the relation and the constant are one, each pair is one.
 const SIXTHS_LIMIT: usize = COLUMN_LIMIT + 1;
@@ -58,16 +58,7 @@ pub fn all_characters(b: &[u8], n: usize, at: usize, count: usize) -> bool
     requires { at + 4 * count ≤ length b.now }
     ensures { result ≡ all_characters n (u32s b.now at count) }
 {
-    let mut i = at;
-    let mut left = count;
-    while 0 < left {
-        if n <= u32_at(b, i) {
-            return false;
-        }
-        i += 4;
-        left -= 1;
-    }
-    true
+    fields_at(b, at, count).all(|c: u32| (c as usize) < n)
 }
 
 // Whether the m characters at one position and the k at another are the same: their bytes are.
@@ -141,18 +132,16 @@ fn string_fault(b: &[u8], p: usize, k: usize, at: usize, size: usize) -> Result<
     Ok(())
 }
 
-// Whether the number with these 32 bits may be a coefficient.
-fn coefficient_in_range(v: usize) -> bool
-    requires { v < 4294967296 }
-    ensures { result ≡ coefficient_in_range (signed v) }
+// Whether a number may be a coefficient.
+fn coefficient_in_range(v: i32) -> bool
+    ensures { result ≡ coefficient_in_range v }
 {
-    v != 0 && bits_within(v, NUMBER_LIMIT)
+    v != 0 && v.unsigned_abs() as usize <= NUMBER_LIMIT
 }
 
-// Whether a column is at least low and below c, and the number with these 32 bits may be its coefficient.
-fn pair_in_range(c: usize, low: usize, column: usize, v: usize) -> bool
-    requires { v < 4294967296 }
-    ensures { result ≡ pair_in_range c low (column, signed v) }
+// Whether a column is at least low and below c, and a number may be its coefficient.
+fn pair_in_range(c: usize, low: usize, column: usize, v: i32) -> bool
+    ensures { result ≡ pair_in_range c low (column, v) }
 {
     low <= column && column < c && coefficient_in_range(v)
 }
@@ -163,17 +152,12 @@ fn pairs_rise(b: &[u8], c: usize, at: usize, count: usize) -> bool
     ensures { result ≡ rising c 0 (pairs_at b.now at count) }
 {
     let mut low = 0;
-    let mut i = at;
-    let mut left = count;
-    while 0 < left {
-        let column = u16_at(b, i);
-        let v = u32_at(b, i + 2);
+    for (column, v) in fields_at(b, at, count) {
+        let column = usize::from(column);
         if !pair_in_range(c, low, column, v) {
             return false;
         }
         low = column + 1;
-        i += 6;
-        left -= 1;
     }
     true
 }

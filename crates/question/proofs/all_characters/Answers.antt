@@ -1,26 +1,15 @@
-use mathlib.Core.Path.{◌∙◌, sym}
-use native.Mathlib.Omega.{arith}
-use Rattle.question.proofs.Loops.{characters_done, characters_yes, characters_no}
+use Rattle.std.proofs.Common.{refl, ◌∙◌, rules, tests}
+use Rattle.std.proofs.lemmas.Iterator.Search.{all_from_yields_List}
+use Rattle.std.proofs.lemmas.Iterator.Consumers.{YieldsList-from_first}
+use Rattle.lists.proofs.Library.{list_all_is}
+use Rattle.calculus.specs.Alphabet.{is_character, all_characters}
+use Rattle.calculus.proofs.Alphabet.{test_is}
+use Rattle.format.specs.Fields.{fields, u32, u32s}
 use Rattle.question.proofs.all_characters.Goals as goal
 
-pub u32_at-requires : goal.u32_at-requires
-u32_at-requires c = omega arith
-
-pub returns-then-n-u32_at : goal.returns-then-n-u32_at
-returns-then-n-u32_at c = sym (characters_no _ _ _ _ (omega arith) (omega arith)) ∙ c.loop-left.invariant.1
-
-pub overflow_add-i : goal.overflow_add-i
-overflow_add-i c = omega arith
-
-pub overflow_sub-left : goal.overflow_sub-left
-overflow_sub-left c = omega arith
-
-pub loop-left-smaller : goal.loop-left-smaller
-loop-left-smaller c = omega arith
-
-pub loop-left-preserved : goal.loop-left-preserved
-loop-left-preserved c =
-    (omega arith, sym (characters_yes _ _ _ _ (omega arith) (omega arith)) ∙ c.loop-left.invariant.1)
-
 pub returns : goal.returns
-returns c = sym (characters_done _ _ _ _ (omega arith)) ∙ c.loop-left.invariant.1
+unfolding all_characters u32s
+returns c =
+    let s = c.args in
+    all_from_yields_List {all = c.fields_at.result} (is_character s.n) _ _ _ c.all.ensures.ran (YieldsList-from_first _ _ _ refl) (λ x b q k. search (rules, tests, test_is s.n x))
+    ∙ rw c.fields_at.ensures (list_all_is (is_character s.n) (fields 4 (u32 s.b.now) s.at s.count))

@@ -1,48 +1,45 @@
-use native.Mathlib.Omega.{arith}
-use mathlib.Core.Path.{◌∙◌, sym}
-use borrow.Author.Tests.{not-true, not-false}
-use Rattle.question.proofs.Loops.{pairs_done, pairs_yes, pairs_no}
+use mathlib.Core.Path.{◌≡◌, refl, ◌∙◌, sym, ap}
+use mathlib.Core.Bool.{true, false}
+use mathlib.Core.List.{List, ◌∷◌}
+use Prim.Native.Nat.{ℕ, ◌+◌}
+use lib.IntN.{ℤ}
+use mir.Syntax.{w32}
+use mir.Val.{to_z, of_z}
+use Rattle.std.proofs.Common.{rules}
+use Rattle.format.specs.Fields.{pairs_at}
+use Rattle.format.specs.Question.{pair_in_range, rising}
 use Rattle.question.proofs.pairs_rise.Goals as goal
 
-pub u16_at-column-requires : goal.u16_at-column-requires
-u16_at-column-requires c = omega arith
+-- a pair by itself, and those after it
+module _ (c low : ℕ) (t : ℕ × ℤ) (ts : List (ℕ × ℤ)) where
+  first_out : pair_in_range c low t ≡ false → rising c low (t ∷ ts) ≡ false
+  unfolding rising
+  first_out e = rw e refl
 
-pub overflow_add-i : goal.overflow_add-i
-overflow_add-i c = omega arith
+  first_in : pair_in_range c low t ≡ true → rising c low (t ∷ ts) ≡ rising c (t.0 + 1) ts
+  unfolding rising
+  first_in e = rw e refl
 
-pub u32_at-v-requires : goal.u32_at-v-requires
-u32_at-v-requires c = omega arith
+pub loop-column-init : goal.loop-column-init
+unfolding pairs_at
+loop-column-init c = ap (rising c.args.c 0) (c.into_iter-column-iterator.ensures.into_iter_gives ∙ c.fields_at-column-items.ensures)
 
 pub returns-then-not-pair_in_range : goal.returns-then-not-pair_in_range
 returns-then-not-pair_in_range c =
-    let loop = c.loop-left in
-    sym (pairs_no _ _ _ _ _ (omega arith)
-    (rw (c.u16_at-column.ensures.0, c.u32_at-v.ensures.0) at
-    (sym c.pair_in_range.ensures ∙ not-true _ c.if-not-pair_in_range.true-raw)))
-    ∙ loop.invariant.1
+    let l = c.loop-column in
+    let held : to_z w32 (of_z w32 c.in-Some.v) ≡ c.in-Some.v = search rules in
+    sym (first_out c.args.c l.low (c.in-Some.column, c.in-Some.v) c.next.new.self
+    (rw (c.from-column.ensures, held) at (sym c.pair_in_range.ensures ∙ c.if-not-pair_in_range.true)))
+    ∙ ap (rising c.args.c l.low) (sym c.in-Some.ensures.steps) ∙ l.invariant
 
-pub overflow_add-low : goal.overflow_add-low
-overflow_add-low c = omega arith
-
-pub overflow_add-i-in-loop-left : goal.overflow_add-i-in-loop-left
-overflow_add-i-in-loop-left c = omega arith
-
-pub overflow_sub-left : goal.overflow_sub-left
-overflow_sub-left c = omega arith
-
-pub loop-left-smaller : goal.loop-left-smaller
-loop-left-smaller c = omega arith
-
-pub loop-left-preserved : goal.loop-left-preserved
-loop-left-preserved c =
-    let loop = c.loop-left in
-    rw c.u16_at-column.ensures.0 (
-      omega arith,
-      sym (pairs_yes _ _ _ _ _ (omega arith)
-          (rw (c.u16_at-column.ensures.0, c.u32_at-v.ensures.0) at
-          (sym c.pair_in_range.ensures ∙ not-false _ c.if-not-pair_in_range.false-raw)))
-          ∙ loop.invariant.1,
-    )
+pub loop-column-preserved : goal.loop-column-preserved
+loop-column-preserved c =
+    let l = c.loop-column in
+    let held : to_z w32 (of_z w32 c.in-Some.v) ≡ c.in-Some.v = search rules in
+    rw c.from-column.ensures (sym (first_in c.args.c l.low (c.in-Some.column, c.in-Some.v) c.next.new.self
+    (rw (c.from-column.ensures, held) at (sym c.pair_in_range.ensures ∙ c.if-not-pair_in_range.false)))
+    ∙ ap (rising c.args.c l.low) (sym c.in-Some.ensures.steps) ∙ l.invariant)
 
 pub returns : goal.returns
-returns c = sym (pairs_done _ _ _ _ _ (omega arith)) ∙ c.loop-left.invariant.1
+unfolding rising
+returns c = ap (rising c.args.c c.loop-column.low) (sym c.in-None.ensures.steps.0) ∙ c.loop-column.invariant

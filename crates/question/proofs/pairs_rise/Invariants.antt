@@ -1,12 +1,7 @@
 use mathlib.Core.Path.{◌≡◌}
-use Prim.Native.Nat.{◌+◌, ◌*◌, ◌≤◌}
-use lib.ListN.{length}
 use Rattle.format.specs.Fields.{pairs_at}
 use Rattle.format.specs.Question.{rising}
 use Rattle.question.proofs.pairs_rise.Given as goal
 
-abbrev pub invariant-loop-left : goal.invariant-loop-left
-invariant-loop-left l = (l.i + 6 * l.left ≤ length l.b) × (rising l.c l.low (pairs_at l.b l.i l.left) ≡ rising l.c 0 (pairs_at l.b l.at l.count))
-
-abbrev pub decreases-loop-left : goal.decreases-loop-left
-decreases-loop-left l = l.left
+abbrev pub invariant-loop-column : goal.invariant-loop-column
+invariant-loop-column l = rising l.c l.low l.column-iterator ≡ rising l.c 0 (pairs_at l.b l.at l.count)

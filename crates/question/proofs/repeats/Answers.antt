@@ -1,10 +1,8 @@
-use mathlib.Core.Path.{◌≡◌, refl, ◌∙◌, sym, ap}
+use mathlib.Core.Path.{◌≡◌, refl, ◌∙◌, sym}
 use Prim.Native.Nat.{ℕ, ◌-◌, ◌+◌}
 use mathlib.Core.List.{List}
 use native.Mathlib.Omega.{arith}
-use Rattle.calculus.specs.Strings.{given}
 use Rattle.format.specs.Question.{text_of}
-use Rattle.format.specs.Places.{texts, literals_from}
 use Rattle.format.proofs.Places.{skip_done}
 use Rattle.question.proofs.Loops.{given_done, given_yes, given_no, record_passed, record_within}
 use Rattle.question.proofs.repeats.Goals as goal
