@@ -1,4 +1,6 @@
 // The rules that close a branch, A-Conf and S-Conf, and those with one conclusion: Sum, S-Prop, L-Intro, C-Collapse and Join.
+//
+// A match on a rule may end in `_`: its arm is proved of every rule that is left, so a new rule does not pass there unseen.
 #![tactic(auto)]
 
 ghost use Rattle.std.specs.Prelude.{◌≡◌, ◌+◌, ◌*◌, ◌<◌, ◌≤◌, length, neg_ℤ, OnOk};
@@ -40,8 +42,7 @@ pub fn classes_for(rule: Rule, known: Known, work: &[i64], count: usize) -> Know
         Rule::SConf | Rule::SProp | Rule::LIntro | Rule::CCollapse => {
             classes::bring_up(known, work, count)
         }
-        Rule::Sum | Rule::AConf | Rule::Join | Rule::Unknown => known,
-        Rule::Branch | Rule::Apart | Rule::LValid | Rule::CValid | Rule::CInj | Rule::Card => known,
+        _ => known,
     }
 }
 
@@ -52,10 +53,7 @@ fn a_conf(k: usize, work: &[i64], count: usize) -> bool
     requires { Fine work.now count }
     ensures { (u : Question) → closing_of result ≡ children u (branch_of work.now count) (AConf k) }
 {
-    if count <= k {
-        return false;
-    }
-    rows::is_false(rows::row_at(work, k))
+    k < count && rows::is_false(rows::row_at(work, k))
 }
 
 // S-Conf, where the question has so many literals besides the empty one.
@@ -85,9 +83,7 @@ pub fn closes(
     match rule {
         Rule::AConf => a_conf(u16_at(ticket, body + OPERANDS), work, count),
         Rule::SConf => s_conf(s.literals, work, count, labels),
-        Rule::Sum | Rule::SProp | Rule::LIntro | Rule::CCollapse | Rule::Join => false,
-        Rule::Branch | Rule::Apart | Rule::LValid | Rule::CValid | Rule::CInj | Rule::Card => false,
-        Rule::Unknown => false,
+        _ => false,
     }
 }
 
@@ -154,9 +150,10 @@ fn negative_of_text(ticket: &[u8], function: usize, at: usize, count: usize) -> 
     ensures { result ≡ neg_ℤ (value_of (function_of function) (u32s ticket.now at count)) }
 {
     if function == LEN {
-        return 0 - count as i64;
+        -(count as i64)
+    } else {
+        -question::text_code(ticket, at, count)
     }
-    0 - question::text_code(ticket, at, count)
 }
 
 // L-Intro, with len: "Adds len(x) = length of l"; C-Collapse, with code: "Adds code(x) = code of l, or −1".
@@ -173,20 +170,15 @@ fn of_literal(
     requires labels_value { labels ≡ calculus.labels (branch_of work.old count) }
     ensures { Concludes (of_literal ticket.now s work.old count function x) work.old count work.new result }
 {
-    let found = classes::class_literal(&labels, s.literals + 1, x);
-    match found {
-        None => Err(Fault::DoesNotFit),
-        Some(l) => {
-            let text = question::literal_text(ticket, l);
-            let constant = negative_of_text(ticket, function, text.at, text.count);
-            let column = column_of(s.p, s.q, function, x);
-            if FACT_LIMIT <= count {
-                return Err(Fault::NoRoom);
-            }
-            rows::put_single(work, count, EQ, constant, column, 1);
-            Ok(())
-        }
+    let l = classes::class_literal(&labels, s.literals + 1, x).ok_or(Fault::DoesNotFit)?;
+    let text = question::literal_text(ticket, l);
+    let constant = negative_of_text(ticket, function, text.at, text.count);
+    let column = column_of(s.p, s.q, function, x);
+    if FACT_LIMIT <= count {
+        return Err(Fault::NoRoom);
     }
+    rows::put_single(work, count, EQ, constant, column, 1);
+    Ok(())
 }
 
 // Join: "Adds the first as an equation", of two facts, each ≥ or an equation, one the negative of the other.
@@ -232,9 +224,6 @@ pub fn conclude(
         Rule::LIntro => of_literal(ticket, s, LEN, first, work, count, labels),
         Rule::CCollapse => of_literal(ticket, s, CODE, first, work, count, labels),
         Rule::Join => join(first, u16_at(ticket, body + 6), work, count),
-        Rule::AConf | Rule::SConf | Rule::Unknown => Err(Fault::DoesNotFit),
-        Rule::Branch | Rule::Apart | Rule::LValid | Rule::CValid | Rule::CInj | Rule::Card => Err(
-            Fault::DoesNotFit,
-        ),
+        _ => Err(Fault::DoesNotFit),
     }
 }

@@ -102,14 +102,11 @@ pub fn load(ticket: &[u8], s: Progress, work: &mut [i64])
     ensures loaded { branch_of work.new s.constraints ≡ (asked ticket.now s).constraints }
     ensures fine { Fine work.new s.constraints }
 {
-    let count = s.constraints;
     let mut at = question::behind_literals(ticket, s.literals);
-    let mut k = 0;
-    while k < count {
+    for k in 0..s.constraints {
         let size = records::u32_at(ticket, at);
         let kind = records::u16_at(ticket, at + 4);
         put_constraint(work, k, ticket, kind, at + RECORD_HEAD, size);
-        at = at + RECORD_HEAD + size;
-        k += 1;
+        at += RECORD_HEAD + size;
     }
 }

@@ -1,4 +1,6 @@
 // The rules with several conclusions, Branch, Apart, L-Valid, C-Valid, C-Inj and Card: whether a step fits, and its children.
+//
+// A match on a rule may end in `_`: its arm is proved of every rule that is left, so a new rule does not pass there unseen.
 #![tactic(auto)]
 
 ghost use Rattle.std.specs.Prelude.{◌≡◌, ◌≢◌, true, [], ◌∷◌, ◌++◌, ◌+◌, ◌*◌, ◌≤◌, ◌<◌, length};
@@ -33,10 +35,7 @@ fn parts(work: &[i64], count: usize, fact: usize) -> bool
     requires { (count ≤ fact_limit) × (work_numbers ≤ length work.now) }
     ensures { result ≡ fitting (then (get_elem? (branch_of work.now count) fact) apart_of) }
 {
-    if count <= fact {
-        return false;
-    }
-    rows::tag_of(rows::row_at(work, fact)) == TAG_NE
+    fact < count && rows::tag_of(rows::row_at(work, fact)) == TAG_NE
 }
 
 // Is x among the count variables from a position?
@@ -114,10 +113,7 @@ fn card_fits(b: &[u8], s: Progress, at: usize, m: usize, work: &[i64], count: us
     requires count_le_fact_limit { (count ≤ fact_limit) × (work_numbers ≤ length work.now) }
     ensures { result ≡ fitting (card_children (numbered s) (branch_of work.now count) (u16s b.now at m)) }
 {
-    if !all_differ(b, at, m) {
-        return false;
-    }
-    lengths_agree(b, s, at, m - 1, work, count)
+    all_differ(b, at, m) && lengths_agree(b, s, at, m - 1, work, count)
 }
 
 // Whether a step fits.
@@ -134,10 +130,8 @@ pub fn fits(
     ensures { result ≡ fitting (offered_on ticket.now s body size work.now count) }
 {
     match rule {
-        Rule::Branch => true,
+        Rule::Branch | Rule::LValid | Rule::CValid => true,
         Rule::Apart => parts(work, count, u16_at(ticket, body + OPERANDS)),
-        Rule::LValid => true,
-        Rule::CValid => true,
         Rule::CInj => u16_at(ticket, body + OPERANDS) != u16_at(ticket, body + 6),
         Rule::Card => card_fits(
             ticket,
@@ -147,8 +141,7 @@ pub fn fits(
             work,
             count,
         ),
-        Rule::Sum | Rule::SProp | Rule::LIntro | Rule::CCollapse | Rule::Join => false,
-        Rule::AConf | Rule::SConf | Rule::Unknown => false,
+        _ => false,
     }
 }
 
@@ -162,9 +155,9 @@ fn fill_branch(row: &mut [i64], b: &[u8], at: usize, pairs: usize, k: usize)
 {
     if k == 1 {
         constraints::fill_form(row, b, GE, at, pairs);
-        return;
+    } else {
+        constraints::fill_below(row, b, at, pairs);
     }
-    constraints::fill_below(row, b, at, pairs);
 }
 
 fn put_branch(work: &mut [i64], count: usize, b: &[u8], at: usize, pairs: usize, k: usize)
@@ -185,9 +178,9 @@ fn put_apart(work: &mut [i64], count: usize, fact: usize, k: usize)
 {
     if k == 1 {
         rows::put_above(work, count, fact);
-        return;
+    } else {
+        rows::put_below(work, count, fact);
     }
-    rows::put_below(work, count, fact);
 }
 
 // L-Valid: "Children x ≈ literal 0; len(x) − 1 ≥ 0".
@@ -198,9 +191,9 @@ fn put_l_valid(work: &mut [i64], count: usize, s: Progress, x: usize, k: usize)
 {
     if k == 1 {
         rows::put_string(work, count, IS_LITERAL, x, 0);
-        return;
+    } else {
+        rows::put_single(work, count, GE, -1, column_of(s.p, s.q, LEN, x), 1);
     }
-    rows::put_single(work, count, GE, -1, column_of(s.p, s.q, LEN, x), 1);
 }
 
 // C-Inj: "Children code(x) = −1; code(x) − code(y) ≠ 0; x ≈ y".
@@ -210,15 +203,11 @@ fn put_c_inj(work: &mut [i64], count: usize, s: Progress, x: usize, y: usize, k:
     ensures { branch_of work.new (count + 1) ≡ extended work.old count (c_inj_children (numbered s) x y) k }
 {
     let first = column_of(s.p, s.q, CODE, x);
-    if k == 1 {
-        rows::put_single(work, count, EQ, 1, first, 1);
-        return;
+    match k {
+        1 => rows::put_single(work, count, EQ, 1, first, 1),
+        2 => rows::put_difference(work, count, NE, first, column_of(s.p, s.q, CODE, y)),
+        _ => rows::put_string(work, count, SAME, x, y),
     }
-    if k == 2 {
-        rows::put_difference(work, count, NE, first, column_of(s.p, s.q, CODE, y));
-        return;
-    }
-    rows::put_string(work, count, SAME, x, y);
 }
 
 // Card: "last, len(x_1) ≥ L", of m variables.
@@ -228,7 +217,7 @@ fn put_bound(work: &mut [i64], count: usize, s: Progress, x: usize, m: usize)
     ensures { branch_of work.new (count + 1) ≡ extended work.old count (last_child (numbered s) x m) 1 }
 {
     let bound = card::least_power(s.n, m) as i64;
-    rows::put_single(work, count, GE, 0 - bound, column_of(s.p, s.q, LEN, x), 1);
+    rows::put_single(work, count, GE, -bound, column_of(s.p, s.q, LEN, x), 1);
 }
 
 // Card: "Children, for each pair i < j in lexicographic order, x_i ≈ x_j; last, len(x_1) ≥ L", of the m variables from a position.
@@ -286,9 +275,7 @@ fn put_fact(
             k,
         ),
         Rule::Card => put_card(work, count, ticket, s, at, (size - OPERANDS) / 2, k),
-        Rule::CValid => {}
-        Rule::Sum | Rule::SProp | Rule::LIntro | Rule::CCollapse | Rule::Join => {}
-        Rule::AConf | Rule::SConf | Rule::Unknown => {}
+        _ => {}
     }
 }
 
@@ -310,7 +297,7 @@ fn put_coded(work: &mut [i64], count: usize, len: usize, code: usize, low: usize
     ensures { branch_of work.new (count + 3) ≡ branch_of work.old count ++ coded len code low high }
 {
     rows::put_single(work, count, EQ, -1, len, 1);
-    rows::put_single(work, count + 1, GE, 0 - low as i64, code, 1);
+    rows::put_single(work, count + 1, GE, -(low as i64), code, 1);
     rows::put_single(work, count + 2, GE, high as i64, code, -1);
 }
 
@@ -324,10 +311,11 @@ fn put_c_valid(work: &mut [i64], count: usize, s: Progress, x: usize, k: usize) 
     let code = column_of(s.p, s.q, CODE, x);
     if k == 1 {
         put_codeless(work, count, len, code);
-        return count + 2;
+        count + 2
+    } else {
+        put_coded(work, count, len, code, 0, s.n - 1);
+        count + 3
     }
-    put_coded(work, count, len, code, 0, s.n - 1);
-    count + 3
 }
 
 // Child k, which was tried, after the facts of the branch; the number of facts then.
@@ -348,12 +336,10 @@ pub fn put_child(
 {
     match rule {
         Rule::CValid => put_c_valid(work, count, s, u16_at(ticket, body + OPERANDS), k),
-        Rule::Branch | Rule::Apart | Rule::LValid | Rule::CInj | Rule::Card => {
+        _ => {
             put_fact(ticket, s, rule, body, size, work, count, k);
             count + 1
         }
-        Rule::Sum | Rule::SProp | Rule::LIntro | Rule::CCollapse | Rule::Join => count,
-        Rule::AConf | Rule::SConf | Rule::Unknown => count,
     }
 }
 
@@ -365,12 +351,12 @@ fn apart_within(work: &[i64], fact: usize, k: usize) -> bool
     requires fact_value { (tag_of (fact_of (row_at work.now fact)) ≡ 2) × (fact_within (fact_of (row_at work.now fact)) ≡ true) }
     ensures { result ≡ facts_within (or_none (child_at (apart_at work.now fact) k)) }
 {
-    let row = rows::row_at(work, fact);
-    let c = row[CONSTANT];
+    let constant = rows::row_at(work, fact)[CONSTANT];
     if k == 1 {
-        return rows::in_limit(c - 1);
+        rows::in_limit(constant - 1)
+    } else {
+        rows::in_limit(-1 - constant)
     }
-    rows::in_limit(-1 - c)
 }
 
 // Branch: is child k within the limit? The first is the form at a position, which is in range; of the second only the constant can pass it.
@@ -379,10 +365,7 @@ fn branch_within(b: &[u8], at: usize, pairs: usize, k: usize) -> bool
     requires pairs_value { form_range b.now column_limit at pairs ≡ true }
     ensures { result ≡ facts_within (or_none (child_at (branch_children (form_of b.now at pairs)) k)) }
 {
-    if k == 1 {
-        return true;
-    }
-    rows::in_limit(-1 - records::i32_at(b, at))
+    k == 1 || rows::in_limit(-1 - records::i32_at(b, at))
 }
 
 // "9 when a new number passes the limit": of child k. Only Branch and Apart make numbers from numbers of the ticket.
@@ -403,9 +386,7 @@ pub fn child_within(
     match rule {
         Rule::Branch => branch_within(ticket, body + OPERANDS, (size - 8) / 6, k),
         Rule::Apart => apart_within(work, u16_at(ticket, body + OPERANDS), k),
-        Rule::LValid | Rule::CValid | Rule::CInj | Rule::Card => true,
-        Rule::Sum | Rule::SProp | Rule::LIntro | Rule::CCollapse | Rule::Join => true,
-        Rule::AConf | Rule::SConf | Rule::Unknown => true,
+        _ => true,
     }
 }
 
@@ -425,13 +406,9 @@ pub fn children_within(
 {
     match rule {
         Rule::Branch | Rule::Apart => {
-            if !child_within(ticket, s, rule, body, size, work, count, 1) {
-                return false;
-            }
-            child_within(ticket, s, rule, body, size, work, count, 2)
+            child_within(ticket, s, rule, body, size, work, count, 1)
+                && child_within(ticket, s, rule, body, size, work, count, 2)
         }
-        Rule::LValid | Rule::CValid | Rule::CInj | Rule::Card => true,
-        Rule::Sum | Rule::SProp | Rule::LIntro | Rule::CCollapse | Rule::Join => true,
-        Rule::AConf | Rule::SConf | Rule::Unknown => true,
+        _ => true,
     }
 }

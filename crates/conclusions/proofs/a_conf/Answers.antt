@@ -1,3 +1,5 @@
+use Prim.Native.Nat.{suc}
+use borrow.Author.Tests.{lt-leb}
 use lib.IntN.{ℤ}
 use lib.ListN.{length}
 use mathlib.Core.List.{List, []}
@@ -11,19 +13,20 @@ use Rattle.rows.proofs.Branches.{branch_at, branch_beyond, length_row}
 use Rattle.rows.specs.Rows.{fact_of}
 use Rattle.conclusions.proofs.a_conf.Goals as goal
 
-pub returns-then-count-k : goal.returns-then-count-k
+pub returns-else-k-count : goal.returns-else-k-count
 unfolding closing_of
-returns-then-count-k c =
-    λ (u : Question). sym
-    (ap (λ (o : Option Fact). then o (λ f. guard (is_false f) [])) (branch_beyond c.args.work.now c.args.count c.args.k c.if-count-k.true))
+returns-else-k-count c =
+    let a = c.args in
+    λ (u : Question). ap closing_of (lt-leb (suc a.k) a.count (omega (arith, c.if-k-count.false)))
+    ∙ sym (ap (λ (o : Option Fact). then o (λ f. guard (is_false f) [])) (branch_beyond a.work.now a.count a.k c.if-k-count.false))
 
 pub is_false-requires : goal.is_false-requires
 is_false-requires c =
     ap length c.row_at.ensures ∙ length_row c.args.work.now c.args.k (omega (arith, c.requires.few, c.requires.room))
 
-pub returns : goal.returns
+pub returns-then-k-count : goal.returns-then-k-count
 unfolding closing_of
-returns c =
+returns-then-k-count c =
     let w = c.args.work.now in
     λ (u : Question). ap closing_of (c.is_false.ensures ∙ ap (λ (l : List ℤ). is_false (fact_of l)) c.row_at.ensures)
     ∙ sym (ap (λ (o : Option Fact). then o (λ f. guard (is_false f) [])) (branch_at w c.args.count c.args.k (omega arith)))

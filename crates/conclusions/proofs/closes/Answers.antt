@@ -1,5 +1,4 @@
 use Prim.Native.Nat.{◌≤◌, ℕ}
-use mathlib.Core.List.{[], ◌∷◌}
 use mathlib.Core.Path.{◌∙◌, ap, refl, sym}
 use native.Mathlib.Omega.{arith}
 use Rattle.calculus.specs.Rules.{children}
@@ -10,8 +9,7 @@ use Rattle.question.specs.Posed.{asked}
 use Rattle.rows.specs.Rows.{branch_of}
 use Rattle.steps.proofs.Bodies.{long, not_unknown, is_rule}
 use Rattle.steps.proofs.Offered.{offered_by}
-use Rattle.steps.proofs.Rules.{not_closing}
-use Rattle.conclusions.proofs.Labels.{asks}
+use Rattle.conclusions.proofs.Labels.{asks, closing_unknown}
 use Rattle.conclusions.proofs.closes.Goals as goal
 
 pub u16_at-requires : goal.u16_at-requires
@@ -50,11 +48,7 @@ returns-in-SConf c =
     c.s_conf.ensures u (literal_count b a.s)
     ∙ sym (offered_by b u (branch_of a.work.now a.count) a.body a.size s_conf (is_rule c.requires.ready_by _ c.in-SConf.is))
 
-pub returns-in-Sum : goal.returns-in-Sum
-returns-in-Sum c = absurd (not_closing (0 ∷ 5 ∷ 6 ∷ 8 ∷ 12 ∷ []) c.args.rule tt c.in-Sum.in-Sum-own.keys3 c.requires.ready_by.concludes)
-
-pub returns-in-Branch : goal.returns-in-Branch
-returns-in-Branch c = absurd (not_closing (1 ∷ 2 ∷ 7 ∷ 9 ∷ 10 ∷ 11 ∷ []) c.args.rule tt c.in-Branch.in-Branch-own.keys4 c.requires.ready_by.concludes)
-
-pub returns-in-Unknown : goal.returns-in-Unknown
-returns-in-Unknown c = absurd (not_unknown c.requires.ready_by.ready (is_rule c.requires.ready_by _ c.in-Unknown.is))
+pub returns-in_default : goal.returns-in_default
+returns-in_default c =
+    let h = c.requires.ready_by in
+    absurd (not_unknown h.ready (is_rule h _ (closing_unknown _ c.in_default.not-AConf c.in_default.not-SConf h.concludes)))

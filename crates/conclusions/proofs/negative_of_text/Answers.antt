@@ -17,11 +17,12 @@ returns-then-function-eq-LEN c =
     minus_is (pos a.count) _ (to_z_pos w64 a.count (omega arith)) (omega arith)
     ∙ ap neg_ℤ (value_length a.ticket.now a.function a.at a.count c.if-function-eq-LEN.true)
 
-pub overflow_sub-result-2 : goal.overflow_sub-result-2
-overflow_sub-result-2 c = minus_fits c.text_code.result _ (to_z-of_z {w = w64} (record { sfits = c.text_code.type_inv })) (omega (arith, c.text_code.ensures.1))
+pub overflow_sub-result-else-function-eq-LEN : goal.overflow_sub-result-else-function-eq-LEN
+overflow_sub-result-else-function-eq-LEN c =
+    minus_fits c.text_code.result _ (to_z-of_z {w = w64} (record { sfits = c.text_code.type_inv })) (omega (arith, c.text_code.ensures.1))
 
-pub returns : goal.returns
-returns c =
+pub returns-else-function-eq-LEN : goal.returns-else-function-eq-LEN
+returns-else-function-eq-LEN c =
     let a = c.args in
     minus_is c.text_code.result _ (to_z-of_z {w = w64} (record { sfits = c.text_code.type_inv })) (omega (arith, c.text_code.ensures.1))
     ∙ ap neg_ℤ (c.text_code.ensures.0 ∙ value_code a.function _ c.if-function-eq-LEN.false)

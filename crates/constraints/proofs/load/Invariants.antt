@@ -1,4 +1,4 @@
-use Prim.Native.Nat.{◌-◌, ◌≤◌}
+use Prim.Native.Nat.{◌-◌}
 use lib.ListN.{length}
 use mathlib.Core.List.{◌++◌}
 use mathlib.Core.Path.{◌≡◌}
@@ -9,8 +9,5 @@ use Rattle.constraints.proofs.load.Given as goal
 
 abbrev pub invariant-loop-k : goal.invariant-loop-k
 invariant-loop-k l =
-    (l.k ≤ l.count) × (l.at ≡ skip l.ticket l.k l.initial.at) × (length l.work ≡ length l.initial.work) × Fine l.work l.k
-    × (branch_of l.work l.k ++ facts_at l.ticket (l.count - l.k) l.at ≡ facts_at l.ticket l.count l.initial.at)
-
-abbrev pub decreases-loop-k : goal.decreases-loop-k
-decreases-loop-k l = l.count - l.k
+    (l.at ≡ skip l.ticket l.k l.initial.at) × (length l.work ≡ length l.initial.work) × Fine l.work l.k
+    × (branch_of l.work l.k ++ facts_at l.ticket (l.k-end - l.k) l.at ≡ facts_at l.ticket l.k-end l.initial.at)

@@ -28,47 +28,47 @@ first-of-form r row e = ap (λ (l : List ℤ). get_or l 1 (pos 0)) e ∙ sym (ge
 form-length : (row : List ℤ) → length row ≡ 50 → length (drop 1 row) ≡ 49
 form-length row h = length-drop 1 row ∙ omega arith
 
-pub bounds-row-1 : goal.bounds-row-1
-bounds-row-1 c =
+pub bounds-row_at-1 : goal.bounds-row_at-1
+bounds-row_at-1 c =
     let few = c.requires.fact_lt_fact_limit.0 in
     let room = c.requires.fact_lt_fact_limit.1 in
-    let l = ap length c.row_at-row.ensures ∙ length_row c.args.work.now c.args.fact (omega arith) in omega arith
+    let l = ap length c.row_at.ensures ∙ length_row c.args.work.now c.args.fact (omega arith) in omega arith
 
-pub overflow_sub-c : goal.overflow_sub-c
-overflow_sub-c c =
+pub overflow_sub-constant : goal.overflow_sub-constant
+overflow_sub-constant c =
     let row = row_at c.args.work.now c.args.fact in
-    above_fits (get_or c.row_at-row.result.now 1 (pos 0)) number_limit
-    (constant-small _ row c.row_at-row.ensures (ne_within row c.requires.fact_value.0 c.requires.fact_value.1)) (omega arith)
+    above_fits (get_or c.row_at.result.now 1 (pos 0)) number_limit
+    (constant-small _ row c.row_at.ensures (ne_within row c.requires.fact_value.0 c.requires.fact_value.1)) (omega arith)
 
 pub returns-then-k-eq1 : goal.returns-then-k-eq1
 returns-then-k-eq1 c =
     let few = c.requires.fact_lt_fact_limit.0 in
     let room = c.requires.fact_lt_fact_limit.1 in
     let row = row_at c.args.work.now c.args.fact in
-    let e = c.row_at-row.ensures in
+    let e = c.row_at.ensures in
     let small = ne_within row c.requires.fact_value.0 c.requires.fact_value.1 in
     c.in_limit.ensures
     ∙ above_within (drop 1 row) _ (form-length row (length_row c.args.work.now c.args.fact (omega arith))) small
-    (above_is (get_or c.row_at-row.result.now 1 (pos 0)) number_limit (constant-small _ row e small) (omega arith)
+    (above_is (get_or c.row_at.result.now 1 (pos 0)) number_limit (constant-small _ row e small) (omega arith)
     ∙ ap (λ (z : ℤ). z +ℤ negsuc 0) (first-of-form _ row e))
     ∙ ap facts_within (child_one (arithmetic ge (above (drop 1 row)) ∷ []) ((arithmetic ge (below (drop 1 row)) ∷ []) ∷ []) c.args.k c.if-k-eq1.true)
 
-pub overflow_sub-c-2 : goal.overflow_sub-c-2
-overflow_sub-c-2 c =
+pub overflow_sub-constant-else-k-eq1 : goal.overflow_sub-constant-else-k-eq1
+overflow_sub-constant-else-k-eq1 c =
     let row = row_at c.args.work.now c.args.fact in
-    under_fits (get_or c.row_at-row.result.now 1 (pos 0)) number_limit
-    (constant-small _ row c.row_at-row.ensures (ne_within row c.requires.fact_value.0 c.requires.fact_value.1)) (omega arith)
+    under_fits (get_or c.row_at.result.now 1 (pos 0)) number_limit
+    (constant-small _ row c.row_at.ensures (ne_within row c.requires.fact_value.0 c.requires.fact_value.1)) (omega arith)
 
-pub returns : goal.returns
-returns c =
+pub returns-else-k-eq1 : goal.returns-else-k-eq1
+returns-else-k-eq1 c =
     let few = c.requires.fact_lt_fact_limit.0 in
     let room = c.requires.fact_lt_fact_limit.1 in
     let row = row_at c.args.work.now c.args.fact in
-    let e = c.row_at-row.ensures in
+    let e = c.row_at.ensures in
     let small = ne_within row c.requires.fact_value.0 c.requires.fact_value.1 in
     let second : c.args.k ≡ 2 = omega (arith, c.requires.fact_lt_fact_limit, c.if-k-eq1.false) in
-    c.in_limit-2.ensures
+    c.in_limit-else-k-eq1.ensures
     ∙ below_within (drop 1 row) _ (form-length row (length_row c.args.work.now c.args.fact (omega arith))) small
-    (under_is (get_or c.row_at-row.result.now 1 (pos 0)) number_limit (constant-small _ row e small) (omega arith)
+    (under_is (get_or c.row_at.result.now 1 (pos 0)) number_limit (constant-small _ row e small) (omega arith)
     ∙ ap (λ (z : ℤ). (negsuc 0 *ℤ z) +ℤ negsuc 0) (first-of-form _ row e))
     ∙ ap facts_within (child_two (arithmetic ge (above (drop 1 row)) ∷ []) (arithmetic ge (below (drop 1 row)) ∷ []) [] c.args.k second)

@@ -1,3 +1,4 @@
+use borrow.Author.Tests.{eq-eqb}
 use lib.IntN.{◌*ℤ◌, ◌+ℤ◌, negsuc, ℤ}
 use mathlib.Core.List.{[], ◌∷◌}
 use mathlib.Core.Path.{◌∙◌, ◌≡◌, ap, sym}
@@ -18,14 +19,14 @@ pub returns-then-k-eq1 : goal.returns-then-k-eq1
 returns-then-k-eq1 c =
     let a = c.args in
     let f = form_of a.b.now a.at a.pairs in
-    sym (form_within a.b.now column_limit a.at a.pairs c.requires.pairs_value) ∙ one_within (arithmetic ge f)
+    eq-eqb a.k 1 c.if-k-eq1.true ∙ sym (form_within a.b.now column_limit a.at a.pairs c.requires.pairs_value) ∙ one_within (arithmetic ge f)
     ∙ ap facts_within (child_one (arithmetic ge f ∷ []) ((arithmetic ge (below f) ∷ []) ∷ []) a.k c.if-k-eq1.true)
 
 pub overflow_sub-i32_at : goal.overflow_sub-i32_at
 overflow_sub-i32_at c = under_fits c.i32_at.result 2147483648 c.i32_at.ensures.1 (omega arith)
 
-pub returns : goal.returns
-returns c =
+pub returns-else-k-eq1 : goal.returns-else-k-eq1
+returns-else-k-eq1 c =
     let a = c.args in
     let b = a.b.now in
     let f = form_of b a.at a.pairs in

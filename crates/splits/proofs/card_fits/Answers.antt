@@ -1,5 +1,4 @@
 use Prim.Native.Nat.{ℕ, ◌+◌, ◌-◌}
-use borrow.Author.Tests.{not-false, not-true}
 use mathlib.Core.Bool.{Bool, ◌&&◌}
 use mathlib.Core.Path.{◌∙◌, ◌≡◌, sym, ap}
 use native.Mathlib.Omega.{arith}
@@ -13,14 +12,15 @@ use Rattle.rows.proofs.Tested.{guard_fits}
 use Rattle.splits.proofs.Neighbours.{card_children_law}
 use Rattle.splits.proofs.card_fits.Goals as goal
 
-pub returns-then-not-all_differ : goal.returns-then-not-all_differ
-returns-then-not-all_differ c =
+pub returns-else-all_differ : goal.returns-else-all_differ
+returns-else-all_differ c =
     let b = c.args.b.now in
     let br = branch_of c.args.work.now c.args.count in
-    sym (ap fits (card_children_law (numbered c.args.s) br b c.args.at c.args.m c.requires.le_m.0)
+    c.if-all_differ.false
+    ∙ sym (ap fits (card_children_law (numbered c.args.s) br b c.args.at c.args.m c.requires.le_m.0)
     ∙ guard_fits _ _
     ∙ ap (λ (t : Bool). t && neighbours (numbered c.args.s) br (u16 b c.args.at) (u16s b (c.args.at + 2) (c.args.m - 1)))
-    (sym c.all_differ.ensures ∙ not-true _ c.if-not-all_differ.true-raw))
+    (sym c.all_differ.ensures ∙ c.if-all_differ.false))
 
 pub overflow_sub-m : goal.overflow_sub-m
 overflow_sub-m c = let h = c.requires.le_m.0 in omega arith
@@ -33,18 +33,18 @@ lengths_agree-requires c =
     let e : c.args.m - 1 + 1 ≡ c.args.m = omega arith in record {
       others_in_bounds = (omega arith, c.requires.le_m.2, c.requires.le_m.3);
       others_value = (
-        ap (λ (n : ℕ). distinct (u16s b c.args.at n)) e ∙ sym c.all_differ.ensures ∙ not-false _ c.if-not-all_differ.false-raw,
+        ap (λ (n : ℕ). distinct (u16s b c.args.at n)) e ∙ sym c.all_differ.ensures ∙ c.if-all_differ.true,
         ap (λ (n : ℕ). are_variables c.args.s.p (u16s b c.args.at n)) e ∙ c.requires.m_value,
       );
       count_le_fact_limit = c.requires.count_le_fact_limit;
     }
 
-pub returns : goal.returns
-returns c =
+pub returns-then-all_differ : goal.returns-then-all_differ
+returns-then-all_differ c =
     let b = c.args.b.now in
     let br = branch_of c.args.work.now c.args.count in
     c.lengths_agree.ensures
     ∙ sym (ap fits (card_children_law (numbered c.args.s) br b c.args.at c.args.m c.requires.le_m.0)
     ∙ guard_fits _ _
     ∙ ap (λ (t : Bool). t && neighbours (numbered c.args.s) br (u16 b c.args.at) (u16s b (c.args.at + 2) (c.args.m - 1)))
-    (sym c.all_differ.ensures ∙ not-false _ c.if-not-all_differ.false-raw))
+    (sym c.all_differ.ensures ∙ c.if-all_differ.true))

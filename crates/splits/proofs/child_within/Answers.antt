@@ -1,7 +1,7 @@
 use Prim.Native.Nat.{◌+◌, ◌<◌, ℕ}
 use lib.ListN.{drop}
 use mathlib.Core.Bool.{true}
-use mathlib.Core.List.{List, [], ◌∷◌}
+use mathlib.Core.List.{List}
 use mathlib.Core.Option.{Option}
 use mathlib.Core.Path.{◌∙◌, ◌≡◌, ap, sym}
 use native.Mathlib.Omega.{arith}
@@ -14,7 +14,6 @@ use Rattle.rows.specs.Work.{tag_of}
 use Rattle.rows.proofs.Small.{fine_at}
 use Rattle.steps.proofs.Bodies.{given, is_rule}
 use Rattle.steps.proofs.Offered.{step_fits, number_of, child_in_within}
-use Rattle.steps.proofs.Rules.{not_several}
 use Rattle.splits.proofs.Limits.{others_within}
 use Rattle.splits.proofs.Operands.{branch_operands, branch_child, apart_operands, apart_fact, apart_child}
 use Rattle.splits.proofs.child_within.Goals as goal
@@ -61,22 +60,19 @@ apart_within-requires c =
 pub returns-in-Branch : goal.returns-in-Branch
 returns-in-Branch c =
     let e = is_rule c.requires.ready_by _ c.in-Branch.is in
-    c.branch_within.ensures ∙ sym (ap (λ (o : Option (List (List Fact))). facts_within (or_none (child_in o c.args.k))) (branch_child c.requires.ready_by.ready e))
+    c.branch_within.ensures
+    ∙ sym (ap (λ (o : Option (List (List Fact))). facts_within (or_none (child_in o c.args.k))) (branch_child c.requires.ready_by.ready e))
 
 pub returns-in-Apart : goal.returns-in-Apart
 returns-in-Apart c =
     let e = is_rule c.requires.ready_by _ c.in-Apart.is in
     c.apart_within.ensures
     ∙ ap (λ (n : ℕ). facts_within (or_none (child_at (apart_children (drop 1 (row_at c.args.work.now n))) c.args.k))) c.u16_at.ensures.0
-    ∙ sym (ap (λ (o : Option (List (List Fact))). facts_within (or_none (child_in o c.args.k))) (apart_child c.requires.ready_by.ready (fit (goal.at.returns-in-Apart c).Start) e))
+    ∙ sym (ap (λ (o : Option (List (List Fact))). facts_within (or_none (child_in o c.args.k)))
+    (apart_child c.requires.ready_by.ready (fit (goal.at.returns-in-Apart c).Start) e))
 
-pub returns-in-LValid : goal.returns-in-LValid
-returns-in-LValid c =
+pub returns-in_default : goal.returns-in_default
+returns-in_default c =
     let h = c.requires.ready_by in
-    sym (child_in_within (given h.ready) c.args.k (others_within h.ready (fit (goal.at.returns-in-LValid c).Start) c.args.rule h.named c.in-LValid.in-LValid-own.keys3))
-
-pub returns-in-Sum : goal.returns-in-Sum
-returns-in-Sum c = absurd (not_several (0 ∷ 5 ∷ 6 ∷ 8 ∷ 12 ∷ []) c.args.rule tt c.in-Sum.in-Sum-own.keys4 c.requires.ready_by.concludes)
-
-pub returns-in-AConf : goal.returns-in-AConf
-returns-in-AConf c = absurd (not_several (3 ∷ 4 ∷ 13 ∷ []) c.args.rule tt c.in-AConf.in-AConf-own.keys5 c.requires.ready_by.concludes)
+    sym (child_in_within (given h.ready) c.args.k (others_within h.ready (fit (goal.at.returns-in_default c).Start) c.args.rule h.named h.concludes
+    c.in_default.not-Branch c.in_default.not-Apart))

@@ -31,8 +31,8 @@ fill_below-requires c =
       pairs_value = form_rises c.args.b.now column_limit c.args.at c.args.pairs (omega arith) c.requires.pairs_value;
     }
 
-pub returns : goal.returns
-returns c =
+pub returns-else-k-eq1 : goal.returns-else-k-eq1
+returns-else-k-eq1 c =
     let f = form_of c.args.b.now c.args.at c.args.pairs in
     let second : c.args.k ≡ 2 = omega (arith, c.requires.row_len, c.if-k-eq1.false) in
     ap (λ (g : Fact). g ∷ []) c.fill_below.ensures

@@ -1,21 +1,22 @@
 use Prim.Native.Nat.{◌+◌, ◌-◌, ◌/◌, ℕ}
 use lib.Dec.{eqb}
 use lib.ListN.{get_elem?}
-use mathlib.Core.Bool.{not}
-use mathlib.Core.List.{[], ◌∷◌}
-use mathlib.Core.Path.{◌∙◌, ap, ap₂, sym}
+use mathlib.Core.Bool.{not, true}
+use mathlib.Core.Logic.{inl, inr}
+use mathlib.Core.Path.{◌≡◌, ◌∙◌, ap, ap₂, refl, sym}
 use native.Mathlib.Omega.{arith}
 use Rattle.calculus.specs.Children.{c_inj_children}
-use Rattle.calculus.specs.Rules.{then, apart_of}
+use Rattle.calculus.specs.Rules.{children, then, apart_of}
 use Rattle.format.specs.Fields.{u16, u16s}
-use Rattle.format.specs.StepForms.{branch, apart, l_valid, c_valid, c_inj, card, step_of}
+use Rattle.format.specs.StepForms as format
+use Rattle.format.specs.StepForms.{rule, branch, apart, l_valid, c_valid, c_inj, card, step_of}
 use Rattle.format.specs.Checking.{fits}
 use Rattle.question.specs.Posed.{asked, numbered}
 use Rattle.rows.specs.Rows.{branch_of}
 use Rattle.rows.proofs.Tested.{guard_fits}
 use Rattle.steps.proofs.Bodies.{is_rule}
+use Rattle.steps.specs.Offered.{offered}
 use Rattle.steps.proofs.Offered.{offered_by}
-use Rattle.steps.proofs.Rules.{not_several}
 use Rattle.steps.proofs.Variables.{card_operands}
 use Rattle.splits.proofs.Operands.{card_same, apart_operands, c_inj_operands}
 use Rattle.splits.proofs.fits.Goals as goal
@@ -51,7 +52,14 @@ unfolding step_of
 returns-in-Branch c =
     let a = c.args in
     let b = a.ticket.now in
-    sym (ap fits (offered_by b (asked b a.s) (branch_of a.work.now a.count) a.body a.size branch (is_rule c.requires _ c.in-Branch.is)))
+    let always : (r : format.Rule) → r ≡ rule b a.body → fits (children (asked b a.s) (branch_of a.work.now a.count) (step_of b r a.body a.size)) ≡ true
+    → true ≡ fits (offered b (asked b a.s) (branch_of a.work.now a.count) a.body a.size) =
+    λ r e t. sym (ap fits (offered_by b (asked b a.s) (branch_of a.work.now a.count) a.body a.size r e) ∙ t) in
+    elim c.in-Branch.is [
+      | inl e ↦ always branch (is_rule c.requires _ e) refl
+      | inr (inl e) ↦ always l_valid (is_rule c.requires _ e) refl
+      | inr (inr e) ↦ always c_valid (is_rule c.requires _ e) refl
+    ]
 
 pub returns-in-Apart : goal.returns-in-Apart
 unfolding step_of
@@ -61,22 +69,6 @@ returns-in-Apart c =
     let br = branch_of a.work.now a.count in
     c.parts.ensures ∙ ap (λ (n : ℕ). fits (then (get_elem? br n) apart_of)) c.u16_at.ensures.0
     ∙ sym (ap fits (offered_by b (asked b a.s) br a.body a.size apart (is_rule c.requires _ c.in-Apart.is)))
-
-pub returns-in-LValid : goal.returns-in-LValid
-unfolding step_of
-returns-in-LValid c =
-    let a = c.args in
-    let b = a.ticket.now in
-    sym (ap fits
-    (offered_by b (asked b a.s) (branch_of a.work.now a.count) a.body a.size l_valid (is_rule c.requires _ c.in-LValid.is)))
-
-pub returns-in-CValid : goal.returns-in-CValid
-unfolding step_of
-returns-in-CValid c =
-    let a = c.args in
-    let b = a.ticket.now in
-    sym (ap fits
-    (offered_by b (asked b a.s) (branch_of a.work.now a.count) a.body a.size c_valid (is_rule c.requires _ c.in-CValid.is)))
 
 pub returns-in-CInj : goal.returns-in-CInj
 unfolding step_of asked
@@ -98,9 +90,3 @@ returns-in-Card c =
     let br = branch_of a.work.now a.count in
     c.card_fits.ensures ∙ ap fits (card_same b a.s br (u16s b (a.body + 4) ((a.size - 4) / 2)))
     ∙ sym (ap fits (offered_by b (asked b a.s) br a.body a.size card (is_rule c.requires _ c.in-Card.is)))
-
-pub returns-in-Sum : goal.returns-in-Sum
-returns-in-Sum c = absurd (not_several (0 ∷ 5 ∷ 6 ∷ 8 ∷ 12 ∷ []) c.args.rule tt c.in-Sum.in-Sum-own.keys7 c.requires.concludes)
-
-pub returns-in-AConf : goal.returns-in-AConf
-returns-in-AConf c = absurd (not_several (3 ∷ 4 ∷ 13 ∷ []) c.args.rule tt c.in-AConf.in-AConf-own.keys8 c.requires.concludes)

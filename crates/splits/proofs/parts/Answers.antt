@@ -1,4 +1,5 @@
-use Prim.Native.Nat.{ℕ}
+use Prim.Native.Nat.{ℕ, suc}
+use borrow.Author.Tests.{lt-leb}
 use lib.IntN.{ℤ}
 use lib.ListN.{length}
 use lib.Dec.{eqb}
@@ -11,15 +12,17 @@ use Rattle.rows.proofs.Branches.{length_row}
 use Rattle.splits.proofs.Forms.{parted_beyond, parted_test}
 use Rattle.splits.proofs.parts.Goals as goal
 
-pub returns-then-count-fact : goal.returns-then-count-fact
-returns-then-count-fact c = sym (parted_beyond c.args.work.now c.args.count c.args.fact c.if-count-fact.true)
+pub returns-else-fact-count : goal.returns-else-fact-count
+returns-else-fact-count c =
+    lt-leb (suc c.args.fact) c.args.count (omega (arith, c.if-fact-count.false))
+    ∙ sym (parted_beyond c.args.work.now c.args.count c.args.fact c.if-fact-count.false)
 
 pub tag_of-requires : goal.tag_of-requires
 tag_of-requires c =
     let few = c.requires.0 in
     ap length c.row_at.ensures ∙ length_row c.args.work.now c.args.fact (omega arith)
 
-pub returns : goal.returns
-returns c =
+pub returns-then-fact-count : goal.returns-then-fact-count
+returns-then-fact-count c =
     ap (λ (n : ℕ). eqb n 2) (c.tag_of.ensures ∙ ap (λ (r : List ℤ). tag_of (fact_of r)) c.row_at.ensures)
     ∙ parted_test c.args.work.now c.args.count c.args.fact (omega arith)

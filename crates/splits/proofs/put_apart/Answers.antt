@@ -30,8 +30,8 @@ put_below-requires c =
       earlier_value = ne_within (row_at c.args.work.now c.args.fact) c.requires.fact_value.0 c.requires.fact_value.1;
     }
 
-pub returns : goal.returns
-returns c =
+pub returns-else-k-eq1 : goal.returns-else-k-eq1
+returns-else-k-eq1 c =
     let e = drop 1 (row_at c.args.work.now c.args.fact) in
     let second : c.args.k ≡ 2 = omega (arith, c.requires.fact_lt_count, c.if-k-eq1.false) in
     c.put_below.ensures

@@ -27,26 +27,26 @@ module _ (s : Start) where
   abbrev three : List Fact
   three = same s.args.x s.args.y ∷ []
 
-pub returns-then-k-eq1 : goal.returns-then-k-eq1
+pub returns-in-1 : goal.returns-in-1
 unfolding column_at
-returns-then-k-eq1 c =
-    let here = (goal.at.returns-then-k-eq1 c).Start in
+returns-in-1 c =
+    let here = (goal.at.returns-in-1 c).Start in
     let br = branch_of c.args.work.now c.args.count in
     let j = c.column_of-first in
     c.put_single.ensures
     ∙ ap (λ (l : List ℤ). br ++ (arithmetic eq l ∷ [])) (sym (minus_number j.result j.ensures.1 (negsuc 0)))
     ∙ ap (λ (i : ℕ). br ++ (arithmetic eq (minus (column i) (number (negsuc 0))) ∷ [])) j.ensures.0
     ∙ ap (λ (l : List Fact). br ++ l) (child_one (one here)
-    (two here ∷ three here ∷ []) c.args.k c.if-k-eq1.true)
+    (two here ∷ three here ∷ []) c.args.k c.in-1.is)
 
 pub put_difference-requires : goal.put_difference-requires
 unfolding column_at
 put_difference-requires c = search rules
 
-pub returns-then-k-eq2 : goal.returns-then-k-eq2
+pub returns-in-2 : goal.returns-in-2
 unfolding column_at
-returns-then-k-eq2 c =
-    let here = (goal.at.returns-then-k-eq2 c).Start in
+returns-in-2 c =
+    let here = (goal.at.returns-in-2 c).Start in
     let br = branch_of c.args.work.now c.args.count in
     let i = c.column_of-first in
     let j = c.column_of in
@@ -57,12 +57,12 @@ returns-then-k-eq2 c =
     (sym (columns_difference i.result j.result i.ensures.1 j.ensures.1 (λ q. c.requires.x_lt_variable_limit.2 (omega arith))))
     ∙ ap₂ (λ (i j : ℕ). br ++ (arithmetic ne (minus (column i) (column j)) ∷ [])) ei ej
     ∙ ap (λ (l : List Fact). br ++ l) (child_two (one here) (two here)
-    (three here ∷ []) c.args.k c.if-k-eq2.true)
+    (three here ∷ []) c.args.k c.in-2.is)
 
-pub returns : goal.returns
-returns c =
-    let here = (goal.at.returns c).Start in
-    let e : c.args.k ≡ 3 = omega (arith, c.requires.x_lt_variable_limit, c.if-k-eq1.false, c.if-k-eq2.false) in
+pub returns-in_default : goal.returns-in_default
+returns-in_default c =
+    let here = (goal.at.returns-in_default c).Start in
+    let e : c.args.k ≡ 3 = omega (arith, c.requires.x_lt_variable_limit, c.in_default) in
     c.put_string.ensures
     ∙ ap (λ (l : List Fact). branch_of c.args.work.now c.args.count ++ l)
     (child_three (one here) (two here) (three here) [] c.args.k e)

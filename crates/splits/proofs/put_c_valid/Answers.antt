@@ -15,8 +15,8 @@ returns-then-k-eq1 c =
     (c_valid_one c.args.s c.args.x len.result code.result len.ensures.0 code.ensures.0 len.ensures.1 code.ensures.1
     c.args.k c.if-k-eq1.true)
 
-pub returns : goal.returns
-returns c =
+pub returns-else-k-eq1 : goal.returns-else-k-eq1
+returns-else-k-eq1 c =
     let len = c.column_of-len in
     let code = c.column_of-code in
     let e : c.args.k ≡ 2 = omega (arith, c.requires, c.if-k-eq1.false) in

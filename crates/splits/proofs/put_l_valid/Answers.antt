@@ -18,9 +18,9 @@ returns-then-k-eq1 c =
     (child_one (is_literal c.args.x 0 ∷ []) ((arithmetic ge (above (column (c.args.s.q + c.args.x))) ∷ []) ∷ []) c.args.k
     c.if-k-eq1.true)
 
-pub returns : goal.returns
+pub returns-else-k-eq1 : goal.returns-else-k-eq1
 unfolding column_at
-returns c =
+returns-else-k-eq1 c =
     let br = branch_of c.args.work.now c.args.count in
     let e : c.args.k ≡ 2 = omega (arith, c.requires.x_lt_variable_limit, c.if-k-eq1.false) in
     let j = c.column_of in
