@@ -25,7 +25,7 @@ use Rattle.rows.proofs.Branches.{branch_take, branch_grown, length_row}
 use Rattle.rows.proofs.Tags.{row_string}
 use Rattle.classes.specs.declared.Known.{Known}
 use Rattle.classes.specs.Classes.{Knows, set_back, literal_of}
-use Rattle.classes.proofs.Ranges.{any_range}
+use Rattle.lists.proofs.Library.{any_below_is}
 
 -- ---- labels
 
@@ -150,7 +150,7 @@ any_sides ls w (suc n) =
 
 pub sides_range : (ls : List ℕ) (w : List ℤ) (n : ℕ)
     → list_any (λ (k : ℕ). sides_meet ls (fact_of (row_at w k) ∷ [])) (range_with_len 0 n) ≡ sides_meet ls (branch_of w n)
-sides_range ls w n = any_range (λ k. sides_meet ls (fact_of (row_at w k) ∷ [])) n ∙ any_sides ls w n
+sides_range ls w n = any_below_is (λ k. sides_meet ls (fact_of (row_at w k) ∷ [])) n ∙ any_sides ls w n
 
 no_sides : (ls : List ℕ) (f : Fact) → (tag_of f ≡ 4 → ⊥) → sides_meet ls (f ∷ []) ≡ false
 unfolding tag_of

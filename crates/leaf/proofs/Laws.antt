@@ -1,17 +1,19 @@
 -- Laws of the tests by values, and of loops over variables.
 use mathlib.Core.Path.{◌≡◌, refl, sym, ◌∙◌, ap, ap₂}
-use mathlib.Core.Bool.{Bool, true, false, not, cond, ◌&&◌, ◌||◌, and-false, or-true, or-false}
+use mathlib.Core.Bool.{Bool, true, false, not, cond, ◌&&◌, ◌||◌, and_assoc, or-true, or-false}
 use mathlib.Core.Option.{Option, none, some}
-use mathlib.Core.List.{List, ◌∷◌}
+use mathlib.Core.List.{List, [], ◌∷◌}
 use Prim.Native.Nat.{ℕ, zero, suc, ◌+◌, ◌-◌, ◌^◌, ◌≤◌, ◌<◌}
 use native.Mathlib.Omega.{arith}
 use native.Mathlib.Numerals.{add-one}
-use native.Mathlib.Decide.{dec_lt}
-use borrow.Author.Tests.{eq-eqb, ne_eqb, le-leb, lt-leb, leb-true, leb-false}
-use lib.ListN.{length, get_or}
+use borrow.Author.Tests.{le-leb, lt-leb, leb-true, leb-false}
+use lib.ListN.{length, get_or, length-append}
 use lib.Dec.{eqb, leb}
 use lib.IntN.{ℤ, pos, negsuc, nat_abs}
 use lib.Signed.{lt_z}
+use Rattle.std.specs.List.{filter, range_with_len}
+use Rattle.std.proofs.lemmas.List.Elements.{filter-append}
+use Rattle.classes.proofs.Ranges.{range_more}
 use Rattle.lists.specs.Lists.{any, all_below}
 use Rattle.lists.proofs.Tests.{true→}
 use Rattle.calculus.specs.Alphabet.{character_count}
@@ -101,28 +103,24 @@ module _ (z w c d : ℤ) where
 
 -- ---- counting classes
 
-module _ (a y : ℕ) (t : Bool) where
-  pub tally_other : t ≡ false → ◌≡◌ {A = ℕ} 0 (cond (t && eqb a y) 1 0)
-  tally_other e = rw e
-
-  pub tally_higher : t ≡ true → (a ≡ y → ⊥) → ◌≡◌ {A = ℕ} 0 (cond (t && eqb a y) 1 0)
-  tally_higher e h = rw (e, ne_eqb a y h)
-
-  pub tally_one : t ≡ true → a ≡ y → ◌≡◌ {A = ℕ} 1 (cond (t && eqb a y) 1 0)
-  tally_one e h = rw (e, eq-eqb a y h)
-
 module _ (u : Question) (ls : List ℕ) (m : List ℤ) (z : ℤ) where
-  pub count_more : (y r : ℕ) → r ≡ cond (eqℤ (model_value u m len y) z && eqb (lowest_variable ls y) y) 1 0
-      → length (lowest_of_length u ls m z y) + r ≡ length (lowest_of_length u ls m z (y + 1))
-  count_more y r e =
-      ap (λ (k : ℕ). length (lowest_of_length u ls m z y) + k) e ∙ go (eqℤ (model_value u m len y) z && eqb (lowest_variable ls y) y)
-      ∙ sym (ap (λ (k : ℕ). length (lowest_of_length u ls m z k)) (add-one y))
+  abbrev pub is_lowest : ℕ → Bool
+  is_lowest y = eqℤ (model_value u m len y) z && eqb (lowest_variable ls y) y
+
+  pub classes_counted : (k : ℕ) → length (filter is_lowest (range_with_len 0 k)) ≡ length (lowest_of_length u ls m z k)
+  classes_counted zero = refl
+  classes_counted (suc k) =
+      ap (λ (l : List ℕ). length (filter is_lowest l)) (range_more 0 k k (omega arith))
+      ∙ ap length (filter-append is_lowest (range_with_len 0 k) (k ∷ []))
+      ∙ length-append (filter is_lowest (range_with_len 0 k)) (filter is_lowest (k ∷ []))
+      ∙ go (is_lowest k) (classes_counted k)
     where
       go : (t : Bool)
-          → length (lowest_of_length u ls m z y) + cond t 1 0
-          ≡ length {A = ℕ} (elim t as (λ _. List ℕ) [ true ↦ y ∷ lowest_of_length u ls m z y | false ↦ lowest_of_length u ls m z y ])
-      go true = add-one (length (lowest_of_length u ls m z y))
-      go false = omega arith
+          → length (filter is_lowest (range_with_len 0 k)) ≡ length (lowest_of_length u ls m z k)
+          → length (filter is_lowest (range_with_len 0 k)) + length (cond t (k ∷ []) [])
+          ≡ length {A = ℕ} (elim t as (λ _. List ℕ) [ true ↦ k ∷ lowest_of_length u ls m z k | false ↦ lowest_of_length u ls m z k ])
+      go true e = omega arith
+      go false e = omega arith
 
 -- Card's bound
 pub room_unary : (n k size : ℕ) → n ≤ 1 → roomy n k size ≡ false
@@ -166,20 +164,6 @@ card_roomy u ls m x e =
     counted u ls m x k refl
     ∙ ap (λ (t : Bool). leb k 1 || t) (room_fewer u.n u.p k (nat_abs (model_value u m len x)) (lowests_few u ls m (model_value u m len x) u.p) e)
     ∙ or-true (leb k 1)
-
--- ---- every variable
-
-module _ (t : ℕ → Bool) where
-  pub every_more : (i : ℕ) → all_below i t ≡ true → t i ≡ true → all_below (i + 1) t ≡ true
-  every_more i e f = rw (add-one, e, f)
-
-  pub every_no : (m i : ℕ) → i < m → t i ≡ false → all_below m t ≡ false
-  every_no zero i h e = absurd (omega arith)
-  every_no (suc m) i h e = go (λ l. every_no m i l e) (dec_lt i m)
-    where
-      go : (i < m → all_below m t ≡ false) → Dec (i < m) → all_below (suc m) t ≡ false
-      go ih (yes l) = rw (ih l) (and-false (t m))
-      go ih (no n) = let k : m ≡ i = omega arith in ap (λ (z : ℕ). t z && all_below m t) k ∙ rw e
 
 -- ---- what is said of a question by its numbers
 
@@ -237,25 +221,11 @@ module _ (u : Question) (ls : List ℕ) (m : List ℤ) (x : ℕ) where
   abbrev pub from_literal : Bool
   from_literal = literal_fits u (literal_in u ls x) z c
 
-  pub var_literal : from_literal ≡ false → var_fits u ls m x ≡ false
+  pub var_all : var_fits u ls m x ≡ (((from_literal && l_valid_fits ls x z) && code_fits u.n z c) && settled_card u ls m x)
   unfolding var_fits
-  var_literal e = ap (λ (t : Bool). t && (l_valid_fits ls x z && (code_fits u.n z c && settled_card u ls m x))) e
-
-  past_literal : from_literal ≡ true → var_fits u ls m x ≡ (l_valid_fits ls x z && (code_fits u.n z c && settled_card u ls m x))
-  unfolding var_fits
-  past_literal e = ap (λ (t : Bool). t && (l_valid_fits ls x z && (code_fits u.n z c && settled_card u ls m x))) e
-
-  pub var_length : from_literal ≡ true → l_valid_fits ls x z ≡ false → var_fits u ls m x ≡ false
-  var_length e f = past_literal e ∙ ap (λ (t : Bool). t && (code_fits u.n z c && settled_card u ls m x)) f
-
-  past_length : from_literal ≡ true → l_valid_fits ls x z ≡ true → var_fits u ls m x ≡ (code_fits u.n z c && settled_card u ls m x)
-  past_length e f = past_literal e ∙ ap (λ (t : Bool). t && (code_fits u.n z c && settled_card u ls m x)) f
-
-  pub var_code : from_literal ≡ true → l_valid_fits ls x z ≡ true → code_fits u.n z c ≡ false → var_fits u ls m x ≡ false
-  var_code e f g = past_length e f ∙ ap (λ (t : Bool). t && settled_card u ls m x) g
-
-  pub var_card : from_literal ≡ true → l_valid_fits ls x z ≡ true → code_fits u.n z c ≡ true → var_fits u ls m x ≡ settled_card u ls m x
-  var_card e f g = past_length e f ∙ ap (λ (t : Bool). t && settled_card u ls m x) g
+  var_all =
+      sym (and_assoc from_literal (l_valid_fits ls x z) (code_fits u.n z c && settled_card u ls m x))
+      ∙ sym (and_assoc (from_literal && l_valid_fits ls x z) (code_fits u.n z c) (settled_card u ls m x))
 
 -- ---- S-Conf
 

@@ -3,7 +3,7 @@ use mathlib.Core.Path.{◌≡◌, refl, sym, ◌∙◌, ap, ap₂}
 use mathlib.Core.Bool.{Bool, true, false, not}
 use Prim.Native.Nat.{ℕ, suc, ◌-◌, ◌^◌}
 use native.Mathlib.Omega.{arith}
-use borrow.Author.Tests.{eqb-true, eqb-false, eq-eqb, ne_eqb, le-leb, lt-leb, ltb-true, ltb-false}
+use borrow.Author.Tests.{eqb-true, eqb-false, eq-eqb, ne_eqb, le-leb, le-ltb, lt-leb, ltb-true, ltb-false}
 use lib.Dec.{eqb, leb, ltb}
 use lib.IntN.{ℤ, pos, negsuc, ◌-ℤ◌}
 use lib.Signed.{le_z, lt_z}
@@ -47,3 +47,16 @@ at_most (negsuc m) (negsuc n) = go (ltb m n) refl
     go : (t : Bool) → ltb m n ≡ t → leb n m ≡ not (ltb m n)
     go true e = lt-leb n m (ltb-true m n e) ∙ sym (ap not e)
     go false e = le-leb n m (ltb-false m n e) ∙ sym (ap not e)
+
+-- what a test of the machine's numbers says
+module _ (x y : ℤ) (f : SFits w64 x) (g : SFits w64 y) where
+  pub equal_true : of_z w64 x ≡ of_z w64 y → eqℤ x y ≡ true
+  equal_true e = sym (bits_equal x y f g) ∙ eq-eqb (of_z w64 x) (of_z w64 y) e
+
+  pub equal_false : (of_z w64 x ≡ of_z w64 y → ⊥) → eqℤ x y ≡ false
+  equal_false e = sym (bits_equal x y f g) ∙ ne_eqb (of_z w64 x) (of_z w64 y) e
+
+-- below zero, by the test of at least zero
+pub below_zero : (x : ℤ) → lt_z x (pos 0) ≡ not (le_z (pos 0) x)
+below_zero (pos n) = le-ltb n 0 (omega arith) ∙ sym (ap not (le-leb 0 n (omega arith)))
+below_zero (negsuc n) = refl

@@ -38,11 +38,7 @@ pub fn equal(a: i64, b: i64) -> bool
 pub fn magnitude(z: i64) -> usize
     ensures { result ≡ nat_abs z }
 {
-    if z < 0 {
-        let rest = -1 - z;
-        return (rest as usize) + 1;
-    }
-    z as usize
+    z.unsigned_abs() as usize
 }
 
 // ---- the model's values
@@ -52,8 +48,7 @@ pub fn value_of(model: &[i64], s: Progress, function: usize, x: usize) -> i64
     requires { Modelled model.now s × (x < s.p) }
     ensures { result ≡ model_value (numbered s) model.now (function_of function) x }
 {
-    let at = question::column_of(s.p, s.q, function, x);
-    model[at]
+    model[question::column_of(s.p, s.q, function, x)]
 }
 
 // ---- the rules with one variable
@@ -63,12 +58,7 @@ fn fits_text(ticket: &[u8], at: usize, count: usize, len: i64, code: i64) -> boo
     requires { at + 4 * count ≤ length ticket.now }
     ensures { result ≡ text_fits (u32s ticket.now at count) len code }
 {
-    let size = count as i64;
-    if !equal(len, size) {
-        return false;
-    }
-    let c = question::text_code(ticket, at, count);
-    equal(code, c)
+    len == count as i64 && code == question::text_code(ticket, at, count)
 }
 
 // L-Intro and C-Collapse for variable x, whose length and code are given.
@@ -84,8 +74,7 @@ fn literal_fits(
     requires { Posed ticket.now s × (length labels.now ≡ node_count) × (x < variable_limit) × LiteralsAt ticket.now places.now s }
     ensures { result ≡ literal_fits (asked ticket.now s) (literal_in (asked ticket.now s) labels.now x) len code }
 {
-    let found = classes::class_literal(labels, s.literals + 1, x);
-    match found {
+    match classes::class_literal(labels, s.literals + 1, x) {
         Some(l) => {
             let text = question::placed_text(ticket, places, l);
             fits_text(ticket, text.at, text.count, len, code)
@@ -99,10 +88,7 @@ fn length_fits(labels: &[u8], x: usize, len: i64) -> bool
     requires { (length labels.now ≡ node_count) × (x < variable_limit) }
     ensures { result ≡ l_valid_fits labels.now x len }
 {
-    if classes::class_holds(labels, x, EMPTY) {
-        return true;
-    }
-    len > 0
+    classes::class_holds(labels, x, EMPTY) || len > 0
 }
 
 // C-Valid.
@@ -110,30 +96,11 @@ fn code_fits(n: usize, len: i64, code: i64) -> bool
     requires { 1 ≤ n }
     ensures { result ≡ code_fits n len code }
 {
-    if equal(len, 1) {
-        if code < 0 {
-            return false;
-        }
-        let c = code as usize;
-        return c <= n - 1;
+    if len == 1 {
+        code >= 0 && code as usize <= n - 1
+    } else {
+        code == -1
     }
-    equal(code, -1)
-}
-
-// 1 for the lowest variable of its class whose length is the given one, else 0.
-fn tally(labels: &[u8], y: usize, len: i64, wanted: i64) -> usize
-    requires { (length labels.now ≡ node_count) × (y < variable_limit) }
-    ensures value { result ≡ cond (eqℤ len wanted && eqb (lowest_variable labels.now y) y) 1 0 }
-    ensures upper_bound { result ≤ 1 }
-{
-    if !equal(len, wanted) {
-        return 0;
-    }
-    let first = classes::lowest_variable(labels, y);
-    if first != y {
-        return 0;
-    }
-    1
 }
 
 // The number of classes whose length is the given one.
@@ -142,15 +109,10 @@ fn classes_of(model: &[i64], s: Progress, labels: &[u8], wanted: i64) -> usize
     ensures value { result ≡ length (lowest_of_length (numbered s) labels.now model.now wanted s.p) }
     ensures upper_bound { result ≤ s.p }
 {
-    let mut count = 0;
-    let mut y = 0;
-    while y < s.p {
-        let len = value_of(model, s, LEN, y);
-        let one = tally(labels, y, len, wanted);
-        count += one;
-        y += 1;
-    }
-    count
+    (0..s.p)
+        .filter(|y| value_of(model, s, LEN, *y) == wanted
+            && classes::lowest_variable(labels, *y) == *y)
+        .count()
 }
 
 // Are there n characters and a length for k different strings?
@@ -158,11 +120,7 @@ fn has_room(n: usize, k: usize, size: usize) -> bool
     requires { (n ≤ alphabet_limit) × (k ≤ variable_limit) }
     ensures { result ≡ roomy n k size }
 {
-    if n <= 1 {
-        return false;
-    }
-    let least = card::least_power(n, k);
-    least <= size
+    n > 1 && card::least_power(n, k) <= size
 }
 
 // Card for the length of variable x. It has at most p classes, which are counted only where there is no room for p strings.
@@ -176,10 +134,7 @@ fn card_fits(model: &[i64], s: Progress, labels: &[u8], x: usize) -> bool
         return true;
     }
     let count = classes_of(model, s, labels, len);
-    if count <= 1 {
-        return true;
-    }
-    has_room(s.n, count, size)
+    count <= 1 || has_room(s.n, count, size)
 }
 
 // L-Intro, C-Collapse, L-Valid, C-Valid and Card for variable x.
@@ -196,16 +151,10 @@ fn var_fits(
 {
     let len = value_of(model, s, LEN, x);
     let code = value_of(model, s, CODE, x);
-    if !literal_fits(ticket, places, s, labels, x, len, code) {
-        return false;
-    }
-    if !length_fits(labels, x, len) {
-        return false;
-    }
-    if !code_fits(s.n, len, code) {
-        return false;
-    }
-    card_fits(model, s, labels, x)
+    literal_fits(ticket, places, s, labels, x, len, code)
+        && length_fits(labels, x, len)
+        && code_fits(s.n, len, code)
+        && card_fits(model, s, labels, x)
 }
 
 // ---- the rules with two variables
@@ -215,15 +164,10 @@ fn pair_by(same: bool, z: i64, w: i64, c: i64, d: i64) -> bool
     ensures { result ≡ pair_by same z w c d }
 {
     if same {
-        if !equal(z, w) {
-            return false;
-        }
-        return equal(c, d);
+        z == w && c == d
+    } else {
+        c == -1 || c != d
     }
-    if equal(c, -1) {
-        return true;
-    }
-    !equal(c, d)
 }
 
 // The two rules for variable x, whose length and code are given, with variable y.
@@ -252,14 +196,7 @@ fn pairs_fit(model: &[i64], s: Progress, labels: &[u8], x: usize) -> bool
 {
     let len = value_of(model, s, LEN, x);
     let code = value_of(model, s, CODE, x);
-    let mut y = 0;
-    while y < x {
-        if !pair_fits(model, s, labels, x, len, code, y) {
-            return false;
-        }
-        y += 1;
-    }
-    true
+    (0..x).all(|y| pair_fits(model, s, labels, x, len, code, y))
 }
 
 // ---- every variable
@@ -276,24 +213,14 @@ fn values_fit(
     requires { LeafReady ticket.now places.now model.now s × (length labels.now ≡ node_count) × (x < s.p) }
     ensures { result ≡ by_earlier (asked ticket.now s) labels.now model.now x }
 {
-    if !var_fits(ticket, places, model, s, labels, x) {
-        return false;
-    }
-    pairs_fit(model, s, labels, x)
+    var_fits(ticket, places, model, s, labels, x) && pairs_fit(model, s, labels, x)
 }
 
 fn every_fits(ticket: &[u8], places: &[usize], model: &[i64], s: Progress, labels: &[u8]) -> bool
     requires { LeafReady ticket.now places.now model.now s × (length labels.now ≡ node_count) }
     ensures { result ≡ all_below s.p (by_earlier (asked ticket.now s) labels.now model.now) }
 {
-    let mut x = 0;
-    while x < s.p {
-        if !values_fit(ticket, places, model, s, labels, x) {
-            return false;
-        }
-        x += 1;
-    }
-    true
+    (0..s.p).all(|x| values_fit(ticket, places, model, s, labels, x))
 }
 
 // "A leaf is settled by its model if S-Conf does not fit and, for every choice of operands whose premise holds in rules 6 to 12, some child holds already".
@@ -310,10 +237,8 @@ pub fn settled(
     requires labels_value { labels.now ≡ classes.labels (branch_of work.now count) }
     ensures { result ≡ test.settled (asked ticket.now s) (branch_of work.now count) model.now }
 {
-    if classes::conflict(work, count, labels, s.literals + 1) {
-        return false;
-    }
-    every_fits(ticket, places, model, s, labels)
+    !classes::conflict(work, count, labels, s.literals + 1)
+        && every_fits(ticket, places, model, s, labels)
 }
 
 // No "length passes 64".
@@ -321,13 +246,5 @@ pub fn short_lengths(model: &[i64], s: Progress) -> bool
     requires { Modelled model.now s }
     ensures { result ≡ short_lengths (numbered s) model.now }
 {
-    let mut x = 0;
-    while x < s.p {
-        let len = value_of(model, s, LEN, x);
-        if len > LENGTH_LIMIT as i64 {
-            return false;
-        }
-        x += 1;
-    }
-    true
+    (0..s.p).all(|x| value_of(model, s, LEN, x) <= LENGTH_LIMIT as i64)
 }

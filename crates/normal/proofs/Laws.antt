@@ -1,26 +1,27 @@
 -- Laws for the loops over a form and over rows, and what a row's tag and numbers say of its fact's normal form.
 use Prim.Native.Nat.{ℕ, zero, suc, ◌+◌, ◌*◌, ◌-◌, ◌≤◌, ◌<◌}
 use native.Mathlib.Omega.{arith}
-use native.Mathlib.Numerals.{add-one}
 use native.Mathlib.Nat.{div-le_self}
 use mathlib.Core.Path.{◌≡◌, refl, sym, ◌∙◌, ap, ap₂}
-use mathlib.Core.Bool.{Bool, true, false, cond}
-use mathlib.Core.List.{List, [], ◌∷◌, ◌++◌, map, map-append}
+use mathlib.Core.Bool.{Bool, true, false, cond, not}
+use mathlib.Core.List.{List, [], ◌∷◌, ◌++◌, append-nil, map, map-append}
 use borrow.Rule.Slice.PartMut.{put_mid, drop_put}
 use borrow.Author.Tests.{le-leb, lt-leb}
 use lib.ListN.{length, get_or, drop, set, drop_of_length-le}
-use lib.Seq.{drop-cons, drop-drop}
+use lib.Seq.{drop-drop}
 use lib.Dec.{leb}
 use lib.IntN.{ℤ, pos, negsuc, nat_abs}
 use lib.Signed.{non_neg}
+use Rattle.std.proofs.Common.{unwrap_or, Some}
+use Rattle.std.specs.List.{find}
+use Rattle.calculus.proofs.Divisors.{gcd_le}
 use Rattle.integers.specs.Division.{floor_div}
 use Rattle.integers.proofs.Laws.{floor_one}
 use Rattle.lists.specs.Lists.{All}
-use Rattle.lists.proofs.Filled.{changed_from}
 use Rattle.calculus.specs.Limits.{number_limit, variable_limit, Small}
 use Rattle.calculus.specs.LinearForms.{is_zero, scale, floor_div_all}
 use Rattle.calculus.specs.Facts.{Fact, same, not_same, is_literal, arithmetic, ge, eq, ne}
-use Rattle.calculus.specs.NormalForms.{gcd, divisor_of, divided_by, reduced, first_nonzero, leading, with_positive_lead, turned, normal}
+use Rattle.calculus.specs.NormalForms.{divisor_of, divided_by, reduced, first_nonzero, leading, with_positive_lead, turned, normal}
 use Rattle.format.specs.Fields.{all_within}
 use Rattle.format.specs.Question.{string_fact, relation_of}
 use Rattle.format.specs.Checking.{fact_within}
@@ -30,21 +31,21 @@ use Rattle.rows.specs.Work.{tag_of}
 use Rattle.rows.proofs.Branches.{branch_more}
 use Rattle.rows.proofs.Tags.{row_relation, row_string, tag_kept, index_of}
 
--- ---- a row whose form is changed number by number
+-- ---- a row whose form is lent and comes back
 
-pub form_changed : (f : ℤ → ℤ) (row : List ℤ) → length row ≡ 50 → changed_from 1 f row ≡ get_or row 0 (pos 0) ∷ map f (drop 1 row)
-form_changed f [] h = absurd (omega arith)
-form_changed f (x ∷ row) h = refl
+pub form_put_back : (row l : List ℤ) → length row ≡ row_length → put_mid 1 (length row - 1) row l ≡ get_or row 0 (pos 0) ∷ l
+form_put_back [] l h = absurd (omega arith)
+form_put_back (x ∷ row) l h = ap (λ (rest : List ℤ). x ∷ (l ++ rest)) (drop_of_length-le row (omega arith)) ∙ ap (λ (m : List ℤ). x ∷ m) (append-nil l)
 
--- ---- the divisor, from the last number to the first
+-- ---- the divisor
 
-pub divisor_done : (l : List ℤ) (j : ℕ) → length l ≤ j → divisor_of (drop j l) ≡ 0
+pub divisor_small : (e : List ℤ) → all_within number_limit e ≡ true → divisor_of e ≤ number_limit
 unfolding divisor_of
-divisor_done l j h = ap divisor_of (drop_of_length-le l h)
-
-pub divisor_more : (l : List ℤ) (j : ℕ) → j < length l → divisor_of (drop j l) ≡ gcd (nat_abs (get_or l j (pos 0))) (divisor_of (drop (j + 1) l))
-unfolding divisor_of
-divisor_more l j h = ap divisor_of (drop-cons l j (pos 0) h) ∙ ap (λ k. gcd (nat_abs (get_or l j (pos 0))) (divisor_of (drop k l))) (sym (add-one j))
+divisor_small e h = go e (within→ number_limit e h)
+  where
+    go : (l : List ℤ) → All (Small number_limit) l → divisor_of l ≤ number_limit
+    go [] g = omega arith
+    go (z ∷ l) (g, gs) = gcd_le (nat_abs z) (divisor_of l) number_limit g (go l gs)
 
 -- ---- division by it
 
@@ -88,27 +89,16 @@ leading_row [] h = absurd (omega arith)
 leading_row (x ∷ []) h = absurd (omega arith)
 leading_row (x ∷ c ∷ ks) h = refl
 
--- by whether a number is 0
-abbrev chosen : Bool → ℤ → ℤ → ℤ
-chosen t later k = elim t as (λ _. ℤ) [ true ↦ later | false ↦ k ]
-
-module _ (c : ℤ) (l : List ℤ) (j : ℕ) where
-  pub first_done : length l ≤ j → first_nonzero c (drop j l) ≡ c
-  unfolding first_nonzero
-  first_done h = ap (first_nonzero c) (drop_of_length-le l h)
-
-  first_step : (t : Bool) → j < length l → is_zero (get_or l j (pos 0)) ≡ t
-      → first_nonzero c (drop j l) ≡ chosen t (first_nonzero c (drop (j + 1) l)) (get_or l j (pos 0))
-  unfolding first_nonzero
-  first_step t h e =
-      ap (first_nonzero c) (drop-cons l j (pos 0) h)
-      ∙ ap₂ (λ (s : Bool) (i : ℕ). chosen s (first_nonzero c (drop i l)) (get_or l j (pos 0))) e (sym (add-one j))
-
-  pub first_found : j < length l → is_zero (get_or l j (pos 0)) ≡ false → first_nonzero c (drop j l) ≡ get_or l j (pos 0)
-  first_found h e = first_step false h e
-
-  pub first_on : j < length l → is_zero (get_or l j (pos 0)) ≡ true → first_nonzero c (drop (j + 1) l) ≡ first_nonzero c (drop j l)
-  first_on h e = sym (first_step true h e)
+-- as the first number that a search finds
+pub first_found : (c : ℤ) (l : List ℤ) → unwrap_or (find (λ z. not (is_zero z)) l) c ≡ first_nonzero c l
+unfolding first_nonzero
+first_found c [] = refl
+first_found c (z ∷ l) = go (is_zero z) (first_found c l)
+  where
+    go : (t : Bool) → unwrap_or (find (λ z. not (is_zero z)) l) c ≡ first_nonzero c l
+        → unwrap_or (cond (not t) (Some z) (find (λ z. not (is_zero z)) l)) c ≡ elim t as (λ _. ℤ) [ true ↦ first_nonzero c l | false ↦ z ]
+    go true e = e
+    go false e = refl
 
 -- ---- the sign
 

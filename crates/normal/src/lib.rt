@@ -27,19 +27,9 @@ fn gcd(a: usize, b: usize) -> usize
     let mut m = a;
     let mut n = b;
     while 0 < n {
-        let rest = m % n;
-        m = n;
-        n = rest;
+        (m, n) = (n, m % n);
     }
     m
-}
-
-// The absolute value of a number.
-fn absolute(x: i64) -> usize
-    requires { within number_limit x ≡ true }
-    ensures { result ≡ nat_abs x }
-{
-    if x < 0 { (0 - x) as usize } else { x as usize }
 }
 
 // The greatest common divisor of a form's numbers, from the last one to the constant.
@@ -47,13 +37,10 @@ fn divisor(row: &[i64]) -> usize
     requires { (length row.now ≡ row_length) × (all_within number_limit (drop 1 row.now) ≡ true) }
     ensures { (result ≡ divisor_of (drop 1 row.now)) × (result ≤ number_limit) }
 {
-    let mut d = 0;
-    let mut j = ROW_LENGTH;
-    while CONSTANT < j {
-        j -= 1;
-        d = gcd(absolute(row[j]), d);
-    }
-    d
+    let form = &row[CONSTANT..];
+    form.iter()
+        .rev()
+        .fold(0, |d, x| gcd(x.unsigned_abs() as usize, d))
 }
 
 // ---- arithmetic facts
@@ -63,11 +50,8 @@ fn divide_form(row: &mut [i64], d: i64)
     requires { (pos 1 ≤ℤ d) × (length row.old ≡ row_length) }
     ensures { row.new ≡ get_or row.old 0 (pos 0) ∷ floor_div_all (drop 1 row.old) (nat_abs d) }
 {
-    let mut j = CONSTANT;
-    while j < ROW_LENGTH {
-        let x = row[j];
-        row[j] = floor_div(x, d);
-        j += 1;
+    for x in row[CONSTANT..].iter_mut() {
+        *x = floor_div(*x, d);
     }
 }
 
@@ -87,15 +71,11 @@ fn leading(row: &[i64]) -> i64
     requires { length row.now ≡ row_length }
     ensures { result ≡ forms.leading (drop 1 row.now) }
 {
-    let mut j = COEFFICIENTS;
-    while j < ROW_LENGTH {
-        let x = row[j];
-        if x != 0 {
-            return x;
-        }
-        j += 1;
-    }
-    row[CONSTANT]
+    row[COEFFICIENTS..]
+        .iter()
+        .copied()
+        .find(|x| *x != 0)
+        .unwrap_or(row[CONSTANT])
 }
 
 // The negative of a form, in place.
@@ -103,11 +83,8 @@ fn negate_form(row: &mut [i64])
     requires { (length row.old ≡ row_length) × (all_within number_limit (drop 1 row.old) ≡ true) }
     ensures { row.new ≡ get_or row.old 0 (pos 0) ∷ scale (negsuc 0) (drop 1 row.old) }
 {
-    let mut j = CONSTANT;
-    while j < ROW_LENGTH {
-        let x = row[j];
-        row[j] = 0 - x;
-        j += 1;
+    for x in row[CONSTANT..].iter_mut() {
+        *x = -*x;
     }
 }
 
@@ -157,10 +134,8 @@ fn normalise_row(row: &mut [i64])
     let tag = tag_of(row);
     if tag <= TAG_NE {
         normalise_form(row, tag);
-    } else {
-        if tag < TAG_LITERAL {
-            order_operands(row, tag);
-        }
+    } else if tag < TAG_LITERAL {
+        order_operands(row, tag);
     }
 }
 
@@ -169,11 +144,8 @@ pub fn normalise(work: &mut [i64], count: usize)
     requires { Fine work.old count }
     ensures { branch_of work.new count ≡ map normal (branch_of work.old count) }
 {
-    let mut k = 0;
-    while k < count {
+    for k in 0..count {
         let from = ROW_LENGTH * k;
-        let to = from + ROW_LENGTH;
-        normalise_row(&mut work[from..to]);
-        k += 1;
+        normalise_row(&mut work[from..from + ROW_LENGTH]);
     }
 }

@@ -1,4 +1,4 @@
-mod Chains
+pub mod Chains
 pub mod Branches
 pub mod Tags
 pub mod Forms

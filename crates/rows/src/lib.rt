@@ -14,7 +14,7 @@ ghost use Rattle.rows.specs.Searches.{number_in};
 ghost use Rattle.rows.specs.Work.{tag_of, Fine, Within, single, difference};
 
 use encoding::{EQ, GE, IS_LITERAL, NE, NOT_SAME};
-use limits::{COLUMN_LIMIT, LITERAL_NUMBERS, NUMBER_MAX, NUMBER_MIN, ROW_LENGTH, VARIABLE_LIMIT};
+use limits::{LITERAL_NUMBERS, NUMBER_MAX, NUMBER_MIN, ROW_LENGTH, VARIABLE_LIMIT};
 
 // ---- the places in a row
 

@@ -48,7 +48,7 @@ same_tags f g =
     (λ h. true→ (eq-eqb (6 + f) (6 + g) (omega (arith, eqb→eq f g h))))
 
 module _ (b c : List ℕ) (x y : ℕ) (f : u16 b x ≤ 4) (g : u16 c y ≤ 4) (u v : Question) where
-  fields_alike : alike u v (extended (extended_of b x)) (extended (extended_of c y))
+  pub fields_alike : alike u v (extended (extended_of b x)) (extended (extended_of c y))
       ≡ (eqb (u16 b x) (u16 c y) && (eqb (u16 b (x + 2)) (u16 c (y + 2)) && eqb (u16 b (x + 4)) (u16 c (y + 4))))
   unfolding alike
   fields_alike =

@@ -74,14 +74,11 @@ fn count_rows(b: &[u8], row: &[i64], c: &[u8], t: Progress, work: &[i64]) -> usi
     ensures { (s : Progress) → literal_named (fact_of row.now) ≤ s.literals
         → result ≡ occurrences (asked b.now s) (asked c.now t) (basic (fact_of row.now)) (facts_in work.now t.constraints) }
 {
-    let count = t.constraints;
     let mut found = 0;
-    let mut k = 0;
-    while k < count {
+    for k in 0..t.constraints {
         if rows_alike(b, row, c, row_at(work, k)) {
             found += 1;
         }
-        k += 1;
     }
     found
 }
@@ -99,9 +96,7 @@ fn rows_agree(b: &[u8], s: Progress, mine: &[i64], c: &[u8], t: Progress, theirs
     ensures { result ≡ agrees_by agreement (asked b.now s) (facts_in mine.now s.constraints)
         (asked c.now t) (facts_in theirs.now t.constraints) }
 {
-    let count = s.constraints;
-    let mut k = 0;
-    while k < count {
+    for k in 0..s.constraints {
         let row = row_at(mine, k);
         if !agree(
             count_rows(b, row, b, s, mine),
@@ -109,7 +104,6 @@ fn rows_agree(b: &[u8], s: Progress, mine: &[i64], c: &[u8], t: Progress, theirs
         ) {
             return false;
         }
-        k += 1;
     }
     true
 }
@@ -121,13 +115,9 @@ fn records_alike(b: &[u8], x: usize, c: &[u8], y: usize) -> bool
     requires { (x + 6 ≤ length b.now) × (u16 b.now x ≤ 4) × (y + 6 ≤ length c.now) × (u16 c.now y ≤ 4) }
     ensures { (u v : Question) → result ≡ alike u v (extended (extended_of b.now x)) (extended (extended_of c.now y)) }
 {
-    if u16_at(b, x) != u16_at(c, y) {
-        return false;
-    }
-    if u16_at(b, x + 2) != u16_at(c, y + 2) {
-        return false;
-    }
-    u16_at(b, x + 4) == u16_at(c, y + 4)
+    u16_at(b, x) == u16_at(c, y)
+        && u16_at(b, x + 2) == u16_at(c, y + 2)
+        && u16_at(b, x + 4) == u16_at(c, y + 4)
 }
 
 // The position of a question's first extended constraint.
@@ -135,8 +125,7 @@ fn extended_from(b: &[u8], s: Progress) -> usize
     requires { Posed b.now s }
     ensures { result ≡ extended_from b.now s.literals s.constraints }
 {
-    let from = behind_literals(b, s.literals);
-    behind_records(b, s.constraints, from)
+    behind_records(b, s.constraints, behind_literals(b, s.literals))
 }
 
 // How many extended constraints of a question are like the one with its body at a position.
@@ -146,13 +135,12 @@ fn count_records(b: &[u8], x: usize, c: &[u8], t: Progress) -> usize
 {
     let mut at = extended_from(c, t);
     let mut found = 0;
-    let mut left = t.extended;
-    while 0 < left {
-        if records_alike(b, x, c, at + RECORD_HEAD) {
+    for _ in 0..t.extended {
+        let y = at + RECORD_HEAD;
+        if records_alike(b, x, c, y) {
             found += 1;
         }
-        at = at + RECORD_HEAD + u32_at(c, at);
-        left -= 1;
+        at = y + u32_at(c, at);
     }
     found
 }
@@ -163,14 +151,12 @@ fn records_agree(b: &[u8], s: Progress, c: &[u8], t: Progress) -> bool
     ensures { (u v : Question) → result ≡ agrees_by agreement u (extended_in b.now s) v (extended_in c.now t) }
 {
     let mut at = extended_from(b, s);
-    let mut left = s.extended;
-    while 0 < left {
+    for _ in 0..s.extended {
         let x = at + RECORD_HEAD;
         if !agree(count_records(b, x, b, s), count_records(b, x, c, t)) {
             return false;
         }
         at = x + u32_at(b, at);
-        left -= 1;
     }
     true
 }
@@ -181,13 +167,7 @@ fn records_agree(b: &[u8], s: Progress, c: &[u8], t: Progress) -> bool
 fn same_heads(s: Progress, t: Progress) -> bool
     ensures { (b c : List ℕ) → result ≡ eq_heads (asked b s) (asked c t) }
 {
-    if s.n != t.n {
-        return false;
-    }
-    if s.p != t.p {
-        return false;
-    }
-    s.q == t.q
+    s.n == t.n && s.p == t.p && s.q == t.q
 }
 
 // The normal forms of a question's facts, each in its row.
@@ -204,23 +184,14 @@ fn same_asked(b: &[u8], s: Progress, c: &[u8], t: Progress) -> bool
     requires { Posed b.now s × Posed c.now t }
     ensures { result ≡ same_by agreement (asked b.now s) (extended_asked b.now s) (asked c.now t) (extended_asked c.now t) }
 {
-    if !same_heads(s, t) {
-        return false;
-    }
-    if !records_agree(b, s, c, t) {
-        return false;
-    }
-    if !records_agree(c, t, b, s) {
+    if !same_heads(s, t) || !records_agree(b, s, c, t) || !records_agree(c, t, b, s) {
         return false;
     }
     let mut mine = [0i64; WORK_NUMBERS];
     prepare(b, s, &mut mine);
     let mut theirs = [0i64; WORK_NUMBERS];
     prepare(c, t, &mut theirs);
-    if !rows_agree(b, s, &mine, c, t, &theirs) {
-        return false;
-    }
-    rows_agree(c, t, &theirs, b, s, &mine)
+    rows_agree(b, s, &mine, c, t, &theirs) && rows_agree(c, t, &theirs, b, s, &mine)
 }
 
 // ---- the operation
@@ -253,8 +224,7 @@ fn read_asked(b: &[u8]) -> Asked
     match read_question(JUDGING, b) {
         Reading::Stopped(c, r) => Asked::Refused(c, r),
         Reading::Ended(s, _, r) => {
-            let last = s.last;
-            if last < HEAD_RANK {
+            if s.last < HEAD_RANK {
                 Asked::Refused(4, r)
             } else {
                 Asked::Read(s)

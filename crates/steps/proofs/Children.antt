@@ -6,15 +6,13 @@ use mathlib.Core.Path.{◌≡◌, refl, sym, ◌∙◌, ap}
 use mathlib.Core.Bool.{true, false}
 use mathlib.Core.List.{List, [], ◌∷◌, map}
 use lib.ListN.{length, get_or, replicate, length-replicate}
-use lib.Dec.{leb, eqb}
-use borrow.Author.Tests.{le-leb, lt-leb, ne_eqb}
 use Rattle.lists.specs.Lists.{All}
 use Rattle.lists.proofs.Lists.{down}
 use Rattle.calculus.specs.Alphabet.{character_count}
 use Rattle.calculus.proofs.Alphabet.{ranges_are}
 use Rattle.calculus.specs.Steps.{pair_count, last_count, shape}
 use Rattle.format.specs.StepForms.{Rule, sum, branch, apart, a_conf, s_conf, s_prop, l_intro, l_valid, c_collapse, c_valid, c_inj, card}
-use Rattle.format.specs.StepForms.{join, unknown, form_for, fits_form, rule, length_fits, card_variables, step_of, step_at, is_child}
+use Rattle.format.specs.StepForms.{join, unknown, form_for, fits_form, rule, length_fits, card_variables, step_of, step_at}
 use Rattle.format.proofs.Fields.{length_u16s}
 use Rattle.format.proofs.Faults.{not_both}
 use Rattle.format.proofs.Decoded.{at_least}
@@ -46,17 +44,6 @@ pub last_there : (n : ℕ) → 2 ≤ n → last_count n ≡ 1
 last_there zero h = absurd (omega arith)
 last_there (suc zero) h = absurd (omega arith)
 last_there (suc (suc n)) h = refl
-
--- a child number of at most 1, and one from 2 on
-pub first_child : (cs : List ℕ) (k : ℕ) → k ≤ 1 → eqb k 1 ≡ is_child cs k
-first_child [] k h = refl
-first_child (c ∷ cs) zero h = refl
-first_child (c ∷ cs) (suc zero) h = sym (le-leb 1 (suc (length cs)) (omega arith))
-first_child (c ∷ cs) (suc (suc k)) h = absurd (omega arith)
-
-pub later_child : (cs : List ℕ) (k : ℕ) → 1 < k → leb k (length cs) ≡ is_child cs k
-later_child [] k h = lt-leb k 0 (omega arith) ∙ sym (ne_eqb k 1 (λ e. omega arith))
-later_child (c ∷ cs) k h = rw (le-leb 1 k (omega arith))
 
 -- Card's children, by the length of its body
 pub card_count : (b : List ℕ) (n body m : ℕ) → length (shape n (step_of b card body m)) ≡ pair_count ((m - 4) / 2) + last_count (character_count n)

@@ -82,14 +82,7 @@ fn counted(size: usize, least: usize, stride: usize, greatest: usize) -> bool
     requires { 0 < stride }
     ensures { result ≡ counted size least stride greatest }
 {
-    if size < least {
-        return false;
-    }
-    let more = size - least;
-    if more % stride != 0 {
-        return false;
-    }
-    more / stride <= greatest
+    least <= size && (size - least) % stride == 0 && (size - least) / stride <= greatest
 }
 
 // Whether a body may have so many bytes, rule and child counted in, by the rule with this number. Each arm gives the answer itself, and none joins rules that
@@ -120,10 +113,7 @@ fn length_fits(b: &[u8], body: usize, size: usize) -> bool
     requires { body + size ≤ length b.now }
     ensures { result ≡ length_fits b.now body size }
 {
-    if size < OPERANDS {
-        return false;
-    }
-    fits_rule(u16_at(b, body), size)
+    OPERANDS <= size && fits_rule(u16_at(b, body), size)
 }
 
 // ---- the ranges of the operands
@@ -133,21 +123,11 @@ fn multipliers_within(b: &[u8], at: usize, count: usize) -> bool
     requires { at + 6 * count ≤ length b.now }
     ensures { result ≡ multipliers_within (pairs_at b.now at count) }
 {
-    let mut i = at;
-    let mut left = count;
-    while 0 < left {
-        let v = u32_at(b, i + 2);
-        if !bits_within(v, NUMBER_LIMIT) {
-            return false;
-        }
-        i += 6;
-        left -= 1;
-    }
-    true
+    (0..count).all(|k| bits_within(u32_at(b, at + 6 * k + 2), NUMBER_LIMIT))
 }
 
 // The largest i32.
-const DIVISOR_LIMIT: usize = 2147483647;
+const DIVISOR_LIMIT: usize = i32::MAX as usize;
 
 // Sum: "i32 divisor of at least 1, then 1 to 8 pairs (fact, i32 multiplier)".
 fn sum_in_range(b: &[u8], body: usize, size: usize) -> bool
@@ -155,13 +135,7 @@ fn sum_in_range(b: &[u8], body: usize, size: usize) -> bool
     ensures { (p c : ℕ) → result ≡ operands_in_range b.now p c forms.sum body size }
 {
     let divisor = u32_at(b, body + OPERANDS);
-    if divisor < 1 {
-        return false;
-    }
-    if DIVISOR_LIMIT < divisor {
-        return false;
-    }
-    multipliers_within(b, body + 8, (size - 8) / 6)
+    1 <= divisor && divisor <= DIVISOR_LIMIT && multipliers_within(b, body + 8, (size - 8) / 6)
 }
 
 // Whether the count variables from a position are below p.
@@ -169,16 +143,7 @@ fn variables_below(b: &[u8], p: usize, at: usize, count: usize) -> bool
     requires { at + 2 * count ≤ length b.now }
     ensures { result ≡ are_variables p (u16s b.now at count) }
 {
-    let mut i = at;
-    let mut left = count;
-    while 0 < left {
-        if p <= u16_at(b, i) {
-            return false;
-        }
-        i += 2;
-        left -= 1;
-    }
-    true
+    (0..count).all(|k| u16_at(b, at + 2 * k) < p)
 }
 
 // S-Prop: "function (0 len, 1 code), different variables x, y".
@@ -186,10 +151,7 @@ fn s_prop_in_range(b: &[u8], p: usize, body: usize) -> bool
     requires { body + 10 ≤ length b.now }
     ensures { (c m : ℕ) → result ≡ operands_in_range b.now p c forms.s_prop body m }
 {
-    if CODE < u16_at(b, body + OPERANDS) {
-        return false;
-    }
-    variables_below(b, p, body + 6, 2)
+    u16_at(b, body + OPERANDS) <= CODE && variables_below(b, p, body + 6, 2)
 }
 
 // Whether the fields of a body whose length fits are in their ranges, over p string variables and c columns; of an unknown rule they are not.
@@ -225,20 +187,10 @@ pub fn conclusions_of(rule: Rule) -> Conclusions
     ensures { result ≡ conclusions_of (rule_named rule) }
 {
     match rule {
-        Rule::Sum => Conclusions::One,
-        Rule::Branch => Conclusions::Several,
-        Rule::Apart => Conclusions::Several,
-        Rule::AConf => Conclusions::Nothing,
-        Rule::SConf => Conclusions::Nothing,
-        Rule::SProp => Conclusions::One,
-        Rule::LIntro => Conclusions::One,
-        Rule::LValid => Conclusions::Several,
-        Rule::CCollapse => Conclusions::One,
-        Rule::CValid => Conclusions::Several,
-        Rule::CInj => Conclusions::Several,
-        Rule::Card => Conclusions::Several,
-        Rule::Join => Conclusions::One,
-        Rule::Unknown => Conclusions::Nothing,
+        Rule::AConf | Rule::SConf | Rule::Unknown => Conclusions::Nothing,
+        Rule::Sum | Rule::SProp | Rule::LIntro | Rule::CCollapse | Rule::Join => Conclusions::One,
+        Rule::Branch | Rule::Apart | Rule::LValid | Rule::CValid => Conclusions::Several,
+        Rule::CInj | Rule::Card => Conclusions::Several,
     }
 }
 
@@ -272,15 +224,8 @@ pub fn child_facts(rule: Rule, k: usize) -> usize
     ensures { (b : List ℕ) (n body m : ℕ) → 1 ≤ k → k ≤ length (shape_of rule n b body m) → result ≡ get_or (shape_of rule n b body m) (k - 1) 0 }
 {
     match rule {
-        Rule::CValid => {
-            if k == 1 {
-                return 2;
-            }
-            3
-        }
-        Rule::Sum | Rule::Branch | Rule::Apart | Rule::AConf | Rule::SConf | Rule::SProp => 1,
-        Rule::LIntro | Rule::LValid | Rule::CCollapse | Rule::CInj | Rule::Card | Rule::Join => 1,
-        Rule::Unknown => 1,
+        Rule::CValid => { if k == 1 { 2 } else { 3 } }
+        _ => 1,
     }
 }
 
@@ -289,10 +234,7 @@ fn child_in_range(rule: Rule, n: usize, size: usize, k: usize) -> bool
     requires { fits_form (form_for (rule_named rule)) size ≡ true }
     ensures { (b : List ℕ) (body : ℕ) → result ≡ is_child (shape_of rule n b body size) k }
 {
-    if k <= 1 {
-        return k == 1;
-    }
-    k <= child_count(rule, n, size)
+    k == 1 || 1 < k && k <= child_count(rule, n, size)
 }
 
 // ---- the faults of a step's body: its length fits no form, or a field is outside its range

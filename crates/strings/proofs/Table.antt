@@ -5,7 +5,7 @@ use native.Mathlib.Omega.{arith}
 use native.Mathlib.Decide.{dec_lt, ℕ_discrete}
 use mathlib.Core.Path.{◌≡◌, refl, sym, ◌∙◌, ap, ap₂}
 use mathlib.Core.Logic.{◌≢◌}
-use mathlib.Core.Bool.{Bool, true, false, cond, ◌||◌, or-true}
+use mathlib.Core.Bool.{Bool, true, false, cond, ◌||◌}
 use mathlib.Core.Option.{Option, none, some}
 use mathlib.Core.List.{List, [], ◌∷◌, ◌++◌, append_assoc}
 use borrow.Author.Tests.{le-leb, lt-leb, leb-true, leb-false, lt-ltb, le-ltb}
@@ -15,6 +15,7 @@ use lib.Seq.{sets, sets-eq, length-sets, take-suc, length-take-le, take-append-l
 use lib.Seq.{drop-drop, ext_get_or, get_or-take, get_or-drop, get_or-set_same, get_or-set_other}
 use lib.IntN.{ℤ, pos}
 use Rattle.answer.proofs.Written.{length_row}
+use Rattle.lists.specs.Lists.{any_below}
 use Rattle.lists.proofs.Options.{none_some, some_injective}
 use Rattle.lists.proofs.Stores.{sets_sets}
 use Rattle.calculus.specs.Limits.{length_limit}
@@ -180,25 +181,10 @@ module _ (characters sizes w : List ℕ) where
   unfolding given_strings
   given_turn y = given_before (string_in characters sizes y) (given_strings characters sizes y)
 
-  pub given_none : given w (given_strings characters sizes 0) ≡ false
+  pub given_by : (p : ℕ) → any_below p (λ y. is_it (string_in characters sizes y) w) ≡ given w (given_strings characters sizes p)
   unfolding given_strings
-  given_none = refl
-
-  pub given_more : (y : ℕ)
-      → given w (given_strings characters sizes y) ≡ false
-      → is_it (string_in characters sizes y) w ≡ false
-      → given w (given_strings characters sizes (y + 1)) ≡ false
-  given_more y e f = ap (λ (k : ℕ). given w (given_strings characters sizes k)) (add-one y) ∙ given_turn y ∙ ap₂ ◌||◌ f e
-
-  pub given_yes : (p y : ℕ) → y < p → is_it (string_in characters sizes y) w ≡ true → given w (given_strings characters sizes p) ≡ true
-  given_yes zero y h e = absurd (omega arith)
-  given_yes (suc p) y h e = go (λ l. given_yes p y l e) (dec_lt y p)
-    where
-      go : (y < p → given w (given_strings characters sizes p) ≡ true) → Dec (y < p) → given w (given_strings characters sizes (suc p)) ≡ true
-      go ih (yes l) = given_turn p ∙ ap (λ (t : Bool). is_it (string_in characters sizes p) w || t) (ih l) ∙ or-true (is_it (string_in characters sizes p) w)
-      go ih (no n) =
-          let k : p ≡ y = omega arith in
-          given_turn p ∙ ap (λ (t : Bool). t || given w (given_strings characters sizes p)) (ap (λ (z : ℕ). is_it (string_in characters sizes z) w) k ∙ e)
+  given_by zero = refl
+  given_by (suc p) = ap (λ (t : Bool). is_it (string_in characters sizes p) w || t) (given_by p) ∙ sym (given_turn p)
 
 -- ---- the third round, by what a variable has
 

@@ -41,7 +41,7 @@ fn fill_word(row: &mut [u32; LENGTH_LIMIT], n: usize, m: usize, k: usize)
         }
         i -= 1;
         row[i] = (rest % n) as u32;
-        rest = rest / n;
+        rest /= n;
     }
     row[0] = rest as u32;
 }
@@ -78,12 +78,8 @@ fn is_row(characters: &[u32], y: usize, size: usize, w: &[u32]) -> bool
     requires { (y < variable_limit) × (length_limit * y + length_limit ≤ length characters.now) }
     ensures { result ≡ is_it (sized size (drop (length_limit * y) characters.now)) w.now }
 {
-    if size > LENGTH_LIMIT {
-        return false;
-    }
     let from = LENGTH_LIMIT * y;
-    let to = from + size;
-    same_string(w, &characters[from..to])
+    size <= LENGTH_LIMIT && same_string(w, &characters[from..from + size])
 }
 
 // Is w a string of the table?
@@ -91,15 +87,7 @@ fn is_given(characters: &[u32], sizes: &[usize], p: usize, w: &[u32]) -> bool
     requires { (length sizes.now ≡ variable_limit) × (p ≤ variable_limit) × (length_limit * p ≤ length characters.now) }
     ensures { result ≡ given w.now (given_strings characters.now sizes.now p) }
 {
-    let mut y = 0;
-    while y < p {
-        let size = sizes[y];
-        if is_row(characters, y, size, w) {
-            return true;
-        }
-        y += 1;
-    }
-    false
+    (0..p).any(|y| is_row(characters, y, sizes[y], w))
 }
 
 // "the smallest string of its length, by code points, not yet given".
@@ -108,14 +96,12 @@ fn fresh(characters: &[u32], sizes: &[usize], p: usize, n: usize, m: usize) -> [
         × (n ≤ alphabet_limit) }
     ensures { take m result ≡ fresh_from p n m (given_strings characters.now sizes.now p) 0 }
 {
-    let mut k = 0;
-    while k < p {
+    for k in 0..p {
         let mut w = [0u32; LENGTH_LIMIT];
         fill_word(&mut w, n, m, k);
         if !is_given(characters, sizes, p, &w[..m]) {
             return w;
         }
-        k += 1;
     }
     let mut w = [0u32; LENGTH_LIMIT];
     fill_word(&mut w, n, m, p);
@@ -127,11 +113,8 @@ fn fill_text(row: &mut [u32], ticket: &[u8], at: usize, count: usize)
     requires { (at + 4 * count ≤ length ticket.now) × (count ≤ length row.old) × (count ≤ length_limit) }
     ensures { take count row.new ≡ u32s ticket.now at count }
 {
-    let mut i = 0;
-    while i < count {
-        let c = records::u32_at(ticket, at + 4 * i);
-        row[i] = c as u32;
-        i += 1;
+    for i in 0..count {
+        row[i] = records::u32_at(ticket, at + 4 * i) as u32;
     }
 }
 
@@ -142,12 +125,7 @@ fn row_of(characters: &[u32], y: usize, m: usize) -> [u32; LENGTH_LIMIT]
 {
     let from = LENGTH_LIMIT * y;
     let mut out = [0u32; LENGTH_LIMIT];
-    let mut i = 0;
-    while i < m {
-        let c = characters[from + i];
-        out[i] = c;
-        i += 1;
-    }
+    out[..m].copy_from_slice(&characters[from..from + m]);
     out
 }
 
@@ -157,12 +135,7 @@ fn store(characters: &mut [u32], x: usize, w: &[u32])
     ensures { characters.new ≡ sets characters.old (length_limit * x) w.now }
 {
     let from = LENGTH_LIMIT * x;
-    let mut i = 0;
-    while i < w.len() {
-        let c = w[i];
-        characters[from + i] = c;
-        i += 1;
-    }
+    characters[from..from + w.len()].copy_from_slice(w);
 }
 
 // ---- the rounds. A variable's row is filled from the front, and its size is answered, 65 for none.
@@ -172,9 +145,8 @@ fn fill_character(row: &mut [u32], len: i64, code: i64) -> usize
     requires { (nat_abs code ≤ value_limit) × (length row.old ≡ length_limit) }
     ensures { sized result row.new ≡ one_char (eqℤ len (pos 1)) code }
 {
-    if leaf::equal(len, 1) {
-        let c = leaf::magnitude(code);
-        row[0] = c as u32;
+    if len == 1 {
+        row[0] = leaf::magnitude(code) as u32;
         return 1;
     }
     NOT_GIVEN
@@ -194,8 +166,7 @@ fn fill_fixed(
     requires within { Within value_limit model.now }
     ensures { sized result row.new ≡ fixed_at (asked ticket.now s) labels.now model.now x }
 {
-    let found = classes::class_literal(labels, s.literals + 1, x);
-    match found {
+    match classes::class_literal(labels, s.literals + 1, x) {
         Some(l) => {
             let literal = question::placed_text(ticket, places, l);
             fill_text(row, ticket, literal.at, literal.count);
@@ -224,21 +195,11 @@ fn give_fixed(
         → string_in characters.new result y ≡ fixed_at (asked ticket.now s) labels.now model.now y }
 {
     let mut sizes = [NOT_GIVEN; VARIABLE_LIMIT];
-    let mut x = 0;
-    while x < s.p {
+    for x in 0..s.p {
         let from = LENGTH_LIMIT * x;
-        let to = from + LENGTH_LIMIT;
-        let size = fill_fixed(
-            ticket,
-            places,
-            model,
-            s,
-            labels,
-            x,
-            &mut characters[from..to],
-        );
+        let row = &mut characters[from..from + LENGTH_LIMIT];
+        let size = fill_fixed(ticket, places, model, s, labels, x, row);
         sizes[x] = size;
-        x += 1;
     }
     sizes
 }
@@ -298,11 +259,9 @@ pub fn give_strings(
     ensures table { Table characters.new result s.p }
 {
     let mut sizes = give_fixed(ticket, places, model, s, labels, characters);
-    let mut x = 0;
-    while x < s.p {
+    for x in 0..s.p {
         let size = complete(model, s, labels, characters, &sizes, x);
         sizes[x] = size;
-        x += 1;
     }
     sizes
 }

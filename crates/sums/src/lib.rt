@@ -21,14 +21,11 @@ fn takes(row: &[i64], multiplier: i64) -> bool
     requires { length row.now ≡ row_length }
     ensures { result ≡ fits (summand multiplier (fact_of row.now)) }
 {
-    let tag = rows::tag_of(row);
-    if tag == TAG_GE {
-        return multiplier > 0;
+    match rows::tag_of(row) {
+        TAG_GE => multiplier > 0,
+        TAG_EQ => multiplier != 0,
+        _ => false,
     }
-    if tag == TAG_EQ {
-        return multiplier != 0;
-    }
-    false
 }
 
 // A row times a multiplier is added to the sum.
@@ -38,12 +35,8 @@ fn add_multiple(sum: &mut [i64], row: &[i64], multiplier: i64)
     requires sum_len { (length sum.old ≡ row_length) × Within 7000000000000000000 sum.old }
     ensures { sum.new ≡ added sum.old multiplier row.now }
 {
-    let mut j = CONSTANT;
-    while j < ROW_LENGTH {
-        let s = sum[j];
-        let x = row[j];
-        sum[j] = s + multiplier * x;
-        j += 1;
+    for j in CONSTANT..ROW_LENGTH {
+        sum[j] += multiplier * row[j];
     }
 }
 
@@ -55,8 +48,7 @@ fn sum_of(sum: &mut [i64], b: &[u8], at: usize, pairs: usize, work: &[i64], coun
     requires fine { Fine work.now count }
     ensures { row_in result sum.new ≡ ge_row (sum_of (branch_of work.now count) (pairs_at b.now at pairs)) }
 {
-    let mut i = 0;
-    while i < pairs {
+    for i in 0..pairs {
         let place = at + 6 * i;
         let fact = records::u16_at(b, place);
         let multiplier = records::i32_at(b, place + 2);
@@ -68,7 +60,6 @@ fn sum_of(sum: &mut [i64], b: &[u8], at: usize, pairs: usize, work: &[i64], coun
             return false;
         }
         add_multiple(sum, row, multiplier);
-        i += 1;
     }
     true
 }
@@ -86,18 +77,15 @@ fn divide(row: &mut [i64], d: i64) -> bool
     requires { (pos 1 ≤ℤ d) × (length row.old ≡ row_length) × (get_or row.old 0 (pos 0) ≡ pos 0) }
     ensures { row_in result row.new ≡ ge_row (divided (nat_abs d) (drop 1 row.old)) }
 {
-    let mut j = COEFFICIENTS;
-    while j < ROW_LENGTH {
+    for j in COEFFICIENTS..ROW_LENGTH {
         let x = row[j];
         let q = x / d;
         if q * d != x {
             return false;
         }
         row[j] = q;
-        j += 1;
     }
-    let c = row[CONSTANT];
-    row[CONSTANT] = floor_div(c, d);
+    row[CONSTANT] = floor_div(row[CONSTANT], d);
     true
 }
 
@@ -106,10 +94,7 @@ fn divide_by(row: &mut [i64], d: i64) -> bool
     requires { (pos 1 ≤ℤ d) × (length row.old ≡ row_length) × (get_or row.old 0 (pos 0) ≡ pos 0) }
     ensures { row_in result row.new ≡ ge_row (divided (nat_abs d) (drop 1 row.old)) }
 {
-    if d == 1 {
-        return true;
-    }
-    divide(row, d)
+    d == 1 || divide(row, d)
 }
 
 // Is every fact that a Sum names an equation?
@@ -118,8 +103,7 @@ fn all_equations(b: &[u8], at: usize, pairs: usize, work: &[i64], count: usize) 
     requires fine { Fine work.now count }
     ensures { result ≡ all_equations (branch_of work.now count) (pairs_at b.now at pairs) }
 {
-    let mut k = 0;
-    while k < pairs {
+    for k in 0..pairs {
         let fact = records::u16_at(b, at + 6 * k);
         if count <= fact {
             return false;
@@ -128,7 +112,6 @@ fn all_equations(b: &[u8], at: usize, pairs: usize, work: &[i64], count: usize) 
         if tag != TAG_EQ {
             return false;
         }
-        k += 1;
     }
     true
 }
@@ -161,13 +144,11 @@ fn sum_tag(
     requires fine { Fine work.now count }
     ensures { result ≡ sum_tag (branch_of work.now count) (nat_abs d) (pairs_at b.now at pairs) (drop 1 row.now) }
 {
-    if !all_equations(b, at, pairs, work, count) {
-        return TAG_GE as i64;
+    if all_equations(b, at, pairs, work, count) && divides_exactly(row, d) {
+        TAG_EQ as i64
+    } else {
+        TAG_GE as i64
     }
-    if !divides_exactly(row, d) {
-        return TAG_GE as i64;
-    }
-    TAG_EQ as i64
 }
 
 // The row of the fact that a Sum adds, in a row of zeros, and whether the step fits.

@@ -1,4 +1,5 @@
 use mir.Syntax.{w64}
+use borrow.Author.Tests.{le-leb}
 use Prim.Native.Nat.{ℕ}
 use lib.IntN.{nat_abs, ℤ}
 use lib.ListN.{length}
@@ -41,11 +42,11 @@ returns-then-has_room c =
 pub returns-then-count-le1 : goal.returns-then-count-le1
 returns-then-count-le1 c =
     let s = c.args in
-    sym (card_few (numbered s.s) s.labels.now s.model.now s.x c.classes_of-count.result (count_is (goal.at.returns-then-count-le1 c).After-classes_of-count) c.if-count-le1.true)
+    le-leb _ 1 c.if-count-le1.true ∙ sym (card_few (numbered s.s) s.labels.now s.model.now s.x c.classes_of-count.result (count_is (goal.at.returns-then-count-le1 c).After-classes_of-count) c.if-count-le1.true)
 
-pub returns : goal.returns
-returns c =
+pub returns-else-count-le1 : goal.returns-else-count-le1
+returns-else-count-le1 c =
     let s = c.args in
     let count = c.classes_of-count.result in
-    c.has_room-2.ensures ∙ ap (λ (k : ℕ). roomy s.s.n count k) (size_is (goal.at.returns c).After-magnitude-size)
-    ∙ sym (card_many (numbered s.s) s.labels.now s.model.now s.x count (count_is (goal.at.returns c).After-classes_of-count) c.if-count-le1.false)
+    c.has_room-else-count-le1.ensures ∙ ap (λ (k : ℕ). roomy s.s.n count k) (size_is (goal.at.returns-else-count-le1 c).After-magnitude-size)
+    ∙ sym (card_many (numbered s.s) s.labels.now s.model.now s.x count (count_is (goal.at.returns-else-count-le1 c).After-classes_of-count) c.if-count-le1.false)

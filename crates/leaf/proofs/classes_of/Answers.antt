@@ -1,60 +1,17 @@
-use Prim.Native.Nat.{◌+◌, ℕ}
-use lib.Dec.{eqb}
-use lib.IntN.{ℤ}
-use lib.ListN.{length}
-use mathlib.Core.Bool.{◌&&◌, cond}
-use mathlib.Core.Path.{◌∙◌, ◌≡◌, ap, ap₂, refl}
-use mir.Facts.{to_z-of_z}
-use mir.Syntax.{w64}
-use mir.Val.{of_z, to_z}
-use native.Mathlib.Omega.{arith}
-use Rattle.calculus.specs.Facts.{len}
-use Rattle.calculus.specs.Model.{model_value}
-use Rattle.calculus.specs.LinearForms.{eqℤ}
-use Rattle.calculus.specs.SettledTest.{lowest_of_length, lowest_variable}
-use Rattle.leaf.proofs.Laws.{count_more}
+use borrow.Author.Rules.{rules}
+use borrow.Author.Tests.{tests}
+use mathlib.Core.Path.{◌∙◌}
+use Rattle.std.proofs.lemmas.Iterator.{YieldsList-from_range}
+use Rattle.std.proofs.lemmas.Iterator.Consumers.{YieldsList-from_filter, count_from_yields_List}
 use Rattle.question.specs.Posed.{numbered}
+use Rattle.leaf.proofs.Laws.{classes_counted, is_lowest}
+use Rattle.leaf.proofs.Signed.{bits_equal}
 use Rattle.leaf.proofs.classes_of.Goals as goal
-use Rattle.leaf.proofs.classes_of.Goals.{After-tally-one}
 
--- the test of one variable
-told : (c : After-tally-one)
-    →
-    let args = c.args in
-    c.tally-one.result
-    ≡ cond (eqℤ (model_value (numbered args.s) args.model.now len c.loop-y.y) (to_z w64 (of_z w64 args.wanted))
-    && eqb (lowest_variable args.labels.now c.loop-y.y) c.loop-y.y)
-    1 0
-told c =
-    let args = c.args in
-    c.tally-one.ensures.value
-    ∙ ap (λ (z : ℤ). cond (eqℤ z (to_z w64 (of_z w64 args.wanted))
-    && eqb (lowest_variable args.labels.now c.loop-y.y) c.loop-y.y)
-    1 0)
-    (to_z-of_z {w = w64} (record { sfits = c.value_of-len.type_inv }) ∙ c.value_of-len.ensures)
-
-pub loop-y-init : goal.loop-y-init
-loop-y-init c = (omega arith, omega arith, refl)
-
-pub overflow_add-count : goal.overflow_add-count
-overflow_add-count c = omega arith
-
-pub loop-y-preserved : goal.loop-y-preserved
-loop-y-preserved c =
-    let l = c.loop-y in
-    let s = c.args in (
-      omega arith,
-      omega arith,
-      ap (λ (k : ℕ). k + c.tally-one.result) l.invariant.2
-          ∙ count_more (numbered s.s) s.labels.now s.model.now (to_z w64 (of_z w64 s.wanted)) l.y c.tally-one.result (told c),
-    )
-
-pub returns : goal.returns
-returns c =
-    let l = c.loop-y in
-    let e : l.y ≡ c.args.s.p = omega arith in record {
-      value = l.invariant.2
-          ∙ ap₂ (λ (m : ℕ) (z : ℤ). length (lowest_of_length (numbered c.args.s) c.args.labels.now c.args.model.now z m)) e
-          (to_z-of_z c.ranges.wanted);
-      upper_bound = omega arith;
-    }
+pub returns-clause-value : goal.returns-clause-value
+returns-clause-value c =
+    let s = c.args in
+    count_from_yields_List _ c.count.result c.count.ensures.ran
+    (YieldsList-from_filter _ (is_lowest (numbered s.s) s.labels.now s.model.now s.wanted)
+    (YieldsList-from_range 0 s.s.p s.s.p (search rules) (search rules)) c.filter.ensures.closure (λ x b q k. search (rules, tests, bits_equal)))
+    ∙ classes_counted (numbered s.s) s.labels.now s.model.now s.wanted s.s.p

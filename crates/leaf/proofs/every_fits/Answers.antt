@@ -1,34 +1,19 @@
-use Prim.Native.Nat.{ℕ}
-use mathlib.Core.Path.{◌∙◌, ◌≡◌, ap, refl, sym}
-use native.Mathlib.Omega.{arith}
-use Rattle.lists.specs.Lists.{all_below}
-use Rattle.leaf.proofs.Laws.{every_more, every_no}
+use borrow.Author.Rules.{rules}
+use borrow.Author.Tests.{tests}
+use mathlib.Core.Path.{◌∙◌}
+use Rattle.std.proofs.lemmas.Iterator.{YieldsList-from_range, serves_from_Range}
+use Rattle.std.proofs.lemmas.Iterator.Search.{all_from_yields_List}
+use Rattle.lists.proofs.Library.{all_below_is}
 use Rattle.question.specs.Posed.{asked}
 use Rattle.leaf.specs.Values.{by_earlier}
 use Rattle.leaf.proofs.every_fits.Goals as goal
 
-pub loop-x-init : goal.loop-x-init
-loop-x-init c = (omega arith, refl)
-
-pub returns-then-not-values_fit : goal.returns-then-not-values_fit
-returns-then-not-values_fit c =
-    let l = c.loop-x in
-    let s = c.args in
-    sym (every_no (by_earlier (asked s.ticket.now s.s) s.labels.now s.model.now) s.s.p l.x (omega arith)
-    (sym c.values_fit.ensures ∙ c.if-not-values_fit.true))
-
-pub loop-x-preserved : goal.loop-x-preserved
-loop-x-preserved c =
-    let l = c.loop-x in
-    let s = c.args in (
-      omega arith,
-      every_more (by_earlier (asked s.ticket.now s.s) s.labels.now s.model.now) l.x l.invariant.1
-          (sym c.values_fit.ensures ∙ c.if-not-values_fit.false),
-    )
+pub all-requires-clause-callable : goal.all-requires-clause-callable
+all-requires-clause-callable c = serves_from_Range (λ x q k. search (rules, tests)) (λ x low high. search rules)
 
 pub returns : goal.returns
 returns c =
-    let l = c.loop-x in
     let s = c.args in
-    let e : l.x ≡ s.s.p = omega arith in
-    sym (ap (λ (k : ℕ). all_below k (by_earlier (asked s.ticket.now s.s) s.labels.now s.model.now)) (sym e) ∙ l.invariant.1)
+    all_from_yields_List (by_earlier (asked s.ticket.now s.s) s.labels.now s.model.now) _ _ _ c.all.ensures.ran
+    (YieldsList-from_range 0 s.s.p s.s.p (search rules) (search rules)) (λ x b q k. search (rules, tests))
+    ∙ all_below_is _ s.s.p

@@ -8,9 +8,9 @@ use Rattle.leaf.proofs.length_fits.Goals as goal
 pub returns-then-class_holds : goal.returns-then-class_holds
 returns-then-class_holds c =
     let s = c.args in
-    sym (length_empty s.labels.now s.x s.len (sym c.class_holds.ensures ∙ c.if-class_holds.true))
+    c.if-class_holds.true ∙ sym (length_empty s.labels.now s.x s.len (sym c.class_holds.ensures ∙ c.if-class_holds.true))
 
-pub returns : goal.returns
-returns c =
+pub returns-else-class_holds : goal.returns-else-class_holds
+returns-else-class_holds c =
     ap (λ (z : ℤ). lt_z (pos 0) z) (to_z-of_z c.ranges.len)
     ∙ sym (length_other c.args.labels.now c.args.x c.args.len (sym c.class_holds.ensures ∙ c.if-class_holds.false))

@@ -22,7 +22,7 @@ unfolding literal_of
 found-is c =
     let s = c.args in
     literal_in_law s.ticket.now s.s s.labels.now s.x
-    ∙ sym c.class_literal-found.ensures
+    ∙ sym c.class_literal.ensures
     ∙ ap literal_of c.in-Some.is
 
 pub placed_text-text-requires : goal.placed_text-text-requires
@@ -52,4 +52,4 @@ returns-in-None c =
     let s = c.args in
     let b = s.ticket.now in
     sym (literal_none (asked b s.s) s.len s.code _
-    (literal_in_law b s.s s.labels.now s.x ∙ sym c.class_literal-found.ensures ∙ ap literal_of c.in-None.is))
+    (literal_in_law b s.s s.labels.now s.x ∙ sym c.class_literal.ensures ∙ ap literal_of c.in-None.is))

@@ -2,34 +2,32 @@ use lib.IntN.{negsuc}
 use mathlib.Core.Bool.{not}
 use mathlib.Core.Path.{◌∙◌, ap, sym}
 use native.Mathlib.Omega.{arith}
+use borrow.Author.Tests.{eq-eqb, ne_eqb}
 use Rattle.leaf.proofs.Laws.{pair_other_class, pair_codes, pair_lengths, pair_no_code}
-use Rattle.leaf.proofs.Signed.{equal_read}
+use Rattle.leaf.proofs.Signed.{bits_equal, equal_false, equal_true}
 use Rattle.leaf.proofs.pair_by.Goals as goal
 
-pub returns-then-not-equal : goal.returns-then-not-equal
-returns-then-not-equal c =
-    let e = equal_read c.equal.result c.args.z c.args.w c.ranges.z c.ranges.w c.equal.ensures in
-    sym (pair_lengths c.args.z c.args.w c.args.c c.args.d c.args.same c.if-same.true (sym e ∙ c.if-not-equal.true))
+pub returns-then-z-w : goal.returns-then-z-w
+returns-then-z-w c =
+    let s = c.args in
+    bits_equal s.c s.d c.ranges.c c.ranges.d
+    ∙ sym (pair_codes s.z s.w s.c s.d s.same c.if-same.true (equal_true s.z s.w c.ranges.z c.ranges.w c.if-z-w.true))
 
-pub returns-then-same : goal.returns-then-same
-returns-then-same c =
-    let e = equal_read c.equal.result c.args.z c.args.w c.ranges.z c.ranges.w c.equal.ensures in
-    let g = equal_read c.equal-then-same.result c.args.c c.args.d c.ranges.c c.ranges.d c.equal-then-same.ensures in
-    g
-    ∙ sym (pair_codes c.args.z c.args.w c.args.c c.args.d c.args.same c.if-same.true
-    (sym e ∙ c.if-not-equal.false))
+pub returns-else-z-w : goal.returns-else-z-w
+returns-else-z-w c =
+    let s = c.args in
+    ne_eqb _ _ c.if-z-w.false ∙ sym (pair_lengths s.z s.w s.c s.d s.same c.if-same.true (equal_false s.z s.w c.ranges.z c.ranges.w c.if-z-w.false))
 
-pub returns-then-equal : goal.returns-then-equal
-returns-then-equal c =
-    let e = equal_read c.equal-2.result c.args.c (negsuc 0) c.ranges.c (record { sfits = omega arith }) c.equal-2.ensures in
-    sym (pair_no_code c.args.z c.args.w c.args.c c.args.d c.args.same c.if-same.false (sym e ∙ c.if-equal.true))
+pub returns-then-c-eqminus1 : goal.returns-then-c-eqminus1
+returns-then-c-eqminus1 c =
+    let s = c.args in
+    eq-eqb _ _ c.if-c-eqminus1.true
+    ∙ sym (pair_no_code s.z s.w s.c s.d s.same c.if-same.false
+    (equal_true s.c (negsuc 0) c.ranges.c (record { sfits = omega arith }) c.if-c-eqminus1.true))
 
-pub returns : goal.returns
-returns c =
-    let e =
-    equal_read c.equal-2.result c.args.c (negsuc 0) c.ranges.c (record { sfits = omega arith })
-    c.equal-2.ensures in
-    let g = equal_read c.equal-3.result c.args.c c.args.d c.ranges.c c.ranges.d c.equal-3.ensures in
-    ap not g
-    ∙ sym (pair_other_class c.args.z c.args.w c.args.c c.args.d c.args.same c.if-same.false
-    (sym e ∙ c.if-equal.false))
+pub returns-else-c-eqminus1 : goal.returns-else-c-eqminus1
+returns-else-c-eqminus1 c =
+    let s = c.args in
+    ap not (bits_equal s.c s.d c.ranges.c c.ranges.d)
+    ∙ sym (pair_other_class s.z s.w s.c s.d s.same c.if-same.false
+    (equal_false s.c (negsuc 0) c.ranges.c (record { sfits = omega arith }) c.if-c-eqminus1.false))

@@ -23,17 +23,17 @@ conflict-test c =
     c.conflict.ensures
     ∙ conflict_is c.args.ticket.now c.args.s c.args.labels.now (branch_of c.args.work.now c.args.count) c.requires.labels_value
 
-pub returns-then-conflict : goal.returns-then-conflict
-returns-then-conflict c =
+pub returns-else-not-conflict : goal.returns-else-not-conflict
+returns-else-not-conflict c =
     let s = c.args in
     let u = asked s.ticket.now s.s in
     let b = branch_of s.work.now s.count in
-    sym (settled_is u b s.model.now
-    ∙ ap (λ (t : Bool). not t && all_below u.p (by_values u (labels b) s.model.now)) (sym (conflict-test (goal.at.returns-then-conflict c).After-conflict) ∙ c.if-conflict.true))
+    ap not c.if-not-conflict.false ∙ sym (settled_is u b s.model.now
+    ∙ ap (λ (t : Bool). not t && all_below u.p (by_values u (labels b) s.model.now)) (sym (conflict-test (goal.at.returns-else-not-conflict c).After-conflict) ∙ c.if-not-conflict.false))
 
-pub returns : goal.returns
+pub returns-then-not-conflict : goal.returns-then-not-conflict
 unfolding asked
-returns c =
+returns-then-not-conflict c =
     let u = asked c.args.ticket.now c.args.s in
     let m = c.args.model.now in
     let b = branch_of c.args.work.now c.args.count in
@@ -41,4 +41,4 @@ returns c =
     ∙ earlier_all u c.args.labels.now m
     ∙ ap (λ (ls : List ℕ). all_below u.p (by_values u ls m)) c.requires.labels_value
     ∙ sym (settled_is u b m
-    ∙ ap (λ (t : Bool). not t && all_below u.p (by_values u (labels b) m)) (sym (conflict-test (goal.at.returns c).After-conflict) ∙ c.if-conflict.false))
+    ∙ ap (λ (t : Bool). not t && all_below u.p (by_values u (labels b) m)) (sym (conflict-test (goal.at.returns-then-not-conflict c).After-conflict) ∙ c.if-not-conflict.true))

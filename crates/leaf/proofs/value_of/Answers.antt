@@ -9,13 +9,13 @@ use Prim.Native.Nat.{ℕ}
 use Rattle.leaf.proofs.Laws.{column_there, column_value}
 use Rattle.leaf.proofs.value_of.Goals as goal
 
-pub bounds-model-at : goal.bounds-model-at
-bounds-model-at c =
-    omega (arith, c.column_of-at.ensures.0, column_there c.args.s c.args.function c.args.x c.requires.1, c.requires.0.columns)
+pub bounds-model-column_of : goal.bounds-model-column_of
+bounds-model-column_of c =
+    omega (arith, c.column_of.ensures.0, column_there c.args.s c.args.function c.args.x c.requires.1, c.requires.0.columns)
 
 pub returns : goal.returns
 returns c =
     let s = c.args in
     to_z-of_z {w = w64} (record { sfits = search rules })
-    ∙ ap (λ (i : ℕ). get_or s.model.now i (pos 0)) c.column_of-at.ensures.0
+    ∙ ap (λ (i : ℕ). get_or s.model.now i (pos 0)) c.column_of.ensures.0
     ∙ column_value s.s s.function s.x s.model.now

@@ -6,20 +6,20 @@ use Rattle.question.specs.Posed.{asked}
 use Rattle.leaf.specs.Values.{pair_fits}
 use Rattle.leaf.proofs.values_fit.Goals as goal
 
-pub returns-then-not-var_fits : goal.returns-then-not-var_fits
+pub returns-else-var_fits : goal.returns-else-var_fits
 unfolding asked
-returns-then-not-var_fits c =
+returns-else-var_fits c =
     let s = c.args in
     let u = asked s.ticket.now s.s in
-    sym (ap (λ (t : Bool). t && all_below s.x (pair_fits u s.labels.now s.model.now s.x))
-    (sym c.var_fits.ensures ∙ c.if-not-var_fits.true))
+    c.if-var_fits.false ∙ sym (ap (λ (t : Bool). t && all_below s.x (pair_fits u s.labels.now s.model.now s.x))
+    (sym c.var_fits.ensures ∙ c.if-var_fits.false))
 
-pub returns : goal.returns
+pub returns-then-var_fits : goal.returns-then-var_fits
 unfolding asked
-returns c =
+returns-then-var_fits c =
     let s = c.args in
     let u = asked s.ticket.now s.s in
     c.pairs_fit.ensures
     ∙ pairs_any s.ticket.now s.s s.labels.now s.model.now s.x
     ∙ sym (ap (λ (t : Bool). t && all_below s.x (pair_fits u s.labels.now s.model.now s.x))
-    (sym c.var_fits.ensures ∙ c.if-not-var_fits.false))
+    (sym c.var_fits.ensures ∙ c.if-var_fits.true))

@@ -1,4 +1,5 @@
 use lib.IntN.{ℤ}
+use mathlib.Core.Bool.{Bool, ◌&&◌}
 use mathlib.Core.Path.{◌∙◌, ◌≡◌, ap, ap₂, sym}
 use mir.Facts.{to_z-of_z}
 use mir.Syntax.{w64}
@@ -6,12 +7,13 @@ use mir.Val.{of_z, to_z}
 use Rattle.calculus.specs.Classes.{literal_in}
 use Rattle.calculus.specs.Facts.{code, len}
 use Rattle.calculus.specs.Model.{model_value}
-use Rattle.leaf.proofs.Laws.{card_any, from_literal, var_card, var_code, var_length, var_literal}
+use Rattle.leaf.proofs.Laws.{card_any, from_literal, var_all}
 use Rattle.question.proofs.Posed.{some_character}
 use Rattle.question.specs.Posed.{asked}
 use Rattle.leaf.specs.Values.{code_fits, l_valid_fits, literal_fits}
 use Rattle.leaf.proofs.var_fits.Goals as goal
-use Rattle.leaf.proofs.var_fits.Goals.{After-code_fits, After-length_fits, After-literal_fits, After-value_of-code, After-value_of-len}
+use Rattle.leaf.proofs.var_fits.Goals.{After-literal_fits, After-value_of-code, After-value_of-len, else-length_fits, else-literal_fits, then-length_fits, then-literal_fits}
+use Rattle.calculus.specs.SettledTest.{settled_card}
 
 -- the length and the code that were read
 z-is : (c : After-value_of-len)
@@ -45,57 +47,57 @@ literal-test c =
     ∙ ap₂ (literal_fits u (literal_in u s.labels.now s.x)) (z-is (goal.at.After-literal_fits c).After-value_of-len)
     (c-is (goal.at.After-literal_fits c).After-value_of-code)
 
-length-test : (c : After-length_fits) →
-    let args = c.args in
-    c.length_fits.result
-    ≡ l_valid_fits args.labels.now args.x (model_value (asked args.ticket.now args.s) args.model.now len args.x)
-length-test c =
-    let args = c.args in
-    c.length_fits.ensures ∙ ap (l_valid_fits args.labels.now args.x) (z-is (goal.at.After-length_fits c).After-value_of-len)
-
-code-test : (c : After-code_fits) →
-    let args = c.args in
-    c.code_fits.result
-    ≡ code_fits args.s.n (model_value (asked args.ticket.now args.s) args.model.now len args.x)
-    (model_value (asked args.ticket.now args.s) args.model.now code args.x)
-code-test c =
-    let args = c.args in
-    c.code_fits.ensures
-    ∙ ap₂ (λ (z w : ℤ). code_fits args.s.n z w) (z-is (goal.at.After-code_fits c).After-value_of-len) (c-is (goal.at.After-code_fits c).After-value_of-code)
-
-pub returns-then-not-literal_fits : goal.returns-then-not-literal_fits
-returns-then-not-literal_fits c =
+pub returns-then-code_fits : goal.returns-then-code_fits
+unfolding asked
+returns-then-code_fits c =
     let s = c.args in
-    sym (var_literal (asked s.ticket.now s.s) s.labels.now s.model.now s.x
-    (sym (literal-test (goal.at.returns-then-not-literal_fits c).After-literal_fits) ∙ c.if-not-literal_fits.true))
+    let u = asked s.ticket.now s.s in
+    let z = z-is (goal.at.returns-then-code_fits c).After-value_of-len in
+    let d = c-is (goal.at.returns-then-code_fits c).After-value_of-code in
+    let l : Bool = from_literal u s.labels.now s.model.now s.x in
+    let n : Bool = l_valid_fits s.labels.now s.x (model_value u s.model.now len s.x) in
+    let k : Bool = code_fits u.n (model_value u s.model.now len s.x) (model_value u s.model.now code s.x) in
+    let t = literal-test (goal.at.returns-then-code_fits c).After-literal_fits in
+    let first : c.if-literal_fits.value ≡ (l && n) = elim c.if-literal_fits.branch [
+      | then-literal_fits w ↦
+          w.value-is ∙ w.length_fits.ensures ∙ ap (l_valid_fits s.labels.now s.x) z ∙ sym (ap (λ (b : Bool). b && n) (sym t ∙ w.if-literal_fits.true))
+      | else-literal_fits w ↦ w.value-is ∙ w.if-literal_fits.false ∙ sym (ap (λ (b : Bool). b && n) (sym t ∙ w.if-literal_fits.false))
+    ] in
+    let second : c.if-length_fits.value ≡ ((l && n) && k) = elim c.if-length_fits.branch [
+      | then-length_fits w ↦
+          w.value-is ∙ w.code_fits.ensures ∙ ap₂ (λ (x y : ℤ). code_fits s.s.n x y) z d
+          ∙ sym (ap (λ (b : Bool). b && k) (sym first ∙ w.if-length_fits.true))
+      | else-length_fits w ↦ w.value-is ∙ w.if-length_fits.false ∙ sym (ap (λ (b : Bool). b && k) (sym first ∙ w.if-length_fits.false))
+    ] in
+    c.card_fits.ensures ∙ card_any s.ticket.now s.s s.labels.now s.model.now s.x
+    ∙ sym (var_all u s.labels.now s.model.now s.x ∙ ap (λ (b : Bool). b && settled_card u s.labels.now s.model.now s.x) (sym second ∙ c.if-code_fits.true))
 
-pub returns-then-not-length_fits : goal.returns-then-not-length_fits
-returns-then-not-length_fits c =
+pub returns-else-code_fits : goal.returns-else-code_fits
+unfolding asked
+returns-else-code_fits c =
     let s = c.args in
-    sym (var_length (asked s.ticket.now s.s) s.labels.now s.model.now s.x
-    (sym (literal-test (goal.at.returns-then-not-length_fits c).After-literal_fits) ∙ c.if-not-literal_fits.false)
-    (sym (length-test (goal.at.returns-then-not-length_fits c).After-length_fits) ∙ c.if-not-length_fits.true))
+    let u = asked s.ticket.now s.s in
+    let z = z-is (goal.at.returns-else-code_fits c).After-value_of-len in
+    let d = c-is (goal.at.returns-else-code_fits c).After-value_of-code in
+    let l : Bool = from_literal u s.labels.now s.model.now s.x in
+    let n : Bool = l_valid_fits s.labels.now s.x (model_value u s.model.now len s.x) in
+    let k : Bool = code_fits u.n (model_value u s.model.now len s.x) (model_value u s.model.now code s.x) in
+    let t = literal-test (goal.at.returns-else-code_fits c).After-literal_fits in
+    let first : c.if-literal_fits.value ≡ (l && n) = elim c.if-literal_fits.branch [
+      | then-literal_fits w ↦
+          w.value-is ∙ w.length_fits.ensures ∙ ap (l_valid_fits s.labels.now s.x) z ∙ sym (ap (λ (b : Bool). b && n) (sym t ∙ w.if-literal_fits.true))
+      | else-literal_fits w ↦ w.value-is ∙ w.if-literal_fits.false ∙ sym (ap (λ (b : Bool). b && n) (sym t ∙ w.if-literal_fits.false))
+    ] in
+    let second : c.if-length_fits.value ≡ ((l && n) && k) = elim c.if-length_fits.branch [
+      | then-length_fits w ↦
+          w.value-is ∙ w.code_fits.ensures ∙ ap₂ (λ (x y : ℤ). code_fits s.s.n x y) z d
+          ∙ sym (ap (λ (b : Bool). b && k) (sym first ∙ w.if-length_fits.true))
+      | else-length_fits w ↦ w.value-is ∙ w.if-length_fits.false ∙ sym (ap (λ (b : Bool). b && k) (sym first ∙ w.if-length_fits.false))
+    ] in
+    c.if-code_fits.false
+    ∙ sym (var_all u s.labels.now s.model.now s.x ∙ ap (λ (b : Bool). b && settled_card u s.labels.now s.model.now s.x) (sym second ∙ c.if-code_fits.false))
 
 pub code_fits-requires : goal.code_fits-requires
 code_fits-requires c =
     let pre = c.requires in
     some_character pre.0.posed
-
-pub returns-then-not-code_fits : goal.returns-then-not-code_fits
-unfolding asked
-returns-then-not-code_fits c =
-    let s = c.args in
-    sym (var_code (asked s.ticket.now s.s) s.labels.now s.model.now s.x
-    (sym (literal-test (goal.at.returns-then-not-code_fits c).After-literal_fits) ∙ c.if-not-literal_fits.false)
-    (sym (length-test (goal.at.returns-then-not-code_fits c).After-length_fits) ∙ c.if-not-length_fits.false)
-    (sym (code-test (goal.at.returns-then-not-code_fits c).After-code_fits) ∙ c.if-not-code_fits.true))
-
-pub returns : goal.returns
-unfolding asked
-returns c =
-    let if1 = c.if-not-literal_fits in
-    let s = c.args in
-    c.card_fits.ensures ∙ card_any s.ticket.now s.s s.labels.now s.model.now s.x
-    ∙ sym (var_card (asked s.ticket.now s.s) s.labels.now s.model.now s.x (sym (literal-test (goal.at.returns c).After-literal_fits) ∙ if1.false)
-    (sym (length-test (goal.at.returns c).After-length_fits) ∙ c.if-not-length_fits.false)
-    (sym (code-test (goal.at.returns c).After-code_fits) ∙ c.if-not-code_fits.false))

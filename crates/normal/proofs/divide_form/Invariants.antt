@@ -1,4 +1,3 @@
-use Prim.Native.Nat.{◌-◌}
 use lib.IntN.{nat_abs, ℤ}
 use Rattle.integers.specs.Division.{floor_div}
 use Rattle.lists.proofs.Filled.{Changing}
@@ -8,8 +7,5 @@ use Rattle.normal.proofs.divide_form.Given as goal
 abbrev pub by : ℤ → ℤ → ℤ
 by d x = floor_div x (nat_abs d)
 
-abbrev pub invariant-loop-j : goal.invariant-loop-j
-invariant-loop-j l = Changing 1 (by l.d) l.initial.row l.row l.j
-
-abbrev pub decreases-loop-j : goal.decreases-loop-j
-decreases-loop-j l = 50 - l.j
+abbrev pub invariant-loop-x : goal.invariant-loop-x
+invariant-loop-x l = Changing 0 (by l.d) l.initial.x-items l.x-items l.x-index

@@ -1,45 +1,34 @@
-use lib.IntN.{pos}
-use lib.ListN.{get_or}
-use mathlib.Core.Path.{◌∙◌, refl, sym}
+use Rattle.std.proofs.Common.{rules, tests, unwrap_or, ◌∙◌, ◌≡◌, sym, not, Option, Some, None, refl, ap₂}
+use lib.IntN.{pos, ℤ}
+use lib.ListN.{drop, get_or}
 use mir.Facts.{to_z-of_z}
 use mir.Syntax.{w64}
 use mir.Val.{SFits}
-use native.Mathlib.Omega.{arith}
-use Rattle.normal.proofs.Laws.{first_done, first_found, first_on, leading_row}
-use Rattle.rows.proofs.Tested.{zero_no, zero_yes}
+use Rattle.std.specs.Option.{option_map}
+use Rattle.std.proofs.lemmas.Iterator.{YieldsList-from_slice}
+use Rattle.std.proofs.lemmas.Iterator.Consumers.{YieldsList-from_copied}
+use Rattle.std.proofs.lemmas.Iterator.Search.{find_from_yields_List}
+use Rattle.calculus.specs.LinearForms.{is_zero}
+use Rattle.rows.proofs.Chains.{part_from}
+use Rattle.rows.proofs.Tested.{zero_test}
+use Rattle.normal.proofs.Laws.{first_found, leading_row}
 use Rattle.normal.proofs.leading.Goals as goal
 
-pub loop-j-init : goal.loop-j-init
-loop-j-init c = (omega arith, omega arith, refl)
-
-pub returns-then-x-ne0 : goal.returns-then-x-ne0
-returns-then-x-ne0 c =
-    let l = c.loop-j in
-    let row = c.args.row.now in
-    let z = get_or row l.j (pos 0) in
-    let f : SFits w64 z = record { sfits = c.x-1.given } in
-    to_z-of_z f
-    ∙ sym (first_found (get_or row 1 (pos 0)) row l.j (omega arith) (zero_no z f c.if-x-ne0.true))
-    ∙ l.invariant.2
-    ∙ sym (leading_row row c.requires)
-
-pub loop-j-preserved : goal.loop-j-preserved
-loop-j-preserved c =
-    let l = c.loop-j in
-    let row = c.args.row.now in
-    let z = get_or row l.j (pos 0) in
-    let f : SFits w64 z = record { sfits = c.x-1.given } in (
-      omega arith,
-      omega arith,
-      first_on (get_or row 1 (pos 0)) row l.j (omega arith) (zero_yes z f c.if-x-ne0.false) ∙ l.invariant.2,
-    )
+itself : (o : Option ℤ) → option_map (λ x. x) o ≡ o
+itself None = refl
+itself (Some x) = refl
 
 pub returns : goal.returns
 returns c =
-    let l = c.loop-j in
     let row = c.args.row.now in
-    let f : SFits w64 (get_or row 1 (pos 0)) = record { sfits = c.result-1.given } in
-    to_z-of_z f
-    ∙ sym (first_done (get_or row 1 (pos 0)) row l.j (omega arith))
-    ∙ l.invariant.2
+    let f : SFits w64 (get_or row 1 (pos 0)) = search (rules, tests) in
+    let g : SFits w64 c.unwrap_or.result = record { sfits = c.unwrap_or.type_inv } in
+    let source : c.copied.result.iter.rest.now ≡ c.iter.result.rest.now = search rules in
+    let found = find_from_yields_List (λ z. not (is_zero z)) c.find.new.self _ c.find.result c.find.ensures.ran
+    (YieldsList-from_copied (YieldsList-from_slice (drop 2 row) (source ∙ c.iter.ensures.rest ∙ part_from row 2)))
+    (λ x b q k. let h : SFits w64 x = search (rules, tests) in let t = zero_test x h in search (rules, tests)) in
+    to_z-of_z g
+    ∙ c.unwrap_or.ensures
+    ∙ ap₂ unwrap_or (sym (itself c.find.result) ∙ found) (to_z-of_z f)
+    ∙ first_found (get_or row 1 (pos 0)) (drop 2 row)
     ∙ sym (leading_row row c.requires)

@@ -1,50 +1,51 @@
-use Prim.Native.Nat.{◌≤◌}
+use Prim.Native.Nat.{◌+◌, ◌-◌, ◌≤◌}
 use lib.IntN.{nat_abs, pos, ℤ}
-use lib.ListN.{get_or}
-use mathlib.Core.Path.{◌∙◌, ◌≡◌, subst, sym}
+use lib.ListN.{drop, get_or, length, take}
+use lib.Seq.{get_or-drop}
+use mathlib.Core.List.{List, ◌∷◌, map}
+use mathlib.Core.Path.{◌∙◌, ◌≡◌, ap}
 use native.Mathlib.Omega.{arith}
 use Rattle.calculus.specs.Limits.{number_limit}
-use Rattle.lists.proofs.Filled.{changing_done, changing_first, changing_more, kept_at}
-use Rattle.normal.proofs.Laws.{form_changed}
+use Rattle.lists.proofs.Filled.{changing_done, changing_more, kept_at}
+use Rattle.normal.proofs.Laws.{form_put_back}
+use Rattle.rows.proofs.Chains.{part_from}
 use Rattle.rows.proofs.Small.{behind_tag, neg_fits, neg_is}
 use Rattle.normal.proofs.negate_form.Goals as goal
+use Rattle.normal.proofs.negate_form.Goals.{In-loop-x}
 use Rattle.normal.proofs.negate_form.Invariants.{minus}
-use Rattle.normal.proofs.negate_form.Goals.{After-x-1}
 
--- the number read
-module _ (c : After-x-1) where
+-- the form as it was lent, and the number read
+module _ (c : In-loop-x) where
+  abbrev form : List ℤ
+  form = take (length c.args.row.now - 1) (drop 1 c.args.row.now)
+
   abbrev z : ℤ
-  z = get_or c.loop-j.row c.loop-j.j (pos 0)
+  z = get_or c.loop-x.x-items c.loop-x.x-index (pos 0)
 
-  was : z ≡ get_or c.args.row.now c.loop-j.j (pos 0)
+  was : z ≡ get_or c.args.row.now (1 + c.loop-x.x-index) (pos 0)
   was =
-      let l = c.loop-j in
-      kept_at l.row c.args.row.now l.j (pos 0) l.invariant.4
+      let i = c.loop-x.x-index in
+      let row = c.args.row.now in
+      kept_at c.loop-x.x-items form i (pos 0) c.loop-x.invariant.4
+      ∙ ap (λ (l : List ℤ). get_or l i (pos 0)) (part_from row 1)
+      ∙ get_or-drop 1 row i (pos 0)
 
   small : nat_abs z ≤ number_limit
-  small =
-      let l = c.loop-j in
-      subst (λ (y : ℤ). nat_abs y ≤ number_limit) (sym was) (behind_tag c.args.row.now l.j c.requires.1 (omega arith))
+  small = rw was (behind_tag c.args.row.now (1 + c.loop-x.x-index) c.requires.1 (omega arith))
 
-pub loop-j-init : goal.loop-j-init
-loop-j-init c = let n = c.requires.0 in changing_first 1 minus c.args.row.now (omega arith)
+pub overflow_sub-x : goal.overflow_sub-x
+overflow_sub-x c = let here = (goal.at.overflow_sub-x c).In-loop-x in neg_fits (z here) number_limit (small here) (omega arith)
 
-pub overflow_sub-row : goal.overflow_sub-row
-overflow_sub-row c = neg_fits (z c) number_limit (small c) (omega arith)
-
-pub loop-j-preserved : goal.loop-j-preserved
-loop-j-preserved c =
-    let l = c.loop-j in
-    let row = c.args.row.now in
-    let n = c.requires.0 in
-    changing_more 1 minus row l.row l.j l.invariant _ (pos 0) (omega arith) (neg_is (z c) number_limit (small c) (omega arith))
-
-pub shape_of-row : goal.shape_of-row
-shape_of-row c = c.loop-j.invariant.2
+pub loop-x-preserved : goal.loop-x-preserved
+loop-x-preserved c =
+    let here = (goal.at.loop-x-preserved c).In-loop-x in
+    changing_more 0 minus (form here) c.loop-x.x-items c.loop-x.x-index c.loop-x.invariant _ (pos 0) (omega arith)
+    (neg_is (z here) number_limit (small here) (omega arith))
 
 pub returns : goal.returns
 returns c =
-    let l = c.loop-j in
     let row = c.args.row.now in
-    let n = c.requires.0 in
-    changing_done 1 minus row l.row l.j l.invariant (omega arith) ∙ form_changed minus row n
+    let form = take (length row - 1) (drop 1 row) in
+    form_put_back row c.loop-x.x-items c.requires.0
+    ∙ ap (λ (l : List ℤ). get_or row 0 (pos 0) ∷ l)
+    (changing_done 0 minus form c.loop-x.x-items c.loop-x.x-index c.loop-x.invariant (omega arith) ∙ ap (map minus) (part_from row 1))

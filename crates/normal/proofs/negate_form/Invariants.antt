@@ -1,4 +1,3 @@
-use Prim.Native.Nat.{◌-◌}
 use lib.IntN.{◌*ℤ◌, negsuc, ℤ}
 use Rattle.lists.proofs.Filled.{Changing}
 use Rattle.normal.proofs.negate_form.Given as goal
@@ -6,8 +5,5 @@ use Rattle.normal.proofs.negate_form.Given as goal
 abbrev pub minus : ℤ → ℤ
 minus x = negsuc 0 *ℤ x
 
-abbrev pub invariant-loop-j : goal.invariant-loop-j
-invariant-loop-j l = Changing 1 minus l.initial.row l.row l.j
-
-abbrev pub decreases-loop-j : goal.decreases-loop-j
-decreases-loop-j l = 50 - l.j
+abbrev pub invariant-loop-x : goal.invariant-loop-x
+invariant-loop-x l = Changing 0 minus l.initial.x-items l.x-items l.x-index

@@ -19,20 +19,14 @@ width k = omega arith
 
 -- the row in turn is as it was
 own : (c : In-loop-k) → row_at c.loop-k.work c.loop-k.k ≡ row_at c.args.work.now c.loop-k.k
-own c = ap (λ (l : List ℤ). take row_length l) c.loop-k.invariant.3
+own c = ap (λ (l : List ℤ). take row_length l) c.loop-k.invariant.2
 
 pub loop-k-init : goal.loop-k-init
 unfolding branch_of
-loop-k-init c = (omega arith, refl, refl, refl)
+loop-k-init c = (refl, refl, refl)
 
 pub overflow_mul-from : goal.overflow_mul-from
 overflow_mul-from c = let f = c.requires in omega (arith, f.few)
-
-pub overflow_add-to : goal.overflow_add-to
-overflow_add-to c = let f = c.requires in omega (arith, f.few)
-
-pub offset_bounds-work-from : goal.offset_bounds-work-from
-offset_bounds-work-from c = let f = c.requires in omega (arith, f.few)
 
 pub normalise_row-requires : goal.normalise_row-requires
 normalise_row-requires c =
@@ -42,7 +36,7 @@ normalise_row-requires c =
     rw (width l.k) (
       length_row l.work l.k (omega arith),
       ap (λ (row : List ℤ). fact_within (fact_of row)) (own (goal.at.normalise_row-requires c).In-loop-k)
-          ∙ fine_at c.args.work.now c.args.count l.k c.requires c.loop-k-test.true,
+          ∙ fine_at c.args.work.now c.args.count l.k c.requires (omega arith),
     )
 
 pub loop-k-preserved : goal.loop-k-preserved
@@ -55,17 +49,16 @@ loop-k-preserved c =
     let part = c.normalise_row.auto.row in
     let n : length row ≡ row_length = part ∙ rw (width l.k) (length_row l.work l.k (omega arith)) in
     let e : fact_of row ≡ normal (fact_of (row_at l.work l.k)) = rw (width l.k) at c.normalise_row.ensures in (
-      omega arith,
-      same_len_mid (row_length * l.k) (row_length * l.k + row_length - row_length * l.k) l.work row part ∙ l.invariant.1,
-      normal_more w₀ l.work _ l.k l.invariant.2 (own (goal.at.loop-k-preserved c).In-loop-k) (branch_filled l.work row l.k _ (omega arith) n e),
-      behind_filled w₀ l.work row l.k (omega arith) n l.invariant.3,
+      same_len_mid (row_length * l.k) (row_length * l.k + row_length - row_length * l.k) l.work row part ∙ l.invariant.0,
+      normal_more w₀ l.work _ l.k l.invariant.1 (own (goal.at.loop-k-preserved c).In-loop-k) (branch_filled l.work row l.k _ (omega arith) n e),
+      behind_filled w₀ l.work row l.k (omega arith) n l.invariant.2,
     )
 
 pub shape_of-work : goal.shape_of-work
-shape_of-work c = c.loop-k.invariant.1
+shape_of-work c = c.loop-k.invariant.0
 
 pub returns : goal.returns
 returns c =
     let l = c.loop-k in
     let e : l.k ≡ c.args.count = omega arith in
-    subst (λ (k : ℕ). branch_of l.work k ≡ map normal (branch_of c.args.work.now k)) e l.invariant.2
+    subst (λ (k : ℕ). branch_of l.work k ≡ map normal (branch_of c.args.work.now k)) e l.invariant.1

@@ -1,4 +1,4 @@
-use Prim.Native.Nat.{◌*◌, ◌-◌, ◌≤◌}
+use Prim.Native.Nat.{◌*◌}
 use lib.ListN.{drop, length}
 use mathlib.Core.List.{map}
 use mathlib.Core.Path.{◌≡◌}
@@ -8,10 +8,6 @@ use Rattle.normal.proofs.normalise.Given as goal
 
 abbrev pub invariant-loop-k : goal.invariant-loop-k
 invariant-loop-k l =
-    (l.k ≤ l.count)
-    × (length l.work ≡ length l.initial.work)
+    (length l.work ≡ length l.initial.work)
     × (branch_of l.work l.k ≡ map normal (branch_of l.initial.work l.k))
     × (drop (row_length * l.k) l.work ≡ drop (row_length * l.k) l.initial.work)
-
-abbrev pub decreases-loop-k : goal.decreases-loop-k
-decreases-loop-k l = l.count - l.k

@@ -1,8 +1,6 @@
+use Prim.Native.Nat.{◌-◌}
 use Rattle.sameness.proofs.Records.{Counting}
 use Rattle.sameness.proofs.count_records.Given as goal
 
-abbrev pub invariant-loop-left : goal.invariant-loop-left
-invariant-loop-left l = Counting l.b l.x l.c l.initial.at l.initial.left l.at l.found l.left
-
-abbrev pub decreases-loop-left : goal.decreases-loop-left
-decreases-loop-left l = l.left
+abbrev pub invariant-loop : goal.invariant-loop
+invariant-loop l = Counting l.b l.x l.c l.initial.at l.fn.t.extended l.at l.found (l.fn.t.extended - l.counter)

@@ -1,4 +1,4 @@
-use Prim.Native.Nat.{◌+◌, ◌<◌, ◌≤◌, ℕ}
+use Prim.Native.Nat.{◌+◌, ◌≤◌, ℕ}
 use lib.IntN.{ℤ}
 use mathlib.Core.Bool.{Bool, cond, false, true}
 use mathlib.Core.List.{List}
@@ -13,7 +13,7 @@ use Rattle.question.specs.Posed.{asked}
 use Rattle.question.specs.declared.Progress.{Progress}
 use Rattle.rows.specs.Rows.{branch_of, fact_of, row_at}
 use Rattle.sameness.proofs.Facts.{facts_more, literal_named_law, one_more, row_lent, row_there}
-use Rattle.sameness.specs.Ready.{Ready, facts_in, literal_named}
+use Rattle.sameness.specs.Ready.{facts_in, literal_named}
 use Rattle.sameness.proofs.count_rows.Goals as goal
 use Rattle.sameness.proofs.count_rows.Goals.{After-rows_alike, Joined-rows_alike, else-rows_alike, then-rows_alike}
 
@@ -30,20 +30,18 @@ test : (c : After-rows_alike) →
     let args = c.args in
     let w = args.work.now in
     let k = c.loop-k.k in
-    (s t : Progress)
+    (s : Progress)
     → literal_named (fact_of args.row.now) ≤ s.literals
-    → Ready args.c.now t w
-    → k < t.constraints
-    → c.rows_alike.result ≡ alike (asked args.b.now s) (asked args.c.now t) (basic (fact_of args.row.now)) (basic (fact_of (row_at w k)))
-test c s t h r less =
+    → c.rows_alike.result ≡ alike (asked args.b.now s) (asked args.c.now args.t) (basic (fact_of args.row.now)) (basic (fact_of (row_at w k)))
+test c s h =
     let args = c.args in
     let lent = c.row_at in
-    c.rows_alike.ensures s t h (literal_named_law r c.loop-k.k less lent.result.now lent.ensures)
-    ∙ ap (λ (row : List ℤ). alike (asked args.b.now s) (asked args.c.now t) (basic (fact_of args.row.now)) (basic (fact_of row))) lent.ensures
+    c.rows_alike.ensures s args.t h (literal_named_law c.requires.2 c.loop-k.k c.loop-k-test.true lent.result.now lent.ensures)
+    ∙ ap (λ (row : List ℤ). alike (asked args.b.now s) (asked args.c.now args.t) (basic (fact_of args.row.now)) (basic (fact_of row))) lent.ensures
 
 pub loop-k-init : goal.loop-k-init
 unfolding branch_of count
-loop-k-init c = (omega arith, omega arith, λ s t h r e. refl)
+loop-k-init c = (omega arith, λ s h. refl)
 
 pub row_at-requires : goal.row_at-requires
 row_at-requires c = row_there c.requires.2 c.loop-k.k c.loop-k-test.true
@@ -60,16 +58,14 @@ pub loop-k-preserved : goal.loop-k-preserved
 loop-k-preserved c =
     let w = c.args.work.now in
     let loop = c.loop-k in (
-      omega arith,
       elim c.if-rows_alike.branch [
         | then-rows_alike w ↦ omega (arith, w.found-is)
         | else-rows_alike w ↦ omega (arith, w.found-is)
       ],
-      λ s t h r e.
-          let less : loop.k < t.constraints = omega (arith, e, c.loop-k-test.true) in
-          let same = alike (asked c.args.b.now s) (asked c.args.c.now t) (basic (fact_of c.args.row.now)) in
+      λ s h.
+          let same = alike (asked c.args.b.now s) (asked c.args.c.now c.args.t) (basic (fact_of c.args.row.now)) in
           found-is c
-          ∙ ap₂ (λ (n : ℕ) (t : Bool). n + cond t 1 0) (loop.invariant.2 s t h r e) (test (goal.at.loop-k-preserved c).After-rows_alike s t h r less)
+          ∙ ap₂ (λ (n : ℕ) (t : Bool). n + cond t 1 0) (loop.invariant.1 s h) (test (goal.at.loop-k-preserved c).After-rows_alike s h)
           ∙ sym (ap (count same) (facts_more w loop.k) ∙ count_snoc same (facts_in w loop.k) (basic (fact_of (row_at w loop.k)))),
     )
 
@@ -79,5 +75,5 @@ returns c =
     let w = c.args.work.now in
     let t = c.args.t in
     let e : loop.k ≡ t.constraints = omega arith in
-    λ s h. loop.invariant.2 s t h c.requires.2 refl
+    λ s h. loop.invariant.1 s h
     ∙ ap (λ (k : ℕ). occurrences (asked c.args.b.now s) (asked c.args.c.now t) (basic (fact_of c.args.row.now)) (facts_in w k)) e

@@ -1,17 +1,13 @@
-use Prim.Native.Nat.{◌-◌, ◌≤◌}
+use Prim.Native.Nat.{◌≤◌}
 use mathlib.Core.Path.{◌≡◌}
 use Rattle.calculus.specs.Extended.{basic}
 use Rattle.calculus.specs.NormalForms.{occurrences}
 use Rattle.question.specs.Posed.{asked}
 use Rattle.question.specs.declared.Progress.{Progress}
 use Rattle.rows.specs.Rows.{fact_of}
-use Rattle.sameness.specs.Ready.{Ready, facts_in, literal_named}
+use Rattle.sameness.specs.Ready.{facts_in, literal_named}
 use Rattle.sameness.proofs.count_rows.Given as goal
 
 abbrev pub invariant-loop-k : goal.invariant-loop-k
-invariant-loop-k l = (l.k ≤ l.count) × (l.found ≤ l.k)
-    × ((s t : Progress) → literal_named (fact_of l.row) ≤ s.literals → Ready l.c t l.work → l.count ≡ t.constraints
-    → l.found ≡ occurrences (asked l.b s) (asked l.c t) (basic (fact_of l.row)) (facts_in l.work l.k))
-
-abbrev pub decreases-loop-k : goal.decreases-loop-k
-decreases-loop-k l = l.count - l.k
+invariant-loop-k l = (l.found ≤ l.k) × ((s : Progress) → literal_named (fact_of l.row) ≤ s.literals
+    → l.found ≡ occurrences (asked l.b s) (asked l.c l.fn.t) (basic (fact_of l.row)) (facts_in l.work l.k))

@@ -13,16 +13,16 @@ returns-in-Stopped c =
     λ refuse compare. said_stopped refuse compare args.b.now
     (sym c.read_question.ensures ∙ ap (reading_of args.b.now) c.in-Stopped.is)
 
-pub returns-then-last-lt-HEAD_RANK : goal.returns-then-last-lt-HEAD_RANK
+pub returns-then-s-lt-HEAD_RANK : goal.returns-then-s-lt-HEAD_RANK
 unfolding reading_of
-returns-then-last-lt-HEAD_RANK c =
+returns-then-s-lt-HEAD_RANK c =
     let args = c.args in
     λ refuse compare. said_headless refuse compare args.b.now
     (sym c.read_question.ensures ∙ ap (reading_of args.b.now) c.in-Ended.is) (omega arith)
 
-pub returns-else-last-lt-HEAD_RANK : goal.returns-else-last-lt-HEAD_RANK
+pub returns-else-s-lt-HEAD_RANK : goal.returns-else-s-lt-HEAD_RANK
 unfolding reading_of asked extended_asked
-returns-else-last-lt-HEAD_RANK c =
+returns-else-s-lt-HEAD_RANK c =
     let args = c.args in
     let b = args.b.now in
     let ended = sym c.read_question.ensures ∙ ap (reading_of b) c.in-Ended.is in (

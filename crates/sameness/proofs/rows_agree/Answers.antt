@@ -35,7 +35,7 @@ test c =
 
 pub loop-k-init : goal.loop-k-init
 unfolding branch_of
-loop-k-init c = (omega arith, refl)
+loop-k-init c = refl
 
 pub row_at-row-requires : goal.row_at-row-requires
 row_at-row-requires c = row_there c.requires.0 c.loop-k.k c.loop-k-test.true
@@ -67,15 +67,13 @@ returns-then-not-agree c =
 pub loop-k-preserved : goal.loop-k-preserved
 loop-k-preserved c =
     let loop = c.loop-k in
-    let w = c.args.mine.now in (
-      omega arith,
-      ap (all (agrees (goal.at.loop-k-preserved c).Start)) (facts_more w loop.k)
-          ∙ every_snoc (agrees (goal.at.loop-k-preserved c).Start) (facts_in w loop.k) (basic (fact_of (row_at w loop.k)))
-          ∙ ap₂ ◌&&◌ loop.invariant.1 (sym (test (goal.at.loop-k-preserved c).After-agree) ∙ c.if-not-agree.false),
-    )
+    let w = c.args.mine.now in
+    ap (all (agrees (goal.at.loop-k-preserved c).Start)) (facts_more w loop.k)
+    ∙ every_snoc (agrees (goal.at.loop-k-preserved c).Start) (facts_in w loop.k) (basic (fact_of (row_at w loop.k)))
+    ∙ ap₂ ◌&&◌ loop.invariant (sym (test (goal.at.loop-k-preserved c).After-agree) ∙ c.if-not-agree.false)
 
 pub returns : goal.returns
 unfolding agrees_by
 returns c =
     let e : c.loop-k.k ≡ c.args.s.constraints = omega arith in
-    sym (ap (λ (k : ℕ). all (agrees (goal.at.returns c).Start) (facts_in c.args.mine.now k)) (sym e) ∙ c.loop-k.invariant.1)
+    sym (ap (λ (k : ℕ). all (agrees (goal.at.returns c).Start) (facts_in c.args.mine.now k)) (sym e) ∙ c.loop-k.invariant)

@@ -1,4 +1,3 @@
-use Prim.Native.Nat.{◌-◌, ◌≤◌}
 use mathlib.Core.Bool.{true}
 use mathlib.Core.Path.{◌≡◌}
 use Rattle.calculus.specs.NormalForms.{agrees_on}
@@ -9,8 +8,4 @@ use Rattle.sameness.specs.Ready.{facts_in}
 use Rattle.sameness.proofs.rows_agree.Given as goal
 
 abbrev pub invariant-loop-k : goal.invariant-loop-k
-invariant-loop-k l = (l.k ≤ l.count)
-    × (all (agrees_on agreement (asked l.b l.s) (facts_in l.mine l.s.constraints) (asked l.c l.t) (facts_in l.theirs l.t.constraints)) (facts_in l.mine l.k) ≡ true)
-
-abbrev pub decreases-loop-k : goal.decreases-loop-k
-decreases-loop-k l = l.count - l.k
+invariant-loop-k l = all (agrees_on agreement (asked l.b l.s) (facts_in l.mine l.s.constraints) (asked l.c l.t) (facts_in l.theirs l.t.constraints)) (facts_in l.mine l.k) ≡ true

@@ -30,7 +30,7 @@ unfolding literal_of
 found-is c =
     let s = c.args in
     literal_in_law s.ticket.now s.s s.labels.now s.x
-    ∙ sym c.class_literal-found.ensures
+    ∙ sym c.class_literal.ensures
     ∙ ap literal_of c.in-Some.is
 
 -- it is one of the question's
@@ -95,7 +95,7 @@ pub returns-in-None : goal.returns-in-None
 unfolding asked literal_of
 returns-in-None c =
     let valueOf = c.value_of-len in
-    let class-literal = c.class_literal-found in
+    let class-literal = c.class_literal in
     let s = c.args in
     let b = s.ticket.now in
     let e : literal_in (asked b s.s) s.labels.now s.x ≡ none =

@@ -14,7 +14,7 @@ pub loop-k-init : goal.loop-k-init
 loop-k-init c =
     let s = c.args in
     let e : s.p - 0 ≡ s.p = omega arith in
-    (omega arith, ap (λ (d : ℕ). fresh_from d s.n s.m (given_strings s.characters.now s.sizes.now s.p) 0) e)
+    ap (λ (d : ℕ). fresh_from d s.n s.m (given_strings s.characters.now s.sizes.now s.p) 0) e
 
 pub fill_word-requires : goal.fill_word-requires
 fill_word-requires c = (refl, omega arith, omega arith, omega arith, omega arith)
@@ -37,7 +37,7 @@ returns-then-not-is_given c =
     ap (λ (w : List ℕ). given w g) (sym c.fill_word.ensures.row_after)
     ∙ sym c.is_given.ensures
     ∙ c.if-not-is_given.true in
-    c.fill_word.ensures.row_after ∙ sym (fresh_yes s.n s.m g l.k (s.p - l.k) e) ∙ l.invariant.1
+    c.fill_word.ensures.row_after ∙ sym (fresh_yes s.n s.m g l.k (s.p - l.k) e) ∙ l.invariant
 
 pub loop-k-preserved : goal.loop-k-preserved
 loop-k-preserved c =
@@ -49,7 +49,7 @@ loop-k-preserved c =
     ∙ sym c.is_given.ensures
     ∙ c.if-not-is_given.false in
     let less : s.p - (l.k + 1) ≡ s.p - l.k - 1 = omega arith in
-    (omega arith, ap (λ (d : ℕ). fresh_from d s.n s.m g (l.k + 1)) less ∙ sym (fresh_no s.n s.m g l.k (s.p - l.k) (omega arith) e) ∙ l.invariant.1)
+    ap (λ (d : ℕ). fresh_from d s.n s.m g (l.k + 1)) less ∙ sym (fresh_no s.n s.m g l.k (s.p - l.k) (omega arith) e) ∙ l.invariant
 
 pub fill_word-requires-2 : goal.fill_word-requires-2
 fill_word-requires-2 c = (refl, omega arith, omega arith, omega arith, omega arith)
@@ -60,4 +60,4 @@ returns c =
     let s = c.args in
     let g = given_strings s.characters.now s.sizes.now s.p in
     let e : s.p ≡ l.k = omega arith in
-    c.fill_word-2.ensures.row_after ∙ ap (λ (k : ℕ). word s.n s.m k) e ∙ sym (fresh_done s.n s.m g l.k (s.p - l.k) (omega arith)) ∙ l.invariant.1
+    c.fill_word-2.ensures.row_after ∙ ap (λ (k : ℕ). word s.n s.m k) e ∙ sym (fresh_done s.n s.m g l.k (s.p - l.k) (omega arith)) ∙ l.invariant

@@ -14,7 +14,7 @@ no_number : {A : Type 0} (y : ℕ) → y < 0 → A
 no_number y h = absurd (omega arith)
 
 pub loop-x-init : goal.loop-x-init
-loop-x-init c = (omega arith, refl, refl, λ y h. no_number y h)
+loop-x-init c = (refl, refl, λ y h. no_number y h)
 
 pub fill_fixed-size-requires : goal.fill_fixed-size-requires
 fill_fixed-size-requires c =
@@ -36,18 +36,17 @@ loop-x-preserved c =
     let n : length v ≡ at + 64 - at = r.auto.row ∙ part in
     let p : take at l.characters ++ (v ++ drop (at + 64 - at) (drop at l.characters)) ≡ sets l.characters at v =
     part_stored l.characters v at (at + 64 - at) n room in (
-      omega arith,
-      ap length p ∙ length-sets l.characters at v ∙ l.invariant.1,
-      simp length-set l.invariant.2,
+      ap length p ∙ length-sets l.characters at v ∙ l.invariant.0,
+      simp length-set l.invariant.1,
       λ y h. ap (λ (cs : List ℕ). string_in cs (set l.sizes l.x r.result) y) p
           ∙ stored_passed l.characters l.sizes l.x r.result v (omega arith) (λ q. omega arith) (omega arith) (omega arith)
-          (fixed_at (asked s.ticket.now s.s) s.labels.now s.model.now) l.invariant.3 r.ensures y h,
+          (fixed_at (asked s.ticket.now s.s) s.labels.now s.model.now) l.invariant.2 r.ensures y h,
     )
 
 pub shape_of-characters : goal.shape_of-characters
-shape_of-characters c = c.loop-x.invariant.1
+shape_of-characters c = c.loop-x.invariant.0
 
 pub returns : goal.returns
 returns c =
     let l = c.loop-x in
-    λ y h. l.invariant.3 y (omega arith)
+    λ y h. l.invariant.2 y (omega arith)

@@ -1,4 +1,4 @@
-use Prim.Native.Nat.{◌-◌, ◌<◌, ◌≤◌, ℕ}
+use Prim.Native.Nat.{◌<◌, ℕ}
 use lib.ListN.{length}
 use mathlib.Core.Path.{◌≡◌}
 use Rattle.question.specs.Posed.{asked}
@@ -7,10 +7,6 @@ use Rattle.strings.proofs.give_fixed.Given as goal
 
 abbrev pub invariant-loop-x : goal.invariant-loop-x
 invariant-loop-x l =
-    (l.x ≤ l.s.p)
-    × (length l.characters ≡ length l.initial.characters)
+    (length l.characters ≡ length l.initial.characters)
     × (length l.sizes ≡ 16)
     × ((y : ℕ) → y < l.x → string_in l.characters l.sizes y ≡ fixed_at (asked l.ticket l.s) l.labels l.model y)
-
-abbrev pub decreases-loop-x : goal.decreases-loop-x
-decreases-loop-x l = l.s.p - l.x

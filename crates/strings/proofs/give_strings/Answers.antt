@@ -26,7 +26,6 @@ unfolding asked
 loop-x-init c =
     let k : length c.give_fixed-sizes.new.characters ≡ length c.args.characters.now =
     c.give_fixed-sizes.auto.characters in (
-      omega arith,
       c.requires.leaf_ready.0.posed.stands.few_strings,
       omega (arith, c.requires.leaf_ready.2),
       refl,
@@ -46,11 +45,11 @@ complete-size-requires c =
         some_character c.requires.leaf_ready.0.posed,
         c.requires.leaf_ready.0.posed.stands.few_characters,
         c.loop-x-test.true,
-        l.invariant.2,
-        l.invariant.4,
+        l.invariant.1,
+        l.invariant.3,
       );
       x_in_bounds = c.requires.short_sizes l.x c.loop-x-test.true;
-      by_index = l.invariant.5;
+      by_index = l.invariant.4;
     }
 
 pub bounds-sizes-x : goal.bounds-sizes-x
@@ -58,7 +57,7 @@ bounds-sizes-x c =
     let args = c.args in
     let l = c.loop-x in
     let h : l.x < args.s.p = c.loop-x-test.true in
-    omega (arith, l.invariant.1)
+    omega (arith, l.invariant.0)
 
 pub loop-x-preserved : goal.loop-x-preserved
 unfolding asked
@@ -68,25 +67,24 @@ loop-x-preserved c =
     let u = asked s.ticket.now s.s in
     let m = s.model.now in
     let h : l.x < s.s.p = c.loop-x-test.true in
-    let few : s.s.p ≤ 16 = l.invariant.1 in
-    let room : 64 * s.s.p ≤ length l.characters = l.invariant.2 in
-    let all : length l.sizes ≡ 16 = l.invariant.4 in (
-      omega arith,
+    let few : s.s.p ≤ 16 = l.invariant.0 in
+    let room : 64 * s.s.p ≤ length l.characters = l.invariant.1 in
+    let all : length l.sizes ≡ 16 = l.invariant.3 in (
       few,
       omega (arith, c.complete-size.auto.characters),
-      c.complete-size.auto.characters ∙ l.invariant.3,
+      c.complete-size.auto.characters ∙ l.invariant.2,
       simp length-set all,
-      sizes_more l.sizes l.x c.complete-size.result (omega arith) l.invariant.5 c.complete-size.ensures.upper_bound,
+      sizes_more l.sizes l.x c.complete-size.result (omega arith) l.invariant.4 c.complete-size.ensures.upper_bound,
       λ b e. subst (λ (cs : List ℕ). Filled u b m cs (set l.sizes l.x c.complete-size.result) (l.x + 1)) (sym c.complete-size.ensures.characters_after)
-          (round_more u b m l.characters l.sizes l.x h (l.invariant.6 b e) c.complete-size.result _ c.complete-size.ensures.value c.complete-size.ensures.upper_bound (omega arith) room
+          (round_more u b m l.characters l.sizes l.x h (l.invariant.5 b e) c.complete-size.result _ c.complete-size.ensures.value c.complete-size.ensures.upper_bound (omega arith) room
           (ap (λ (ls : List ℕ). completed s.s.n s.s.p ls (nat_abs (model_value u m len l.x)) l.characters l.sizes l.x) e
-          ∙ completed_is u b m l.characters l.sizes l.x h (l.invariant.6 b e))),
+          ∙ completed_is u b m l.characters l.sizes l.x h (l.invariant.5 b e))),
     )
 
 pub shape_of-characters : goal.shape_of-characters
 shape_of-characters c =
     let give-fixed = c.give_fixed-sizes in
-    c.loop-x.invariant.3 ∙ give-fixed.auto.characters
+    c.loop-x.invariant.2 ∙ give-fixed.auto.characters
 
 pub returns : goal.returns
 unfolding asked
@@ -95,6 +93,6 @@ returns c =
     let u = asked c.args.ticket.now c.args.s in
     let m = c.args.model.now in
     let x : l.x ≡ c.args.s.p = omega arith in record {
-      p_after = (λ b e. round_done u b m l.characters l.sizes (subst (λ (k : ℕ). Filled u b m l.characters l.sizes k) x (l.invariant.6 b e)));
-      table = record { few = l.invariant.1; room = l.invariant.2; sized = omega (arith, l.invariant.1, l.invariant.4); short = λ y h. l.invariant.5 y (omega (arith, h, x)) };
+      p_after = (λ b e. round_done u b m l.characters l.sizes (subst (λ (k : ℕ). Filled u b m l.characters l.sizes k) x (l.invariant.5 b e)));
+      table = record { few = l.invariant.0; room = l.invariant.1; sized = omega (arith, l.invariant.0, l.invariant.3); short = λ y h. l.invariant.4 y (omega (arith, h, x)) };
     }

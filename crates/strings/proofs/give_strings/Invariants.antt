@@ -1,4 +1,4 @@
-use Prim.Native.Nat.{◌*◌, ◌-◌, ◌<◌, ◌≤◌, ℕ}
+use Prim.Native.Nat.{◌*◌, ◌<◌, ◌≤◌, ℕ}
 use lib.ListN.{get_or, length}
 use mathlib.Core.Path.{◌≡◌}
 use Rattle.calculus.specs.Classes as calculus
@@ -10,8 +10,5 @@ use Rattle.strings.proofs.give_strings.Given as goal
 
 abbrev pub invariant-loop-x : goal.invariant-loop-x
 invariant-loop-x l =
-    (l.x ≤ l.s.p) × (l.s.p ≤ variable_limit) × (length_limit * l.s.p ≤ length l.characters) × (length l.characters ≡ length l.initial.characters) × (length l.sizes ≡ variable_limit)
+    (l.s.p ≤ variable_limit) × (length_limit * l.s.p ≤ length l.characters) × (length l.characters ≡ length l.initial.characters) × (length l.sizes ≡ variable_limit)
     × ((y : ℕ) → y < l.x → get_or l.sizes y 0 ≤ length_limit) × ((b : Branch) → l.labels ≡ calculus.labels b → Filled (asked l.ticket l.s) b l.model l.characters l.sizes l.x)
-
-abbrev pub decreases-loop-x : goal.decreases-loop-x
-decreases-loop-x l = l.s.p - l.x

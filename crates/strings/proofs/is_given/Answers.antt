@@ -1,29 +1,18 @@
 use Prim.Native.Nat.{ℕ}
-use mathlib.Core.Path.{◌∙◌, ◌≡◌, ap, sym}
-use native.Mathlib.Omega.{arith}
-use Rattle.calculus.specs.Strings.{given}
-use Rattle.strings.proofs.Table.{given_more, given_none, given_yes}
-use Rattle.strings.specs.Filling.{given_strings}
+use borrow.Author.Rules.{rules}
+use borrow.Author.Tests.{tests}
+use mathlib.Core.Path.{◌∙◌}
+use Rattle.std.proofs.lemmas.Iterator.{YieldsList-from_range}
+use Rattle.std.proofs.lemmas.Iterator.Search.{any_from_yields_List}
+use Rattle.lists.proofs.Library.{any_below_is}
+use Rattle.strings.proofs.Table.{given_by}
+use Rattle.strings.specs.Filling.{is_it, string_in}
 use Rattle.strings.proofs.is_given.Goals as goal
-
-pub loop-y-init : goal.loop-y-init
-loop-y-init c = (omega arith, given_none _ _ c.args.w.now)
-
-pub returns-then-is_row : goal.returns-then-is_row
-returns-then-is_row c =
-    let l = c.loop-y in
-    let s = c.args in
-    sym (given_yes s.characters.now s.sizes.now s.w.now s.p l.y (omega arith) (sym c.is_row.ensures ∙ c.if-is_row.true))
-
-pub loop-y-preserved : goal.loop-y-preserved
-loop-y-preserved c =
-    let l = c.loop-y in
-    let s = c.args in
-    (omega arith, given_more s.characters.now s.sizes.now s.w.now l.y l.invariant.1 (sym c.is_row.ensures ∙ c.if-is_row.false))
 
 pub returns : goal.returns
 returns c =
-    let l = c.loop-y in
     let s = c.args in
-    let e : l.y ≡ s.p = omega arith in
-    sym (ap (λ (k : ℕ). given s.w.now (given_strings s.characters.now s.sizes.now k)) (sym e) ∙ l.invariant.1)
+    any_from_yields_List (λ (y : ℕ). is_it (string_in s.characters.now s.sizes.now y) s.w.now) _ _ _ c.any.ensures.ran
+    (YieldsList-from_range 0 s.p s.p (search rules) (search rules)) (λ x b q k. search (rules, tests))
+    ∙ any_below_is _ s.p
+    ∙ given_by s.characters.now s.sizes.now s.w.now s.p

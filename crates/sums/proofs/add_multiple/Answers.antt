@@ -12,10 +12,10 @@ use Rattle.rows.proofs.Values.{product_fits, step_fits, step_is}
 use Rattle.sums.proofs.Totals.{added_first, added_number, length_added}
 use Rattle.sums.specs.Sums.{added}
 use Rattle.sums.proofs.add_multiple.Goals as goal
-use Rattle.sums.proofs.add_multiple.Goals.{After-x-1}
+use Rattle.sums.proofs.add_multiple.Goals.{In-loop-j}
 
 -- at the step: the sum so far, the multiplier and the number
-module _ (c : After-x-1) where
+module _ (c : In-loop-j) where
   abbrev z : ℤ
   z = get_or c.loop-j.sum c.loop-j.j (pos 0)
 
@@ -28,7 +28,7 @@ module _ (c : After-x-1) where
   was : z ≡ get_or c.args.sum.now c.loop-j.j (pos 0)
   was =
       kept_at c.loop-j.sum c.args.sum.now c.loop-j.j (pos 0)
-      c.loop-j.invariant.4
+      c.loop-j.invariant.2
 
   hz : nat_abs z ≤ 7000000000000000000
   hz = subst (λ (y : ℤ). nat_abs y ≤ 7000000000000000000) (sym was) (c.requires.sum_len.1 c.loop-j.j)
@@ -50,40 +50,41 @@ module _ (c : After-x-1) where
 pub loop-j-init : goal.loop-j-init
 loop-j-init c =
     let n = c.requires.sum_len.0 in
-    (omega arith, omega arith, n, added_first c.args.sum.now _ c.args.row.now n, refl)
+    (n, added_first c.args.sum.now _ c.args.row.now n, refl)
 
 pub overflow_mul-sum : goal.overflow_mul-sum
-overflow_mul-sum c = product_fits (z c) (m c) (x c) _ _ _ (hz c) (hm c) (hx c) c.ranges.multiplier (fx c) (omega arith)
+overflow_mul-sum c =
+    let here = (goal.at.overflow_mul-sum c).In-loop-j in product_fits (z here) (m here) (x here) _ _ _ (hz here) (hm here) (hx here) c.ranges.multiplier (fx here) (omega arith)
 
 pub overflow_add-sum : goal.overflow_add-sum
 overflow_add-sum c =
-    rw (to_z-of_z (fz c)) (step_fits (z c) (m c) (x c) _ _ _ (hz c) (hm c) (hx c) c.ranges.multiplier (fx c) (omega arith))
+    let here = (goal.at.overflow_add-sum c).In-loop-j in
+    rw (to_z-of_z (fz here)) (step_fits (z here) (m here) (x here) _ _ _ (hz here) (hm here) (hx here) c.ranges.multiplier (fx here) (omega arith))
 
 pub loop-j-preserved : goal.loop-j-preserved
 loop-j-preserved c =
+    let here = (goal.at.loop-j-preserved c).In-loop-j in
     let l = c.loop-j in
     let n = c.requires.sum_len.0 in
     let k = length_added c.args.sum.now (to_z w64 (of_z w64 c.args.multiplier)) c.args.row.now n c.requires.row_len.0 in
-    let new = ap (λ (y : ℤ). to_z w64 (of_z w64 (y +ℤ to_z w64 (of_z w64 (to_z w64 (of_z w64 (m c)) *ℤ to_z w64 (of_z w64 (x c))))))) (to_z-of_z (fz c))
-    ∙ step_is (z c) (m c) (x c) _ _ _ (hz c) (hm c) (hx c) c.ranges.multiplier (fx c) (omega arith) in (
-      omega arith,
-      omega arith,
-      simp length-set l.invariant.2,
-      filled_more l.sum _ l.j _ (pos 0) (omega arith) (omega arith) l.invariant.3
+    let new = ap (λ (y : ℤ). to_z w64 (of_z w64 (y +ℤ to_z w64 (of_z w64 (to_z w64 (of_z w64 (m here)) *ℤ to_z w64 (of_z w64 (x here))))))) (to_z-of_z (fz here))
+    ∙ step_is (z here) (m here) (x here) _ _ _ (hz here) (hm here) (hx here) c.ranges.multiplier (fx here) (omega arith) in (
+      simp length-set l.invariant.0,
+      filled_more l.sum _ l.j _ (pos 0) (omega arith) (omega arith) l.invariant.1
           (new
-          ∙ ap (λ (y : ℤ). y +ℤ m c *ℤ x c) (was c)
-          ∙ ap (λ (y : ℤ). get_or c.args.sum.now l.j (pos 0) +ℤ y *ℤ x c) (sym (to_z-of_z c.ranges.multiplier))
+          ∙ ap (λ (y : ℤ). y +ℤ m here *ℤ x here) (was here)
+          ∙ ap (λ (y : ℤ). get_or c.args.sum.now l.j (pos 0) +ℤ y *ℤ x here) (sym (to_z-of_z c.ranges.multiplier))
           ∙ sym (added_number c.args.sum.now (to_z w64 (of_z w64 c.args.multiplier)) c.args.row.now l.j n (omega arith))),
-      kept_more l.sum c.args.sum.now l.j _ l.invariant.4,
+      kept_more l.sum c.args.sum.now l.j _ l.invariant.2,
     )
 
 pub shape_of-sum : goal.shape_of-sum
-shape_of-sum c = c.loop-j.invariant.2 ∙ sym c.requires.sum_len.0
+shape_of-sum c = c.loop-j.invariant.0 ∙ sym c.requires.sum_len.0
 
 pub returns : goal.returns
 returns c =
     let l = c.loop-j in
     let n = c.requires.sum_len.0 in
     let k = length_added c.args.sum.now (to_z w64 (of_z w64 c.args.multiplier)) c.args.row.now n c.requires.row_len.0 in
-    filled_all l.sum _ l.j (omega arith) (omega arith) l.invariant.3
+    filled_all l.sum _ l.j (omega arith) (omega arith) l.invariant.1
     ∙ ap (λ (y : ℤ). added c.args.sum.now y c.args.row.now) (to_z-of_z c.ranges.multiplier)

@@ -1,4 +1,3 @@
-use Prim.Native.Nat.{◌-◌, ◌≤◌}
 use lib.ListN.{drop, length, take}
 use mathlib.Core.Path.{◌≡◌}
 use Rattle.sums.specs.Sums.{added}
@@ -6,7 +5,4 @@ use Rattle.sums.proofs.add_multiple.Given as goal
 
 abbrev pub invariant-loop-j : goal.invariant-loop-j
 invariant-loop-j l =
-    (1 ≤ l.j) × (l.j ≤ 50) × (length l.sum ≡ 50) × (take l.j l.sum ≡ take l.j (added l.initial.sum (l.multiplier) l.row)) × (drop l.j l.sum ≡ drop l.j l.initial.sum)
-
-abbrev pub decreases-loop-j : goal.decreases-loop-j
-decreases-loop-j l = 50 - l.j
+    (length l.sum ≡ 50) × (take l.j l.sum ≡ take l.j (added l.initial.sum (l.multiplier) l.row)) × (drop l.j l.sum ≡ drop l.j l.initial.sum)

@@ -37,15 +37,15 @@ tag_is c =
     (c.row_at.ensures ∙ ap (row_at (w (goal.at.After-tag_of-tag c).After-u16_at-fact)) (fact-is (goal.at.After-tag_of-tag c).After-u16_at-fact))
 
 pub loop-k-init : goal.loop-k-init
-loop-k-init c = let a = c.args in (omega arith, equations_all a.work.now a.count a.b.now a.at a.pairs)
+loop-k-init c = let a = c.args in equations_all a.work.now a.count a.b.now a.at a.pairs
 
 pub returns-then-count-fact : goal.returns-then-count-fact
 returns-then-count-fact c =
     let here = (goal.at.returns-then-count-fact c).After-u16_at-fact in
     let a = c.args in
-    sym (sym c.loop-k.invariant.1
+    sym (sym c.loop-k.invariant
     ∙ equations_absent (w here) a.count a.b.now a.at a.pairs
-    (k here) c.loop-k-test.true
+    (k here) (omega arith)
     (subst (λ (k : ℕ). a.count ≤ k) (fact-is here) c.if-count-fact.true))
 
 pub row_at-requires : goal.row_at-requires
@@ -61,9 +61,9 @@ pub returns-then-tag-ne-TAG_EQ : goal.returns-then-tag-ne-TAG_EQ
 returns-then-tag-ne-TAG_EQ c =
     let here = (goal.at.returns-then-tag-ne-TAG_EQ c).After-u16_at-fact in
     let a = c.args in
-    sym (sym c.loop-k.invariant.1
+    sym (sym c.loop-k.invariant
     ∙ equations_no (w here) a.count a.b.now a.at a.pairs
-    (k here) c.loop-k-test.true (on_branch (goal.at.returns-then-tag-ne-TAG_EQ c).Else-count-fact)
+    (k here) (omega arith) (on_branch (goal.at.returns-then-tag-ne-TAG_EQ c).Else-count-fact)
     (λ (e : tag_of
     (fact_of (row_at (w here) (fact here)))
     ≡ 1).
@@ -71,16 +71,14 @@ returns-then-tag-ne-TAG_EQ c =
 
 pub loop-k-preserved : goal.loop-k-preserved
 loop-k-preserved c =
-    let a = c.args in (
-      omega arith,
-      sym (equations_yes (w (goal.at.loop-k-preserved c).After-u16_at-fact) a.count a.b.now a.at a.pairs (k (goal.at.loop-k-preserved c).After-u16_at-fact)
-          c.loop-k-test.true (on_branch (goal.at.loop-k-preserved c).Else-count-fact)
-          (sym (tag_is (goal.at.loop-k-preserved c).After-tag_of-tag) ∙ c.if-tag-ne-TAG_EQ.false))
-          ∙ c.loop-k.invariant.1,
-    )
+    let a = c.args in
+    sym (equations_yes (w (goal.at.loop-k-preserved c).After-u16_at-fact) a.count a.b.now a.at a.pairs (k (goal.at.loop-k-preserved c).After-u16_at-fact)
+    (omega arith) (on_branch (goal.at.loop-k-preserved c).Else-count-fact)
+    (sym (tag_is (goal.at.loop-k-preserved c).After-tag_of-tag) ∙ c.if-tag-ne-TAG_EQ.false))
+    ∙ c.loop-k.invariant
 
 pub returns : goal.returns
 returns c =
     let a = c.args in
     let loop = c.loop-k in
-    sym (equations_done a.work.now a.count a.b.now a.at a.pairs loop.k c.loop-k-test.false) ∙ loop.invariant.1
+    sym (equations_done a.work.now a.count a.b.now a.at a.pairs loop.k (omega arith)) ∙ loop.invariant

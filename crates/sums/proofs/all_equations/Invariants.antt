@@ -1,4 +1,3 @@
-use Prim.Native.Nat.{◌-◌, ◌≤◌}
 use mathlib.Core.Path.{◌≡◌}
 use Rattle.calculus.specs.Rules.{all_equations}
 use Rattle.format.specs.Fields.{pairs_at}
@@ -8,7 +7,4 @@ use Rattle.sums.proofs.all_equations.Given as goal
 
 abbrev pub invariant-loop-k : goal.invariant-loop-k
 invariant-loop-k l =
-    (l.k ≤ l.pairs) × (equations_from l.work l.count l.b l.at l.pairs l.k ≡ all_equations (branch_of l.work l.count) (pairs_at l.b l.at l.pairs))
-
-abbrev pub decreases-loop-k : goal.decreases-loop-k
-decreases-loop-k l = l.pairs - l.k
+    equations_from l.work l.count l.b l.at l.pairs l.k ≡ all_equations (branch_of l.work l.count) (pairs_at l.b l.at l.pairs)

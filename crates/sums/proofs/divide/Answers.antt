@@ -1,4 +1,5 @@
 use Prim.Native.Nat.{◌≤◌, ℕ}
+use Rattle.std.proofs.Common.{rules, tests}
 use lib.IntN.{◌*ℤ◌, nat_abs, pos, ℤ}
 use lib.ListN.{drop, get_or, length-set, set}
 use lib.Signed.{quot_z}
@@ -167,7 +168,7 @@ returns c =
     let g = length_multiples row m in
     let f : eq_integers (drop 2 (multiples row m)) (drop 2 row) ≡ true =
     sym l.invariant.1 ∙ eq_integers_done (multiples row m) row l.j (omega arith) (omega arith) in
-    let fc : SFits w64 (get_or l.row 1 (pos 0)) = record { sfits = c.c-1.given } in
+    let fc : SFits w64 (get_or l.row 1 (pos 0)) = search (rules, tests) in
     let fq : SFits w64 c.floor_div.result = record { sfits = c.floor_div.type_inv } in
     let q : to_z w64 (of_z w64 c.floor_div.result) ≡ floor_div (get_or row 1 (pos 0)) m =
     to_z-of_z fq ∙ c.floor_div.ensures ∙ ap (λ (z : ℤ). floor_div z m) (to_z-of_z fc ∙ exit-constant (goal.at.returns c).After-loop-j) in

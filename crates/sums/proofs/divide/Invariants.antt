@@ -1,4 +1,3 @@
-use Prim.Native.Nat.{◌-◌}
 use lib.IntN.{nat_abs}
 use lib.ListN.{drop}
 use mathlib.Core.Path.{◌≡◌}
@@ -12,6 +11,3 @@ abbrev pub invariant-loop-j : goal.invariant-loop-j
 invariant-loop-j l =
     Changing 2 (λ x. floor_div x (nat_abs (l.d))) l.initial.row l.row l.j
     × (eq_integers (drop l.j (multiples l.initial.row (nat_abs (l.d)))) (drop l.j l.initial.row) ≡ eq_integers (drop 2 (multiples l.initial.row (nat_abs (l.d)))) (drop 2 l.initial.row))
-
-abbrev pub decreases-loop-j : goal.decreases-loop-j
-decreases-loop-j l = 50 - l.j

@@ -1,3 +1,4 @@
+use borrow.Author.Tests.{eq-eqb}
 use lib.IntN.{nat_abs, pos, ℤ}
 use lib.ListN.{drop, length-drop}
 use mathlib.Core.List.{List}
@@ -17,8 +18,9 @@ returns-then-d-eq1 c =
     let row : List ℤ = c.args.row.now in
     let d : c.args.d ≡ pos 1 = from_bits c.args.d 1 c.ranges.d c.if-d-eq1.true (omega arith) in
     let whole : divided 1 (drop 1 row) ≡ some (drop 1 row) = divided_one (drop 1 row) (omega (arith, length-drop 1 row, c.requires.1)) in
-    ap some (tag_first row (pos 0) c.requires.1 c.requires.2) ∙ sym (ap (λ (z : ℤ). ge_row (divided (nat_abs z) (drop 1 row))) d ∙ ap ge_row whole)
+    rw (eq-eqb _ _ c.if-d-eq1.true)
+    (ap some (tag_first row (pos 0) c.requires.1 c.requires.2) ∙ sym (ap (λ (z : ℤ). ge_row (divided (nat_abs z) (drop 1 row))) d ∙ ap ge_row whole))
 
-pub returns : goal.returns
-returns c =
+pub returns-else-d-eq1 : goal.returns-else-d-eq1
+returns-else-d-eq1 c =
     c.divide.ensures ∙ ap (λ (z : ℤ). ge_row (divided (nat_abs z) (drop 1 c.args.row.now))) (to_z-of_z c.ranges.d)

@@ -119,7 +119,7 @@ returns-then-fact-count c =
     (summing_absent (w here) (count here)
     (b here) (at' here)
     (n here) c.loop-i.sum (i here)
-    c.loop-i.invariant c.loop-i-test.true
+    c.loop-i.invariant (omega arith)
     (subst (λ (k : ℕ). count here ≤ k)
     (fact-is here) c.if-fact-count.true))
 
@@ -142,13 +142,12 @@ pub returns-then-not-takes : goal.returns-then-not-takes
 unfolding row_in
 returns-then-not-takes c =
     let here = (goal.at.returns-then-not-takes c).After-i32_at-multiplier in
-    let loop-test = c.loop-i-test in
     let loop = c.loop-i in
     nothing here
     (summing_misfit (w here) (count here)
     (b here) (at' here)
     (n here) loop.sum (i here) loop.invariant
-    loop-test.true (on_branch (goal.at.returns-then-not-takes c).After-row_at-row)
+    (omega arith) (on_branch (goal.at.returns-then-not-takes c).After-row_at-row)
     (sym (test (goal.at.returns-then-not-takes c).After-takes) ∙ not-true _ c.if-not-takes.true-raw))
 
 pub add_multiple-requires : goal.add_multiple-requires
@@ -158,7 +157,7 @@ add_multiple-requires c =
     let loop = c.loop-i in
     let pre = c.requires in
     let s = loop.invariant in
-    let h = c.loop-i-test.true in record {
+    let h : c.loop-i.i < c.args.pairs = omega arith in record {
       row_len = (
         ap length (row_is after_row_at_row) ∙ long after_row_at_row,
         ap (λ (r : List ℤ). all_within number_limit (drop 1 r)) (row_is after_row_at_row)
@@ -182,7 +181,7 @@ loop-i-preserved c =
     let loop = c.loop-i in
     let pre = c.requires in
     let s = loop.invariant in
-    let h = c.loop-i-test.true in
+    let h : c.loop-i.i < c.args.pairs = omega arith in
     let e : c.add_multiple.new.sum
     ≡ added loop.sum (multiplier after_i32_at_multiplier)
     (row_at (w after_i32_at_multiplier) (fact after_i32_at_multiplier)) =
@@ -208,6 +207,6 @@ returns c =
     let l = c.loop-i in
     let w = c.args.work.now in
     let b = c.args.b.now in
-    let e = summing_done w c.args.count b c.args.at c.args.pairs l.sum l.i l.invariant c.loop-i-test.false in
+    let e = summing_done w c.args.count b c.args.at c.args.pairs l.sum l.i l.invariant (omega arith) in
     ap some (tag_first l.sum (pos 0) l.invariant.long l.invariant.tag)
     ∙ sym (ap ge_row (sym (summing_all w c.args.count b c.args.at c.args.pairs c.requires.fine c.requires.le_pairs.0) ∙ e))
