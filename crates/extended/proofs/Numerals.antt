@@ -8,7 +8,7 @@ use native.Mathlib.Decide.{dec_lt}
 use lib.Dec.{ltb, eqb}
 use lib.IntN.{pos, negsuc}
 use lib.ListN.{length}
-use borrow.Author.Tests.{eq-eqb, ne_eqb, lt-ltb}
+use borrow.Author.Tests.{ne_eqb}
 use Rattle.lists.specs.Lists.{all}
 use Rattle.lists.proofs.Tests.{and_both, eqb_turned}
 use Rattle.calculus.specs.Limits.{value_limit}
@@ -21,24 +21,10 @@ use Rattle.format.proofs.Fields.{length_u32s}
 -- ---- numeric texts
 
 module _ (b : List ℕ) (at : ℕ) where
-  pub numeric_empty : (k : ℕ) → k ≡ 0 → numeric (u32s b at k) ≡ false
+  pub numeric_is : (k : ℕ) → numeric (u32s b at k) ≡ (ltb 0 k && (all is_digit (u32s b at k) && (eqb k 1 || not (eqb (u32 b at) zero_digit))))
   unfolding numeric u32s
-  numeric_empty zero e = refl
-  numeric_empty (suc k) e = absurd (omega arith)
-
-  numeric_text : (k : ℕ) → 0 < k → numeric (u32s b at k) ≡ (all is_digit (u32s b at k) && (eqb k 1 || not (eqb (u32 b at) zero_digit)))
-  unfolding numeric u32s
-  numeric_text zero h = absurd (omega arith)
-  numeric_text (suc k) h = rw (length_u32s b at (suc k), lt-ltb 0 (suc k) h)
-
-  pub numeric_other : (k : ℕ) → 0 < k → all is_digit (u32s b at k) ≡ false → numeric (u32s b at k) ≡ false
-  numeric_other k h e = numeric_text k h ∙ rw e
-
-  pub numeric_one : (k : ℕ) → k ≡ 1 → all is_digit (u32s b at k) ≡ true → numeric (u32s b at k) ≡ true
-  numeric_one k h e = numeric_text k (omega arith) ∙ rw (e, eq-eqb k 1 h)
-
-  pub numeric_more : (k : ℕ) → 0 < k → (k ≡ 1 → ⊥) → all is_digit (u32s b at k) ≡ true → numeric (u32s b at k) ≡ not (eqb (u32 b at) zero_digit)
-  numeric_more k h n e = numeric_text k h ∙ rw (e, ne_eqb k 1 n)
+  numeric_is zero = refl
+  numeric_is (suc k) = rw (length_u32s b at (suc k))
 
 pub numeric_digits : (s : List ℕ) → numeric s ≡ true → all is_digit s ≡ true
 unfolding numeric

@@ -14,38 +14,32 @@ ghost use Rattle.format.specs.Places.{text_at};
 
 use encoding::RECORD_HEAD;
 use limits::VALUE_LIMIT;
-use records::u32_at;
+use records::{Field, FieldRun, fields_at, u32_at};
 
 // ---- case
 
 // "97 to 122 become 65 to 90", and every other character stays.
-fn upper_character(c: usize) -> usize
+fn upper_character(c: u32) -> u32
     ensures { result ≡ upper_character c }
 {
-    if c < 97 {
-        return c;
+    match c {
+        97..=122 => c - 32,
+        _ => c,
     }
-    if 122 < c {
-        return c;
-    }
-    c - 32
 }
 
 // 65 to 90 become 97 to 122, and every other character stays.
-fn lower_character(c: usize) -> usize
+fn lower_character(c: u32) -> u32
     ensures { result ≡ lower_character c }
 {
-    if c < 65 {
-        return c;
+    match c {
+        65..=90 => c + 32,
+        _ => c,
     }
-    if 90 < c {
-        return c;
-    }
-    c + 32
 }
 
 // A character in upper case where capitals are asked for, else in lower case.
-fn cased_character(c: usize, capitals: bool) -> usize
+fn cased_character(c: u32, capitals: bool) -> u32
     ensures { result ≡ cond capitals (upper_character c) (lower_character c) }
 {
     if capitals {
@@ -55,26 +49,12 @@ fn cased_character(c: usize, capitals: bool) -> usize
     }
 }
 
-// Whether the count characters at x are those at y in upper case, or in lower case.
-fn same_cased(v: &[u8], x: usize, y: usize, count: usize, capitals: bool) -> bool
-    requires { (x + 4 * count ≤ length v.now) × (y + 4 * count ≤ length v.now) }
-    ensures { result ≡ eq_string (u32s v.now x count)
-        (cond capitals (upper (u32s v.now y count)) (lower (u32s v.now y count))) }
+// The characters of the string whose record stands at a position.
+fn characters<'a>(v: &'a [u8], at: usize) -> FieldRun<'a, u32>
+    requires { next v.now at ≤ length v.now }
+    ensures { result ≡ text_at v.now at }
 {
-    let mut i = x;
-    let mut j = y;
-    let mut left = count;
-    while 0 < left {
-        let c = u32_at(v, i);
-        let d = u32_at(v, j);
-        if c != cased_character(d, capitals) {
-            return false;
-        }
-        i += 4;
-        j += 4;
-        left -= 1;
-    }
-    true
+    fields_at(v, at + RECORD_HEAD, u32_at(v, at) / 4)
 }
 
 // "string a is b in upper case", "string a is b in lower case"
@@ -83,40 +63,25 @@ pub fn cased(v: &[u8], x: usize, y: usize, capitals: bool) -> bool
     ensures { result ≡ eq_string (text_at v.now x)
         (cond capitals (upper (text_at v.now y)) (lower (text_at v.now y))) }
 {
-    let m = u32_at(v, x) / 4;
-    let k = u32_at(v, y) / 4;
-    if m != k {
-        return false;
-    }
-    same_cased(v, x + RECORD_HEAD, y + RECORD_HEAD, m, capitals)
+    u32_at(v, x) / 4 == u32_at(v, y) / 4
+        && characters(v, x)
+            .zip(characters(v, y))
+            .all(|(c, d)| c == cased_character(d, capitals))
 }
 
 // ---- numerals
 
 // The digits are the characters 48 to 57.
-const ZERO: usize = 48;
+const ZERO: u32 = 48;
 
-const NINE: usize = 57;
+const NINE: u32 = 57;
 
 // Whether all of the count characters from a position are digits.
 fn all_digits(v: &[u8], at: usize, count: usize) -> bool
     requires { at + 4 * count ≤ length v.now }
     ensures { result ≡ all is_digit (u32s v.now at count) }
 {
-    let mut i = at;
-    let mut left = count;
-    while 0 < left {
-        let c = u32_at(v, i);
-        if c < ZERO {
-            return false;
-        }
-        if NINE < c {
-            return false;
-        }
-        i += 4;
-        left -= 1;
-    }
-    true
+    fields_at(v, at, count).all(|c: u32| (ZERO..=NINE).contains(&c))
 }
 
 // "not empty, digits only, a leading 0 only when alone"
@@ -124,16 +89,7 @@ fn is_numeric(v: &[u8], at: usize, count: usize) -> bool
     requires { at + 4 * count ≤ length v.now }
     ensures { result ≡ numeric (u32s v.now at count) }
 {
-    if count == 0 {
-        return false;
-    }
-    if !all_digits(v, at, count) {
-        return false;
-    }
-    if count == 1 {
-        return true;
-    }
-    u32_at(v, at) != ZERO
+    count != 0 && all_digits(v, at, count) && (count == 1 || u32::read(v, at) != ZERO)
 }
 
 // The value of digits, or a number over the limit where the value is over it: "A recipient's numeral of 64 digits must be judged properly although no answer
@@ -144,15 +100,11 @@ fn numeral_value(v: &[u8], at: usize, count: usize) -> usize
         × (value_limit < numeral (u32s v.now at count) → value_limit < result) }
 {
     let mut value = 0;
-    let mut i = at;
-    let mut left = count;
-    while 0 < left {
+    for c in fields_at::<u32>(v, at, count) {
         if VALUE_LIMIT < value {
             return value;
         }
-        value = 10 * value + (u32_at(v, i) - ZERO);
-        i += 4;
-        left -= 1;
+        value = 10 * value + (c - ZERO) as usize;
     }
     value
 }
@@ -162,10 +114,7 @@ fn value_is(v: &[u8], at: usize, count: usize, k: usize) -> bool
     requires { (at + 4 * count ≤ length v.now) × (k ≤ value_limit) }
     ensures { result ≡ (numeric (u32s v.now at count) && eqb (numeral (u32s v.now at count)) k) }
 {
-    if !is_numeric(v, at, count) {
-        return false;
-    }
-    numeral_value(v, at, count) == k
+    is_numeric(v, at, count) && numeral_value(v, at, count) == k
 }
 
 // "integer a is b read in decimal, −1 if b is not numeric"
@@ -202,26 +151,5 @@ pub fn precedes(v: &[u8], x: usize, y: usize) -> bool
     requires { (next v.now x ≤ length v.now) × (next v.now y ≤ length v.now) }
     ensures { result ≡ precedes_test (text_at v.now x) (text_at v.now y) }
 {
-    let mut m = u32_at(v, x) / 4;
-    let mut k = u32_at(v, y) / 4;
-    let mut i = x + RECORD_HEAD;
-    let mut j = y + RECORD_HEAD;
-    while 0 < m {
-        if k == 0 {
-            return false;
-        }
-        let c = u32_at(v, i);
-        let d = u32_at(v, j);
-        if c < d {
-            return true;
-        }
-        if d < c {
-            return false;
-        }
-        i += 4;
-        j += 4;
-        m -= 1;
-        k -= 1;
-    }
-    true
+    characters(v, x).cmp(characters(v, y)).is_le()
 }

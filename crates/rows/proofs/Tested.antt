@@ -39,12 +39,6 @@ zero_test (pos zero) f = refl
 zero_test (pos (suc n)) f = ne_eqb (suc n) 0 (omega arith)
 zero_test (negsuc n) f = ne_eqb (of_z w64 (negsuc n)) 0 (omega (arith, f.sfits))
 
-pub zero_yes : (z : ℤ) → SFits w64 z → of_z w64 z ≡ 0 → is_zero z ≡ true
-zero_yes z f e = sym (zero_test z f) ∙ eq-eqb (of_z w64 z) 0 e
-
-pub zero_no : (z : ℤ) → SFits w64 z → (of_z w64 z ≡ 0 → ⊥) → is_zero z ≡ false
-zero_no z f h = sym (zero_test z f) ∙ ne_eqb (of_z w64 z) 0 h
-
 pub eqℤ_yes : (x y : ℤ) → x ≡ y → eqℤ x y ≡ true
 eqℤ_yes x y e = subst (λ z. eqℤ x z ≡ true) e (itself x)
   where

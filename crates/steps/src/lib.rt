@@ -22,7 +22,7 @@ use encoding::{CODE, RECORD_HEAD};
 use faults::Fault;
 use limits::{COLUMN_LIMIT, NUMBER_LIMIT, SUMMAND_LIMIT, TICKET_BYTES, VARIABLE_LIMIT};
 use question::{Progress, form_in_range};
-use records::{bits_within, u16_at, u32_at};
+use records::{fields_at, u16_at, u32_at};
 
 // ---- the rules
 
@@ -123,7 +123,7 @@ fn multipliers_within(b: &[u8], at: usize, count: usize) -> bool
     requires { at + 6 * count ≤ length b.now }
     ensures { result ≡ multipliers_within (pairs_at b.now at count) }
 {
-    (0..count).all(|k| bits_within(u32_at(b, at + 6 * k + 2), NUMBER_LIMIT))
+    fields_at(b, at, count).all(|(_, z): (u16, i32)| z.unsigned_abs() as usize <= NUMBER_LIMIT)
 }
 
 // The largest i32.
@@ -143,7 +143,7 @@ fn variables_below(b: &[u8], p: usize, at: usize, count: usize) -> bool
     requires { at + 2 * count ≤ length b.now }
     ensures { result ≡ are_variables p (u16s b.now at count) }
 {
-    (0..count).all(|k| u16_at(b, at + 2 * k) < p)
+    fields_at(b, at, count).all(|x: u16| usize::from(x) < p)
 }
 
 // S-Prop: "function (0 len, 1 code), different variables x, y".

@@ -69,7 +69,7 @@ pub fn floor_div(c: i64, d: i64) -> i64
     requires { pos 1 ≤ℤ d }
     ensures { result ≡ floor_div c (nat_abs d) }
 {
-    if c >= 0 { c / d } else { -1 - (-1 - c) / d }
+    c.div_euclid(d)
 }
 
 // A sum divided in place, columns exactly and the constant rounding down, and whether they divide.

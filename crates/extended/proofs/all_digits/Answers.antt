@@ -1,28 +1,14 @@
-use mathlib.Core.Path.{◌∙◌, sym}
-use native.Mathlib.Omega.{arith}
-use Rattle.extended.proofs.Loops.{digits_done, digits_high, digits_low, digits_yes}
+use Rattle.std.proofs.Common.{refl, ◌∙◌, rules, tests}
+use Rattle.std.proofs.lemmas.Iterator.Consumers.{YieldsList-from_first}
+use Rattle.std.proofs.lemmas.Iterator.Search.{all_from_yields_List}
+use Rattle.calculus.specs.Extended.{is_digit}
+use Rattle.format.specs.Fields.{u32s}
+use Rattle.lists.proofs.Library.{list_all_is}
 use Rattle.extended.proofs.all_digits.Goals as goal
 
-pub u32_at-c-requires : goal.u32_at-c-requires
-u32_at-c-requires c = omega arith
-
-pub returns-then-c-lt-ZERO : goal.returns-then-c-lt-ZERO
-returns-then-c-lt-ZERO c = sym (digits_low _ _ _ (omega arith) (omega arith)) ∙ c.loop-left.invariant.1
-
-pub returns-then-c-gt-NINE : goal.returns-then-c-gt-NINE
-returns-then-c-gt-NINE c = sym (digits_high _ _ _ (omega arith) (omega arith)) ∙ c.loop-left.invariant.1
-
-pub overflow_add-i : goal.overflow_add-i
-overflow_add-i c = omega arith
-
-pub overflow_sub-left : goal.overflow_sub-left
-overflow_sub-left c = omega arith
-
-pub loop-left-smaller : goal.loop-left-smaller
-loop-left-smaller c = omega arith
-
-pub loop-left-preserved : goal.loop-left-preserved
-loop-left-preserved c = (omega arith, sym (digits_yes _ _ _ (omega arith) (omega arith) (omega arith)) ∙ c.loop-left.invariant.1)
-
 pub returns : goal.returns
-returns c = sym (digits_done _ _ _ (omega arith)) ∙ c.loop-left.invariant.1
+unfolding u32s
+returns c =
+    let s = c.args in
+    all_from_yields_List {all = c.fields_at.result} is_digit _ _ _ c.all.ensures.ran (YieldsList-from_first _ _ _ refl) (λ x b q k. search (rules, tests))
+    ∙ rw c.fields_at.ensures (list_all_is is_digit (u32s s.v.now s.at s.count))

@@ -1,5 +1,3 @@
-use Prim.Native.Nat.{◌*◌, ◌+◌, ◌≤◌}
-use lib.ListN.{length}
 use mathlib.Core.Bool.{true}
 use mathlib.Core.Path.{◌≡◌}
 use Rattle.calculus.specs.Extended.{is_digit, numeral, numeral_from}
@@ -7,9 +5,5 @@ use Rattle.format.specs.Fields.{u32s}
 use Rattle.lists.specs.Lists.{all}
 use Rattle.extended.proofs.numeral_value.Given as goal
 
-abbrev pub invariant-loop-left : goal.invariant-loop-left
-invariant-loop-left l =
-    (l.i + 4 * l.left ≤ length l.v) × (all is_digit (u32s l.v l.i l.left) ≡ true) × (numeral_from l.value (u32s l.v l.i l.left) ≡ numeral (u32s l.v l.at l.count))
-
-abbrev pub decreases-loop-left : goal.decreases-loop-left
-decreases-loop-left l = l.left
+abbrev pub invariant-loop-c : goal.invariant-loop-c
+invariant-loop-c l = (all is_digit l.c-iterator ≡ true) × (numeral_from l.value l.c-iterator ≡ numeral (u32s l.v l.at l.count))
