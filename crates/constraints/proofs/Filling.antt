@@ -1,5 +1,5 @@
 -- The loop that fills a form's row: what holds of the row after i of n pairs, and what one pair more does to it.
-use Prim.Native.Nat.{ℕ, zero, suc, ◌+◌, ◌*◌, ◌-◌, ◌≤◌, ◌<◌}
+use Prim.Native.Nat.{ℕ, zero, suc, ◌+◌, ◌≤◌, ◌<◌}
 use native.Mathlib.Omega.{arith}
 use mathlib.Core.Path.{◌≡◌, refl, sym, ◌∙◌, ap, ap₂}
 use mathlib.Core.Bool.{true, ◌&&◌}
@@ -8,14 +8,12 @@ use borrow.Author.Tests.{le-leb}
 use lib.ListN.{length, take, drop, set, length-set, take-append-drop}
 use lib.Seq.{take-set-le, drop-set-add}
 use lib.Dec.{leb, ltb}
-use lib.IntN.{ℤ, pos, one, ◌*ℤ◌, *ℤ-zero, *ℤ-one, *ℤ_comm}
+use lib.IntN.{ℤ, nat_abs, pos, one, ◌*ℤ◌, *ℤ-zero, *ℤ-one, *ℤ_comm}
 use Rattle.lists.proofs.Tests.{and_both}
-use Rattle.calculus.specs.Limits.{column_limit}
+use Rattle.calculus.specs.Limits.{column_limit, number_limit}
 use Rattle.calculus.specs.LinearForms.{zeros, scale}
-use Rattle.format.specs.Fields.{u16, i32, pairs_at}
 use Rattle.format.specs.Question.{coefficient_in_range, pair_in_range, rising, fill_coefficients}
-use Rattle.format.proofs.Sums.{Ranged, ranged}
-use Rattle.format.proofs.Pairs.{next_pair, no_pair, all_pairs}
+use Rattle.format.proofs.Sums.{ranged}
 
 -- columns that rise from somewhere on rise from 0 on
 rising_low : (c low : ℕ) (ts : List (ℕ × ℤ)) → rising c low ts ≡ true → rising c 0 ts ≡ true
@@ -58,62 +56,45 @@ scale_one (x ∷ a) = ap₂ ◌∷◌ (*ℤ_comm (pos 1) x ∙ *ℤ-one x) (scal
 
 -- ---- the loop
 
-module _ (b : List ℕ) (at n : ℕ) (tag constant sign : ℤ) where
-  pub record Filling (out : List ℤ) (i : ℕ) : Type 0 where
-    pub bound : i ≤ n
+module _ (all : List (ℕ × ℤ)) (tag constant sign : ℤ) where
+  -- of the pairs of a form some are left
+  pub record Filling (out : List ℤ) (ts : List (ℕ × ℤ)) : Type 0 where
     pub long : length out ≡ 50
     pub front : take 2 out ≡ tag ∷ constant ∷ []
-    pub rises : rising column_limit 0 (pairs_at b (at + 6 * i) (n - i)) ≡ true
-    pub left : fill_coefficients (drop 2 out) (signed sign (pairs_at b (at + 6 * i) (n - i))) ≡ scale sign (fill_coefficients (zeros 48) (pairs_at b at n))
+    pub rises : rising column_limit 0 ts ≡ true
+    pub left : fill_coefficients (drop 2 out) (signed sign ts) ≡ scale sign (fill_coefficients (zeros 48) all)
 
-  pub filling_start : rising column_limit 0 (pairs_at b at n) ≡ true → Filling (tag ∷ constant ∷ zeros 48) 0
+  pub filling_start : rising column_limit 0 all ≡ true → Filling (tag ∷ constant ∷ zeros 48) all
   filling_start h = record {
-    bound = omega arith;
     long = refl;
     front = refl;
-    rises = ap (rising column_limit 0) (all_pairs b at n) ∙ h;
-    left =
-        ap (λ (ts : List (ℕ × ℤ)). fill_coefficients (zeros 48) (signed sign ts)) (all_pairs b at n) ∙ fill_signed sign 48 (pairs_at b at n);
+    rises = h;
+    left = fill_signed sign 48 all;
   }
 
-  module _ (out : List ℤ) (i : ℕ) (s : Filling out i) (h : i < n) where
-    -- the next pair
-    abbrev column : ℕ
-    column = u16 b (at + 6 * i)
+  module _ (out : List ℤ) (t : ℕ × ℤ) (ts : List (ℕ × ℤ)) (s : Filling out (t ∷ ts)) where
+    pub column_small : t.0 < 48
+    column_small = (ranged column_limit 0 t ts s.rises).column
 
-    abbrev coefficient : ℤ
-    coefficient = i32 b (at + 6 * i + 2)
+    pub coefficient_small : nat_abs t.1 ≤ number_limit
+    coefficient_small = (ranged column_limit 0 t ts s.rises).coefficient
 
-    -- the pairs after it
-    abbrev rest : List (ℕ × ℤ)
-    rest = pairs_at b (at + 6 * (i + 1)) (n - (i + 1))
-
-    next : Ranged column_limit 0 (column, coefficient) rest
-    next = ranged column_limit 0 (column, coefficient) rest (ap (rising column_limit 0) (sym (next_pair b at n i h)) ∙ s.rises)
-
-    pub column_small : column < 48
-    column_small = next.column
-
-    pub filling_more : Filling (set out (column + 2) (sign *ℤ coefficient)) (i + 1)
+    pub filling_more : Filling (set out (t.0 + 2) (sign *ℤ t.1)) ts
     unfolding fill_coefficients
     filling_more =
-        let e : column + 2 ≡ 2 + column = omega arith in
-        let z = sign *ℤ coefficient in
+        let e : t.0 + 2 ≡ 2 + t.0 = omega arith in
+        let z = sign *ℤ t.1 in
         record {
-          bound = omega arith;
-          long = length-set out (column + 2) z ∙ s.long;
-          front = take-set-le 2 out (column + 2) z (omega arith) ∙ s.front;
-          rises = rising_low column_limit (column + 1) rest next.rest;
+          long = length-set out (t.0 + 2) z ∙ s.long;
+          front = take-set-le 2 out (t.0 + 2) z (omega arith) ∙ s.front;
+          rises = rising_low column_limit (t.0 + 1) ts (ranged column_limit 0 t ts s.rises).rest;
           left =
-              ap (λ (k : ℕ). fill_coefficients (drop 2 (set out k z)) (signed sign rest)) e
-              ∙ ap (λ (l : List ℤ). fill_coefficients l (signed sign rest)) (drop-set-add 2 out column z)
-              ∙ sym (sym s.left ∙ ap (λ (ts : List (ℕ × ℤ)). fill_coefficients (drop 2 out) (signed sign ts)) (next_pair b at n i h));
+              ap (λ (k : ℕ). fill_coefficients (drop 2 (set out k z)) (signed sign ts)) e
+              ∙ ap (λ (l : List ℤ). fill_coefficients l (signed sign ts)) (drop-set-add 2 out t.0 z)
+              ∙ s.left;
         }
 
   -- none is left
-  pub filling_done : (out : List ℤ) (i : ℕ) → Filling out i → n ≤ i → out ≡ tag ∷ constant ∷ scale sign (fill_coefficients (zeros 48) (pairs_at b at n))
+  pub filling_done : (out : List ℤ) → Filling out [] → out ≡ tag ∷ constant ∷ scale sign (fill_coefficients (zeros 48) all)
   unfolding fill_coefficients
-  filling_done out i s h =
-      sym (take-append-drop 2 out)
-      ∙ ap₂ ◌++◌ s.front
-      (sym (ap (λ (ts : List (ℕ × ℤ)). fill_coefficients (drop 2 out) (signed sign ts)) (no_pair b at n i h)) ∙ s.left)
+  filling_done out s = sym (take-append-drop 2 out) ∙ ap₂ ◌++◌ s.front s.left

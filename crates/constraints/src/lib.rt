@@ -14,6 +14,7 @@ ghost use Rattle.question.specs.Posed.{asked, Posed};
 use encoding::{KIND_ARITHMETIC, KIND_STRING, RECORD_HEAD};
 use limits::ROW_LENGTH;
 use question::Progress;
+use records::fields_at;
 use rows::{COEFFICIENTS, CONSTANT, TAG, TAG_GE};
 
 // A tag, a constant and the coefficients of the pairs at a position, each times a sign. It fills a row's stretch with any contents.
@@ -34,13 +35,8 @@ fn fill_signed(
     rows::clear_row(row);
     row[TAG] = tag as i64;
     row[CONSTANT] = constant;
-    let mut i = 0;
-    while i < pairs {
-        let place = at + 6 * i;
-        let column = records::u16_at(b, place);
-        let coefficient = records::i32_at(b, place + 2);
-        row[column + COEFFICIENTS] = sign * coefficient;
-        i += 1;
+    for (column, coefficient) in fields_at::<(u16, i32)>(b, at, pairs) {
+        row[usize::from(column) + COEFFICIENTS] = sign * i64::from(coefficient);
     }
 }
 

@@ -24,7 +24,7 @@ ghost use Rattle.splits.specs.Children.{apart_at, lengths_agree, card_at, extend
 use encoding::{CODE, EQ, GE, IS_LITERAL, LEN, NE, SAME};
 use limits::ROW_LENGTH;
 use question::{Progress, column_of};
-use records::u16_at;
+use records::{fields_at, u16_at};
 use rows::{CONSTANT, TAG_NE};
 use steps::{OPERANDS, Rule};
 
@@ -43,16 +43,7 @@ fn occurs(b: &[u8], x: usize, at: usize, count: usize) -> bool
     requires { at + 2 * count ≤ length b.now }
     ensures { result ≡ among x (u16s b.now at count) }
 {
-    let mut i = at;
-    let mut left = count;
-    while 0 < left {
-        if u16_at(b, i) == x {
-            return true;
-        }
-        i += 2;
-        left -= 1;
-    }
-    false
+    fields_at(b, at, count).any(|y: u16| x == usize::from(y))
 }
 
 // Are the count variables from a position different?
@@ -60,15 +51,11 @@ fn all_differ(b: &[u8], at: usize, count: usize) -> bool
     requires { at + 2 * count ≤ length b.now }
     ensures { result ≡ distinct (u16s b.now at count) }
 {
-    let mut i = at;
-    let mut left = count;
-    while 0 < left {
-        let x = u16_at(b, i);
-        if occurs(b, x, i + 2, left - 1) {
+    for k in 0..count {
+        let place = at + 2 * k;
+        if occurs(b, u16_at(b, place), place + 2, count - k - 1) {
             return false;
         }
-        i += 2;
-        left -= 1;
     }
     true
 }
@@ -87,21 +74,13 @@ fn lengths_agree(
     requires count_le_fact_limit { (count ≤ fact_limit) × (work_numbers ≤ length work.now) }
     ensures { result ≡ lengths_agree b.now s at others work.now count }
 {
-    let mut i = at;
-    let mut left = others;
-    while 0 < left {
-        let x = u16_at(b, i);
-        let y = u16_at(b, i + 2);
-        if !rows::states_equal(
-            work,
-            count,
-            column_of(s.p, s.q, LEN, x),
-            column_of(s.p, s.q, LEN, y),
-        ) {
+    for k in 0..others {
+        let place = at + 2 * k;
+        let first = column_of(s.p, s.q, LEN, u16_at(b, place));
+        let second = column_of(s.p, s.q, LEN, u16_at(b, place + 2));
+        if !rows::states_equal(work, count, first, second) {
             return false;
         }
-        i += 2;
-        left -= 1;
     }
     true
 }
@@ -228,19 +207,17 @@ fn put_card(work: &mut [i64], count: usize, b: &[u8], s: Progress, at: usize, m:
     requires le_k { (1 ≤ k) × (k ≤ length (card_at b.now s at m)) }
     ensures { branch_of work.new (count + 1) ≡ extended work.old count (card_at b.now s at m) k }
 {
-    let mut i = at;
-    let mut others = m - 1;
     let mut left = k - 1;
-    while 0 < others {
+    for i in 0..m - 1 {
+        let others = m - 1 - i;
         if left < others {
-            let x = u16_at(b, i);
-            let y = u16_at(b, i + 2 + 2 * left);
+            let place = at + 2 * i;
+            let x = u16_at(b, place);
+            let y = u16_at(b, place + 2 + 2 * left);
             rows::put_string(work, count, SAME, x, y);
             return;
         }
         left -= others;
-        i += 2;
-        others -= 1;
     }
     put_bound(work, count, s, u16_at(b, at), m);
 }

@@ -1,12 +1,8 @@
-use Prim.Native.Nat.{◌+◌, ◌*◌, ◌≤◌}
-use lib.ListN.{length}
+use Prim.Native.Nat.{◌+◌, ◌*◌, ◌-◌}
 use mathlib.Core.Path.{◌≡◌}
 use Rattle.calculus.specs.Rules.{distinct}
 use Rattle.format.specs.Fields.{u16s}
 use Rattle.splits.proofs.all_differ.Given as goal
 
-abbrev pub invariant-loop-left : goal.invariant-loop-left
-invariant-loop-left l = (l.i + 2 * l.left ≤ length l.b) × (distinct (u16s l.b l.i l.left) ≡ distinct (u16s l.b l.at l.count))
-
-abbrev pub decreases-loop-left : goal.decreases-loop-left
-decreases-loop-left l = l.left
+abbrev pub invariant-loop-k : goal.invariant-loop-k
+invariant-loop-k l = distinct (u16s l.b (l.at + 2 * l.k) (l.count - l.k)) ≡ distinct (u16s l.b l.at l.count)
