@@ -61,12 +61,20 @@ pub fn all_characters(b: &[u8], n: usize, at: usize, count: usize) -> bool
     fields_at(b, at, count).all(|c: u32| (c as usize) < n)
 }
 
-// Whether the m characters at one position and the k at another are the same: their bytes are.
+// Whether the m characters at one position and the k at another are the same: their bytes are. The last ones are compared first, since texts that share their
+// front are common.
 pub fn same_text(a: &[u8], x: usize, m: usize, b: &[u8], y: usize, k: usize) -> bool
     requires { (x + 4 * m ≤ length a.now) × (y + 4 * k ≤ length b.now) }
     ensures { result ≡ eq_string (u32s a.now x m) (u32s b.now y k) }
 {
-    a[x..x + 4 * m] == b[y..y + 4 * k]
+    if m != k {
+        return false;
+    }
+    if m == 0 {
+        return true;
+    }
+    let last = 4 * (m - 1);
+    u32_at(a, x + last) == u32_at(b, y + last) && a[x..x + 4 * m] == b[y..y + 4 * k]
 }
 
 // Whether the text of a body is one of those of the first k literals.

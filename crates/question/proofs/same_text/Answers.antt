@@ -1,4 +1,4 @@
-use mathlib.Core.Path.{◌≡◌, sym, ◌∙◌, ap, ap₂}
+use mathlib.Core.Path.{◌≡◌, refl, sym, ◌∙◌, ap, ap₂}
 use mathlib.Core.Bool.{Bool}
 use mathlib.Core.List.{List, ◌++◌}
 use Prim.Native.Nat.{ℕ, ◌+◌, ◌*◌, ◌-◌, ◌≤◌, ◌<◌}
@@ -8,7 +8,8 @@ use lib.ListN.{length, take, drop}
 use lib.Pointwise.{pointwise}
 use Rattle.std.proofs.Math.Seq.{take-append_seam}
 use Rattle.std.proofs.lemmas.Slice.Eq.{bytes_eq-Decides}
-use Rattle.lists.proofs.Lists.{get_d_all}
+use borrow.Author.Tests.{ne_eqb}
+use Rattle.lists.proofs.Lists.{get_d_all, eq_list_lengths}
 use Rattle.lists.proofs.Tests.{equal_tests, →true, true→}
 use Rattle.calculus.specs.Strings.{eq_string}
 use Rattle.calculus.proofs.Words.{eq_string→, →eq_string}
@@ -19,6 +20,7 @@ use Rattle.format.proofs.Fields.{length_u32s}
 use Rattle.format.proofs.Encoded.{length_characters}
 use Rattle.format.proofs.BytesRead.{u32s_back}
 use Rattle.format.proofs.BytesWritten.{u32s_written, u32s_held}
+use Rattle.question.proofs.Loops.{same_differs, text_char}
 use Rattle.question.proofs.same_text.Goals as goal
 
 -- the bytes of the k characters at a position
@@ -52,8 +54,30 @@ module _ (a b : List ℕ) (below : Bytes a) (within : Bytes b) (x m y k : ℕ) (
       (λ z. →eq_string (alike (to (sym e ∙ →true r z))))
       (λ z. true→ (e ∙ from (written a below x m h ∙ ap character_bytes (eq_string→ _ _ z) ∙ sym (written b within y k g))))
 
-pub returns : goal.returns
-returns c =
+pub returns-then-m-k : goal.returns-then-m-k
+returns-then-m-k c =
+    let s = c.args in
+    sym (eq_list_lengths eqb (u32s s.a.now s.x s.m) (u32s s.b.now s.y s.k)
+    (λ e. c.if-m-k.true (sym (length_u32s s.a.now s.x s.m) ∙ e ∙ length_u32s s.b.now s.y s.k)))
+
+pub returns-then-m-eq0 : goal.returns-then-m-eq0
+unfolding u32s
+returns-then-m-eq0 c =
+    let none : c.args.k ≡ 0 = omega arith in
+    rw (c.if-m-eq0.true, none) refl
+
+pub returns-then-u32_at : goal.returns-then-u32_at
+returns-then-u32_at c =
     let a = c.args in
-    texts_compared a.a.now a.b.now (get_d_all (λ k. k < 256) a.a.now 0 (λ i _. omega (arith, c.type_inv.a i))) (get_d_all (λ k. k < 256) a.b.now 0 (λ i _. omega (arith, c.type_inv.b i)))
+    texts_compared a.a.now a.b.now (get_d_all (λ k. k < 256) a.a.now 0 (λ i _. omega (arith, c.type_inv.a i)))
+    (get_d_all (λ k. k < 256) a.b.now 0 (λ i _. omega (arith, c.type_inv.b i)))
     a.x a.m a.y a.k c.requires.0 c.requires.1 c.eq.result c.eq.ensures
+
+pub returns-else-u32_at : goal.returns-else-u32_at
+returns-else-u32_at c =
+    let s = c.args in
+    let p = text_char s.a.now s.x s.m (s.m - 1) (omega arith) in
+    let q = text_char s.b.now s.y s.k (s.m - 1) (omega arith) in
+    ne_eqb _ _ c.if-u32_at.false
+    ∙ sym (same_differs (u32s s.a.now s.x s.m) (u32s s.b.now s.y s.k) (s.m - 1)
+    (λ e. c.if-u32_at.false (c.u32_at.ensures.0 ∙ sym p ∙ e ∙ q ∙ sym c.u32_at-2.ensures.0)))
