@@ -11,8 +11,8 @@ use Rattle.judging.proofs.Summing.{Summing, begin, column_there, ended, one_more
 use Rattle.judging.proofs.form_value.Goals as goal
 use Rattle.judging.proofs.form_value.Goals.{After-sum-1}
 
-pub number_at-sum-requires : goal.number_at-sum-requires
-number_at-sum-requires c = omega (arith, c.requires.there)
+pub i32_at-sum-requires : goal.i32_at-sum-requires
+i32_at-sum-requires c = omega (arith, c.requires.there)
 
 pub overflow_add-i : goal.overflow_add-i
 overflow_add-i c = omega (arith, c.requires.there)
@@ -20,7 +20,7 @@ overflow_add-i c = omega (arith, c.requires.there)
 pub loop-left-init : goal.loop-left-init
 loop-left-init c =
     subst (λ (z : ℤ). Summing c.args.b.now c.args.at c.args.count c.args.values.now z (c.args.at + 4) c.args.count)
-    (sym (to_z-of_z {w = w64} (record { sfits = c.number_at-sum.type_inv }) ∙ c.number_at-sum.ensures.0))
+    (sym (to_z-of_z {w = w64} (record { sfits = c.i32_at-sum.type_inv }) ∙ c.i32_at-sum.ensures.0))
     (begin c.args.b.now c.args.at c.args.count c.args.values.now c.requires)
 
 pub u16_at-column-requires : goal.u16_at-column-requires
@@ -29,8 +29,8 @@ u16_at-column-requires c = omega (arith, c.loop-left.invariant.there)
 pub overflow_add-i-in-loop-left : goal.overflow_add-i-in-loop-left
 overflow_add-i-in-loop-left c = omega (arith, c.loop-left.invariant.there)
 
-pub number_at-coefficient-requires : goal.number_at-coefficient-requires
-number_at-coefficient-requires c = omega (arith, c.loop-left.invariant.there)
+pub i32_at-coefficient-requires : goal.i32_at-coefficient-requires
+i32_at-coefficient-requires c = omega (arith, c.loop-left.invariant.there)
 
 pub offset_bounds-values-column : goal.offset_bounds-values-column
 offset_bounds-values-column c = omega arith
@@ -45,14 +45,14 @@ bounds-values-column c =
 term : (c : After-sum-1)
     →
     let args = c.args in
-    to_z w64 (of_z w64 c.number_at-coefficient.result) *ℤ to_z w64 (of_z w64 (get_or args.values.now c.u16_at-column.result (pos 0)))
+    to_z w64 (of_z w64 c.i32_at-coefficient.result) *ℤ to_z w64 (of_z w64 (get_or args.values.now c.u16_at-column.result (pos 0)))
     ≡ i32 args.b.now (c.loop-left.i + 2)
     *ℤ get_or args.values.now (u16 args.b.now c.loop-left.i) (pos 0)
 term c =
     let args = c.args in
-    product_is c.number_at-coefficient.result (get_or args.values.now c.u16_at-column.result (pos 0))
-    (record { sfits = c.number_at-coefficient.type_inv }) (record { sfits = c.sum-1.given })
-    c.number_at-coefficient.ensures.0 (ap (λ (j : ℕ). get_or args.values.now j (pos 0)) c.u16_at-column.ensures.0)
+    product_is c.i32_at-coefficient.result (get_or args.values.now c.u16_at-column.result (pos 0))
+    (record { sfits = c.i32_at-coefficient.type_inv }) (record { sfits = c.sum-1.given })
+    c.i32_at-coefficient.ensures.0 (ap (λ (j : ℕ). get_or args.values.now j (pos 0)) c.u16_at-column.ensures.0)
 
 pub overflow_mul-sum : goal.overflow_mul-sum
 overflow_mul-sum c =
@@ -65,7 +65,7 @@ total : (c : After-sum-1)
     →
     let args = c.args in
     to_z w64 c.loop-left.sum-bits +ℤ to_z w64 (of_z w64
-    (to_z w64 (of_z w64 c.number_at-coefficient.result) *ℤ to_z w64 (of_z w64 (get_or args.values.now c.u16_at-column.result (pos 0)))))
+    (to_z w64 (of_z w64 c.i32_at-coefficient.result) *ℤ to_z w64 (of_z w64 (get_or args.values.now c.u16_at-column.result (pos 0)))))
     ≡ to_z w64 c.loop-left.sum-bits +ℤ i32 args.b.now (c.loop-left.i + 2)
     *ℤ get_or args.values.now (u16 args.b.now c.loop-left.i) (pos 0)
 total c = ap (λ (z : ℤ). to_z w64 c.loop-left.sum-bits +ℤ z) (to_z-of_z (overflow_mul-sum c) ∙ term c)
