@@ -30,7 +30,7 @@ use limits::COLUMN_LIMIT;
 use question::{
     HEAD_RANK, JUDGING, Progress, Reading, behind_literals, literal_text, read_question, same_text,
 };
-use records::{i32_at, record_places, u16_at, u32_at};
+use records::{fields_at, i32_at, record_places, u16_at, u32_at};
 use rows::relation_holds;
 
 // ---- string constraints
@@ -79,14 +79,8 @@ fn form_value(b: &[u8], at: usize, count: usize, values: &[i64]) -> i64
     ensures { result ≡ dot (form_of b.now at count) (pos 1 ∷ values.now) }
 {
     let mut sum = i32_at(b, at);
-    let mut i = at + 4;
-    let mut left = count;
-    while 0 < left {
-        let column = u16_at(b, i);
-        let coefficient = i32_at(b, i + 2);
-        sum += coefficient * values[column];
-        i += 6;
-        left -= 1;
+    for (column, coefficient) in fields_at::<(u16, i32)>(b, at + 4, count) {
+        sum += i64::from(coefficient) * values[usize::from(column)];
     }
     sum
 }
