@@ -11,12 +11,11 @@ use Rattle.calculus.specs.Facts.{Question, Fact, Branch}
 use Rattle.calculus.specs.Children.{pair_children}
 use Rattle.calculus.specs.Rules.{distinct, neighbours, last_child, card_children}
 use Rattle.calculus.specs.Steps.{Card}
-use Rattle.calculus.specs.Cores.{Set, union, Rested, sets, set_at, named_sets, lengths_set, neighbour_sets, rests_on}
-use Rattle.format.specs.Fields.{u16, u16s, pairs_at}
+use Rattle.calculus.specs.Cores.{Set, union, Rested, sets, set_at, lengths_set, neighbour_sets, rests_on}
+use Rattle.format.specs.Fields.{u16, u16s}
 use Rattle.format.specs.StepForms.{Rule, sum, card, rule, step_of, step_at}
 use Rattle.format.specs.Checking.{fits}
 use Rattle.format.proofs.Faults.{not_both}
-use Rattle.format.proofs.Pairs.{all_pairs, next_pair, no_pair}
 use Rattle.question.specs.declared.Progress.{Progress}
 use Rattle.question.specs.Posed.{asked, numbered}
 use Rattle.rows.proofs.Tested.{guard_fits}
@@ -68,23 +67,6 @@ gathers_more w one next left s behind whole p e q g =
 
 pub gathers_done : (w : Words) (left whole : Set) → left ≡ [] → Gathers w left whole → w ≡ words_of whole
 gathers_done w left whole e g = g.words ∙ ap words_of (sym (union_nil g.taken) ∙ ap (union g.taken) (sym e) ∙ g.together)
-
--- ---- Sum's pairs: those left after i of n
-
-module _ (r : Rested) (b : List ℕ) (at n : ℕ) where
-  abbrev pub named_from : ℕ → Set
-  named_from i = named_sets r (pairs_at b (at + 6 * i) (n - i))
-
-  pub named_all : named_from 0 ≡ named_sets r (pairs_at b at n)
-  named_all = ap (named_sets r) (all_pairs b at n)
-
-  pub named_next : (i : ℕ) → i < n → named_from i ≡ union (set_at r (u16 b (at + 6 * i))) (named_from (i + 1))
-  unfolding named_sets
-  named_next i h = ap (named_sets r) (next_pair b at n i h)
-
-  pub named_done : (i : ℕ) → n ≤ i → named_from i ≡ []
-  unfolding named_sets
-  named_done i h = ap (named_sets r) (no_pair b at n i h)
 
 -- ---- Card's variables, two neighbours at a time
 

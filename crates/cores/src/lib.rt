@@ -18,7 +18,7 @@ ghost use Rattle.cores.specs.Sets.{Roomy, words_at, stored, Carries, Stands, Fil
 use encoding::LEN;
 use limits::FACT_LIMIT;
 use question::{Progress, column_of};
-use records::u16_at;
+use records::{fields_at, u16_at};
 use rows::{Search, TAG_NE, TAG_NOT_SAME, lowest_difference, row_at, tag_of};
 use steps::{OPERANDS, Rule};
 
@@ -182,8 +182,8 @@ fn named_sets(b: &[u8], at: usize, pairs: usize, sets: &[u64], count: usize) -> 
     ensures { (r : Rested) → Carries sets.now count r → result ≡ words_of (named_sets r (pairs_at b.now at pairs)) }
 {
     let mut set = no_constraint();
-    for k in 0..pairs {
-        set = union_of(set, fact_set(sets, count, u16_at(b, at + 6 * k)));
+    for (fact, _) in fields_at::<(u16, i32)>(b, at, pairs) {
+        set = union_of(set, fact_set(sets, count, usize::from(fact)));
     }
     set
 }

@@ -2,13 +2,13 @@
 // record concerned" (02, L1), and "It writes nothing".
 #![tactic(auto)]
 
-ghost use Rattle.std.specs.Prelude.{◌≡◌, true, [], ◌∷◌, ℕ, ◌+◌, ◌-◌, ◌/◌, ◌≤◌, length, get_or, pos, nat_abs};
+ghost use Rattle.std.specs.Prelude.{◌≡◌, true, [], ◌∷◌, ℕ, ◌+◌, ◌-◌, ◌/◌, ◌≤◌, length, get_or, pos};
 ghost use Rattle.std.proofs.Math.Option.{none};
 ghost use Rattle.calculus.specs.LinearForms.{dot};
 ghost use Rattle.calculus.specs.Facts.{holds};
 ghost use Rattle.calculus.specs.Strings.{eq_string};
 ghost use Rattle.calculus.specs.Extended.{meets_extended};
-ghost use Rattle.format.specs.Fields.{u16, i32};
+ghost use Rattle.format.specs.Fields.{u16};
 ghost use Rattle.format.specs.Records.{next};
 ghost use Rattle.format.specs.Question.{string_fault, string_fact, form_of, relation_of, extended_fault, extended_of};
 ghost use Rattle.format.specs.Places.{skip, text_at, constraint_at, texts, literals_from};
@@ -30,7 +30,7 @@ use limits::COLUMN_LIMIT;
 use question::{
     HEAD_RANK, JUDGING, Progress, Reading, behind_literals, literal_text, read_question, same_text,
 };
-use records::{record_places, u16_at, u32_at};
+use records::{fields_at, i32_at, record_places, u16_at, u32_at};
 use rows::relation_holds;
 
 // ---- string constraints
@@ -73,28 +73,14 @@ fn string_met(b: &[u8], v: &[u8], s: Progress, places: &[usize], at: usize) -> b
 
 // ---- arithmetic constraints
 
-// A number of a form, as `records::i32_at` reads it. Without a test the sign is one instruction, and registers are short in the loop below.
-fn number_at(b: &[u8], at: usize) -> i64
-    requires { at + 4 ≤ length b.now }
-    ensures { (result ≡ i32 b.now at) × (nat_abs result ≤ 2147483648) }
-{
-    ((u32_at(b, at) + 2147483648) % 4294967296) as i64 - 2147483648
-}
-
 // The value of the form at a position: its constant, and each coefficient times the value of its column.
 fn form_value(b: &[u8], at: usize, count: usize, values: &[i64]) -> i64
     requires { FormIn b.now at count values.now }
     ensures { result ≡ dot (form_of b.now at count) (pos 1 ∷ values.now) }
 {
-    let mut sum = number_at(b, at);
-    let mut i = at + 4;
-    let mut left = count;
-    while 0 < left {
-        let column = u16_at(b, i);
-        let coefficient = number_at(b, i + 2);
-        sum += coefficient * values[column];
-        i += 6;
-        left -= 1;
+    let mut sum = i32_at(b, at);
+    for (column, coefficient) in fields_at::<(u16, i32)>(b, at + 4, count) {
+        sum += i64::from(coefficient) * values[usize::from(column)];
     }
     sum
 }

@@ -1,30 +1,29 @@
-use Prim.Native.Nat.{◌*◌, ◌+◌, ℕ}
+use Prim.Native.Nat.{ℕ}
 use mathlib.Core.Path.{◌∙◌, ap}
-use native.Mathlib.Omega.{arith}
-use Rattle.calculus.specs.Cores.{set_at}
-use Rattle.cores.proofs.Resting.{gathers_all, gathers_done, gathers_more, named_all, named_done, named_next}
+use Rattle.calculus.specs.Cores.{named_sets, set_at}
+use Rattle.format.specs.Fields.{pairs_at}
+use Rattle.cores.proofs.Resting.{gathers_all, gathers_done, gathers_more}
 use Rattle.cores.specs.Words.{words_of}
-use Rattle.format.specs.Fields.{u16}
 use Rattle.cores.proofs.named_sets.Goals as goal
 
-pub loop-k-init : goal.loop-k-init
-loop-k-init c =
-    let a = c.args in
-    λ r h. gathers_all _ _ _ c.no_constraint-set.ensures (named_all r a.b.now a.at a.pairs)
+pub loop-fact-init : goal.loop-fact-init
+unfolding pairs_at
+loop-fact-init c =
+    let e = c.into_iter-fact-iterator.ensures.into_iter_gives ∙ c.fields_at-fact-items.ensures in
+    λ r h. gathers_all _ _ _ c.no_constraint-set.ensures (ap (named_sets r) e)
 
-pub loop-k-preserved : goal.loop-k-preserved
-loop-k-preserved c =
-    let l = c.loop-k in
-    let a = c.args in
-    let b = a.b.now in
+pub loop-fact-preserved : goal.loop-fact-preserved
+unfolding named_sets
+loop-fact-preserved c =
+    let l = c.loop-fact in
+    let e = c.in-Some.ensures.steps in
     λ r h.
-    gathers_more l.set c.fact_set.result c.union_of-set.result _ (set_at r (u16 b (a.at + 6 * l.k))) _ _
-    (named_next r b a.at a.pairs l.k (omega arith))
-    (c.fact_set.ensures r h ∙ ap (λ (k : ℕ). words_of (set_at r k)) c.u16_at.ensures.0)
+    gathers_more l.set c.fact_set.result c.union_of-set.result _ _ _ _ (ap (named_sets r) e)
+    (c.fact_set.ensures r h ∙ ap (λ (k : ℕ). words_of (set_at r k)) c.from.ensures)
     c.union_of-set.ensures (l.invariant r h)
 
 pub returns : goal.returns
+unfolding named_sets
 returns c = λ r h.
-    let l = c.loop-k in
-    let a = c.args in
-    gathers_done _ _ _ (named_done r a.b.now a.at a.pairs l.k (omega arith)) (l.invariant r h)
+    let l = c.loop-fact in
+    gathers_done _ _ _ (ap (named_sets r) c.in-None.ensures.steps.0) (l.invariant r h)
