@@ -1,5 +1,5 @@
 use Prim.Native.Nat.{◌≤◌, ℕ}
-use mathlib.Core.Path.{◌∙◌, ap, refl, sym}
+use mathlib.Core.Path.{◌∙◌, ap, sym}
 use native.Mathlib.Omega.{arith}
 use Rattle.calculus.specs.Rules.{children}
 use Rattle.calculus.specs.Steps.{AConf}
@@ -9,24 +9,13 @@ use Rattle.question.specs.Posed.{asked}
 use Rattle.rows.specs.Rows.{branch_of}
 use Rattle.steps.proofs.Bodies.{long, not_unknown, is_rule}
 use Rattle.steps.proofs.Offered.{offered_by}
-use Rattle.conclusions.proofs.Labels.{asks, closing_unknown}
+use Rattle.conclusions.proofs.Labels.{closing_unknown}
 use Rattle.conclusions.proofs.closes.Goals as goal
 
 pub u16_at-requires : goal.u16_at-requires
 u16_at-requires c =
     let long : 6 ≤ c.args.size = long c.requires.ready_by.ready a_conf (is_rule c.requires.ready_by _ c.in-AConf.is) in
     omega (arith, c.requires.ready_by.ready.formed.within)
-
-pub a_conf-requires : goal.a_conf-requires
-a_conf-requires c = c.requires.ready_by.ready.fine
-
-pub s_conf-requires : goal.s_conf-requires
-s_conf-requires c =
-    let h = c.requires.ready_by.ready in
-    record {
-      fine = (h.fine, h.posed.stands.few_literals);
-      labels_value = c.requires.labelled (asks _ _ c.in-SConf.is refl);
-    }
 
 pub returns-in-AConf : goal.returns-in-AConf
 unfolding step_of
