@@ -1,7 +1,7 @@
 // Classes of variables and literals: labels of the 32 nodes, from the rows of a branch.
 #![tactic(auto)]
 
-ghost use Rattle.std.specs.Prelude.{◌≡◌, cond, [], ◌∷◌, ◌*◌, ◌≤◌, ◌<◌, length, eqb};
+ghost use Rattle.std.specs.Prelude.{◌≡◌, [], ◌∷◌, ◌*◌, ◌≤◌, ◌<◌, length};
 ghost use Rattle.lists.specs.Lists.{any_below};
 ghost use Rattle.calculus.specs.Limits.{variable_limit, fact_limit};
 ghost use Rattle.calculus.specs.Chains.{var_node, lit_node};

@@ -2,15 +2,14 @@
 // nodes; what does not read the literals is said of the question by its numbers alone.
 #![tactic(auto)]
 
-ghost use Rattle.std.specs.Prelude.{◌≡◌, true, false, cond, ◌&&◌, ◌+◌, ◌*◌, ◌≤◌, ◌<◌, length, eqb, nat_abs};
+ghost use Rattle.std.specs.Prelude.{◌≡◌, ◌+◌, ◌*◌, ◌≤◌, ◌<◌, length, nat_abs};
 ghost use Rattle.lists.specs.Lists.{all_below};
 ghost use Rattle.calculus.specs.Limits.{alphabet_limit, variable_limit, fact_limit};
-ghost use Rattle.calculus.specs.LinearForms.{eqℤ};
 ghost use Rattle.calculus.specs.Classes as classes;
 ghost use Rattle.calculus.specs.Classes.{node_count, literal_in};
 ghost use Rattle.calculus.specs.Model.{model_value};
 ghost use Rattle.calculus.specs.SettledTest as test;
-ghost use Rattle.calculus.specs.SettledTest.{lowest_variable, lowest_of_length, settled_card};
+ghost use Rattle.calculus.specs.SettledTest.{lowest_of_length, settled_card};
 ghost use Rattle.format.specs.Fields.{u32s};
 ghost use Rattle.format.specs.StepForms.{function_of};
 ghost use Rattle.format.specs.Checking.{short_lengths};
@@ -27,12 +26,6 @@ use question::Progress;
 const EMPTY: usize = 0;
 
 // ---- numbers
-
-pub fn equal(a: i64, b: i64) -> bool
-    ensures { result ≡ eqℤ a b }
-{
-    a == b
-}
 
 // The size of a number without its sign.
 pub fn magnitude(z: i64) -> usize

@@ -1,6 +1,5 @@
 -- The table of strings: one is stored and the others stay, and which strings are given.
 use Prim.Native.Nat.{ℕ, zero, suc, ◌+◌, ◌*◌, ◌≤◌, ◌<◌}
-use native.Mathlib.Numerals.{add-one}
 use native.Mathlib.Omega.{arith}
 use native.Mathlib.Decide.{dec_lt, ℕ_discrete}
 use mathlib.Core.Path.{◌≡◌, refl, sym, ◌∙◌, ap, ap₂}
@@ -11,13 +10,12 @@ use mathlib.Core.List.{List, [], ◌∷◌, ◌++◌, append_assoc}
 use borrow.Author.Tests.{le-leb, lt-leb, leb-true, leb-false, lt-ltb, le-ltb}
 use lib.Dec.{leb, ltb}
 use lib.ListN.{length, get_or, take, drop, set, length-drop, take-append-drop}
-use lib.Seq.{sets, sets-eq, length-sets, take-suc, length-take-le, take-append-le, drop_at}
+use lib.Seq.{sets, sets-eq, length-sets, length-take-le, take-append-le, drop_at}
 use lib.Seq.{drop-drop, ext_get_or, get_or-take, get_or-drop, get_or-set_same, get_or-set_other}
 use lib.IntN.{ℤ, pos}
 use Rattle.answer.proofs.Written.{length_row}
 use Rattle.lists.specs.Lists.{any_below}
 use Rattle.lists.proofs.Options.{none_some, some_injective}
-use Rattle.lists.proofs.Stores.{sets_sets}
 use Rattle.calculus.specs.Limits.{length_limit}
 use Rattle.calculus.specs.LinearForms.{eqℤ}
 use Rattle.calculus.specs.Facts.{Question, literal, len, code}
@@ -46,21 +44,7 @@ module _ (k : ℕ) (l : List ℕ) where
       go true f = let h : k ≤ length_limit = leb-true k length_limit f in (h, some_injective (sym (sized_some h) ∙ e))
       go false f = absurd (none_some (sym (sized_none (leb-false k length_limit f)) ∙ e))
 
--- ---- a row that is read from the front
-
-pub row_at : (characters : List ℕ) (y m i : ℕ) → i < m → get_or (row characters y m) i 0 ≡ get_or characters (length_limit * y + i) 0
-row_at characters y m i h = get_or-take m (drop (length_limit * y) characters) i 0 h ∙ get_or-drop (length_limit * y) characters i 0
-
 -- ---- stores
-
--- a turn of the loop that stores
-pub stored_more : (b w : List ℕ) (at i : ℕ) → i < length w → set (sets b at (take i w)) (at + i) (get_or w i 0) ≡ sets b at (take (i + 1) w)
-stored_more b w at i h =
-    let n : length (take i w) ≡ i = length-take-le i w (omega arith) in
-    let e : take (i + 1) w ≡ take i w ++ (get_or w i 0 ∷ []) = rw (add-one, take-suc w i 0 h) in
-    ap (λ (k : ℕ). sets (sets b at (take i w)) (at + k) (get_or w i 0 ∷ [])) (sym n)
-    ∙ sets_sets (take i w) (get_or w i 0 ∷ []) b at
-    ∙ ap (λ (l : List ℕ). sets b at l) (sym e)
 
 -- the first character alone
 pub first_put : (l : List ℕ) (c : ℕ) → 1 ≤ length l → take 1 (set l 0 c) ≡ c ∷ []

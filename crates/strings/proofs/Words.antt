@@ -3,16 +3,15 @@ use Prim.Native.Nat.{ℕ, zero, suc, ◌+◌, ◌*◌, ◌-◌, ◌/◌, ◌%◌
 use native.Mathlib.Nat.{pow-zero, pow-suc, pow-succ', one-le-pow, mod-lt, div-one, mul-one, div-div-eq-div-mul, zero-div, zero-mod}
 use native.Mathlib.Omega.{arith}
 use mathlib.Core.Path.{◌≡◌, refl, sym, ◌∙◌, ap, ap₂}
-use mathlib.Core.Bool.{Bool, true, false, ◌&&◌}
+use mathlib.Core.Bool.{Bool, true, false}
 use mathlib.Core.List.{List, [], ◌∷◌, ◌++◌, append_assoc, append-nil}
 use lib.Arith.{mod-mul, digits_div, digits_mod}
-use lib.Dec.{eqb}
-use lib.ListN.{length, get_or, take, drop, set, replicate, length-set, drop_of_length-le, take-append-drop}
+use lib.ListN.{length, take, drop, set, replicate, length-set, drop_of_length-le, take-append-drop}
 use lib.Seq.{take-set-lt, take-set-le, take-take, drop-cons, get_or-set_same, drop-set-lt, length-take-le}
-use Rattle.lists.proofs.Lists.{down, eq_list_step, eq_list_done, eq_list_lengths}
+use Rattle.lists.proofs.Lists.{down}
 use Rattle.lists.proofs.Every.{take_zero}
 use Rattle.calculus.specs.Alphabet.{character}
-use Rattle.calculus.specs.Strings.{word, eq_string, given, fresh_from}
+use Rattle.calculus.specs.Strings.{word, given, fresh_from}
 use Rattle.calculus.proofs.Alphabet.{count_is, character_is}
 
 -- ---- the first character of a word is the quotient by a power of n
@@ -121,19 +120,6 @@ digits_over n m k i rest out z h f e =
 
 pub no_digits : (n m k : ℕ) (out : List ℕ) → m ≡ 0 → take m out ≡ word n m k
 no_digits n m k out e = ap (λ (i : ℕ). take i out) e ∙ take_zero out ∙ sym (ap (λ (i : ℕ). word n i k) e)
-
--- ---- strings, character by character
-
-module _ (a b : List ℕ) (i : ℕ) (h : i < length a) (k : i < length b) where
-  pub same_more : eq_string (drop i a) (drop i b) ≡ (eqb (get_or a i 0) (get_or b i 0) && eq_string (drop (i + 1) a) (drop (i + 1) b))
-  same_more = eq_list_step eqb a b i 0 h k
-
-pub same_done : (a b : List ℕ) (i : ℕ) → length a ≤ i → length b ≤ i → eq_string (drop i a) (drop i b) ≡ true
-same_done a b i h k = eq_list_done eqb a b i h k
-
--- strings of different lengths differ
-pub same_lengths : (s t : List ℕ) → (length s ≡ length t → ⊥) → eq_string s t ≡ false
-same_lengths s t h = eq_list_lengths eqb s t h
 
 -- ---- the first that is not given
 

@@ -1,7 +1,7 @@
 // The strings of a settled leaf: words in the order of code points, the first that is not given, and the rounds that give each variable its string.
 #![tactic(auto)]
 
-ghost use Rattle.std.specs.Prelude.{◌≡◌, true, ℕ, ◌+◌, ◌*◌, ◌≤◌, ◌<◌, length, get_or, take, drop, replicate, pos, nat_abs};
+ghost use Rattle.std.specs.Prelude.{◌≡◌, ℕ, ◌+◌, ◌*◌, ◌≤◌, ◌<◌, length, get_or, take, drop, replicate, pos, nat_abs};
 ghost use Rattle.std.proofs.lemmas.List.Edits.{sets};
 ghost use Rattle.calculus.specs.Limits.{alphabet_limit, variable_limit, length_limit, value_limit};
 ghost use Rattle.calculus.specs.LinearForms.{eqℤ};
@@ -21,7 +21,8 @@ use encoding::{CODE, LEN};
 use limits::{LENGTH_LIMIT, VARIABLE_LIMIT};
 use question::Progress;
 
-// The size of a variable that has no string yet.
+// The size of a variable that has no string yet. Sizes are plain numbers and not options: those of the filled table are handed on as they stand, and the definitions
+// of the table read a size past 64 as none.
 const NOT_GIVEN: usize = LENGTH_LIMIT + 1;
 
 // The k-th string of m of n characters goes to the front of a row of zeros, from the right as far as k reaches.
@@ -33,6 +34,7 @@ fn fill_word(row: &mut [u32; LENGTH_LIMIT], n: usize, m: usize, k: usize)
     if m == 0 {
         return;
     }
+    // A `while`: the proof takes the row apart at i, which a `for` over a range from behind does not name.
     let mut i = m;
     let mut rest = k;
     while 1 < i {
@@ -46,31 +48,11 @@ fn fill_word(row: &mut [u32; LENGTH_LIMIT], n: usize, m: usize, k: usize)
     row[0] = rest as u32;
 }
 
-// Are two strings the same? The last characters are compared first, since words in a row differ there; the loop has no exit, so that it is compiled to
-// compare several characters at once.
+// Are two strings the same? The last characters are compared first, since words in a row differ there.
 fn same_string(s: &[u32], t: &[u32]) -> bool
     ensures { result ≡ eq_string s.now t.now }
 {
-    if s.len() != t.len() {
-        return false;
-    }
-    if s.len() == 0 {
-        return true;
-    }
-    let last = s.len() - 1;
-    if s[last] != t[last] {
-        return false;
-    }
-    let mut same = true;
-    let mut i = 0;
-    while i < s.len() {
-        let c = s[i];
-        let d = t[i];
-        let one = c == d;
-        same = same & one;
-        i += 1;
-    }
-    same
+    s.last() == t.last() && s == t
 }
 
 // Is w the string of variable y in the table, where it has `size` characters?
