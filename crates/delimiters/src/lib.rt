@@ -26,6 +26,16 @@ pub enum Claim {
     Strings,
 }
 
+// A claim by its number, any but 1 being that of strings.
+pub fn claim_of(number: usize) -> Claim
+    ensures { result ≡ claim_of number }
+{
+    match number {
+        CLAIM_NO_SOLUTION => Claim::NoSolution,
+        _ => Claim::Strings,
+    }
+}
+
 // "u16, 1 for no solution, 2 for strings"
 impl TryFrom<usize> for Claim {
     type Error = Fault;
@@ -34,8 +44,7 @@ impl TryFrom<usize> for Claim {
 
     fn try_from(number: usize) -> Result<Self, Fault> {
         match number {
-            CLAIM_NO_SOLUTION => Ok(Claim::NoSolution),
-            CLAIM_STRINGS => Ok(Claim::Strings),
+            CLAIM_NO_SOLUTION | CLAIM_STRINGS => Ok(claim_of(number)),
             _ => Err(Fault::OutOfRange),
         }
     }
