@@ -13,7 +13,7 @@ use lib.IntN.{ℤ, pos, negsuc, nat_abs}
 use lib.Signed.{lt_z}
 use Rattle.std.specs.List.{filter, range_with_len}
 use Rattle.std.proofs.lemmas.List.Elements.{filter-append}
-use Rattle.classes.proofs.Ranges.{range_more}
+use Rattle.lists.proofs.Library.{range_more}
 use Rattle.lists.specs.Lists.{any, all_below}
 use Rattle.lists.proofs.Tests.{true→}
 use Rattle.calculus.specs.Alphabet.{character_count}

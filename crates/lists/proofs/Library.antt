@@ -18,7 +18,7 @@ module _ {A : Type 0} (test : A → Bool) where
   list_any_is (x ∷ l) = ap (λ b. test x || b) (list_any_is l)
 
 -- the numbers from a on, one more: the last of them is n
-range_more : (a k n : ℕ) → n ≡ a + k → range_with_len a (suc k) ≡ range_with_len a k ++ (n ∷ [])
+pub range_more : (a k n : ℕ) → n ≡ a + k → range_with_len a (suc k) ≡ range_with_len a k ++ (n ∷ [])
 range_more a zero n e = ap (λ m. m ∷ []) (omega arith)
 range_more a (suc k) n e = ap (λ ns. a ∷ ns) (range_more (a + 1) k n (omega arith))
 

@@ -1,13 +1,14 @@
 -- The lowest bytes of a number, and a run of stores made by one copy.
 use mathlib.Core.Path.{◌≡◌, refl, sym, ◌∙◌, ap, ap₂}
-use mathlib.Core.List.{List, [], ◌∷◌, append_assoc}
-use Prim.Native.Nat.{ℕ, ◌+◌, ◌-◌, ◌≤◌, ◌/◌, ◌%◌}
+use mathlib.Core.List.{List, ◌∷◌, append_assoc}
+use Prim.Native.Nat.{ℕ, zero, suc, ◌+◌, ◌-◌, ◌≤◌, ◌/◌, ◌%◌, ◌^◌}
 use native.Mathlib.Omega.{arith}
 use borrow.Rule.Slice.PartMut.{put_mid}
 use mir.Syntax.{w64}
 use lib.ListN.{length, drop, take}
 use lib.Seq.{sets, sets-eq}
-use Rattle.std.specs.Int.{to_le_bytes}
+use Rattle.std.specs.Int.{byte_at, bytes_low_first, to_le_bytes}
+use Rattle.std.proofs.Math.Nat.{div-div-eq-div-mul, div-one, pow-suc}
 use Rattle.std.proofs.lemmas.Slice.{put_mid-paste}
 use Rattle.std.proofs.lemmas.List.Edits.{paste_all}
 use Rattle.format.specs.Fields.{bytes_of}
@@ -19,12 +20,18 @@ copied b at n w v f e h =
     ∙ paste_all b at w n e
     ∙ rw e (sym (sets-eq w b at (omega arith) ∙ append_assoc (take at b) w (drop (at + length w) b)))
 
-pub lowest_two : (v : ℕ) → take 2 (to_le_bytes w64 v) ≡ bytes_of 2 v
+-- the k lowest of m bytes from byte i on
+lowest_from : (k i m v : ℕ) → k ≤ m → take k (bytes_low_first i m v) ≡ bytes_of k (v / 256 ^ i)
 unfolding bytes_of
-lowest_two v = refl
+lowest_from zero i zero v h = refl
+lowest_from zero i (suc m) v h = refl
+lowest_from (suc k) i zero v h = absurd (omega arith)
+lowest_from (suc k) i (suc m) v h =
+    ap₂ ◌∷◌ (here i) (lowest_from k (suc i) m v (omega arith) ∙ ap (bytes_of k) (ap (λ (n : ℕ). v / n) (pow-suc 256 i) ∙ sym (div-div-eq-div-mul v (256 ^ i) 256)))
+  where
+    here : (i : ℕ) → byte_at i v ≡ v / 256 ^ i % 256
+    here zero = ap (λ (n : ℕ). n % 256) (sym (div-one v))
+    here (suc i) = refl
 
-pub lowest_four : (v : ℕ) → take 4 (to_le_bytes w64 v) ≡ bytes_of 4 v
-unfolding bytes_of
-lowest_four v =
-    ap₂ (λ (c d : ℕ). v % 256 ∷ v / 256 % 256 ∷ c ∷ d ∷ []) (let e : v / 65536 ≡ v / 256 / 256 = omega arith in ap (λ (k : ℕ). k % 256) e)
-    (let e : v / 16777216 ≡ v / 256 / 256 / 256 = omega arith in ap (λ (k : ℕ). k % 256) e)
+pub lowest : (k v : ℕ) → k ≤ 8 → take k (to_le_bytes w64 v) ≡ bytes_of k v
+lowest k v h = lowest_from k 0 8 v h ∙ ap (bytes_of k) (div-one v)
