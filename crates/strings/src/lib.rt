@@ -34,14 +34,11 @@ fn fill_word(row: &mut [u32; LENGTH_LIMIT], n: usize, m: usize, k: usize)
     if m == 0 {
         return;
     }
-    // A `while`: the proof takes the row apart at i, which a `for` over a range from behind does not name.
-    let mut i = m;
     let mut rest = k;
-    while 1 < i {
+    for i in (1..m).rev() {
         if rest == 0 {
             return;
         }
-        i -= 1;
         row[i] = (rest % n) as u32;
         rest /= n;
     }

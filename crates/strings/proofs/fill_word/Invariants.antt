@@ -9,6 +9,3 @@ abbrev pub invariant-loop-i : goal.invariant-loop-i
 invariant-loop-i l =
     (1 ≤ l.i) × (l.i ≤ l.m) × (l.rest ≤ 16) × (length l.row ≡ 64) × (take l.i l.row ≡ replicate l.i 0)
     × (word l.n l.i l.rest ++ drop l.i (take l.m l.row) ≡ word l.n l.m l.k)
-
-abbrev pub decreases-loop-i : goal.decreases-loop-i
-decreases-loop-i l = l.i
