@@ -15,7 +15,18 @@ use Rattle.format.specs.Reading.{State, proving, taking, modelled, Method, model
 use Rattle.format.specs.Reading.{last_fault, body_fault, fault, advanced, Faulty, Done, steps_on}
 use Rattle.format.proofs.Faults.{none_applies}
 use Rattle.format.proofs.StepTurns.{steps_none, steps_faulty, steps_done, steps_more}
+use Rattle.records.specs.Found.{found_at}
+use Rattle.records.specs.declared.Found.{Found}
+use Rattle.records.specs.declared.Found.TheVariants.{Whole, Cut, Nothing}
+use Rattle.records.proofs.Finding.{found_nothing, found_cut}
 use Rattle.delimiters.specs.Numbers.{end_form, end_fault}
+
+-- ---- what stands at a position is no whole record
+
+pub cut_off : (b : List ℕ) (at : ℕ) (f : Found) → f ≡ found_at b at → ((k m : ℕ) → f ≡ Whole k m → ⊥) → length b < next b at
+cut_off b at (Whole k m) e other = absurd (other k m refl)
+cut_off b at (Cut k) e other = (found_cut b at k (sym e)).2
+cut_off b at Nothing e other = omega (arith, found_nothing b at (sym e))
 
 -- ---- the model's record, whole
 

@@ -84,7 +84,7 @@ pub fn model_fault(ticket: &[u8], s: Progress, at: usize, size: usize) -> Result
     requires { (at + size ≤ length ticket.now) × (s.p ≤ variable_limit) × (s.q ≤ variable_limit) }
     ensures { fault_in result ≡ model_fault ticket.now (asked ticket.now s) 0 at size }
 {
-    let columns = s.q + (s.p + s.p);
+    let columns = s.columns();
     if size != 4 * columns {
         return Err(Fault::NoForm);
     }

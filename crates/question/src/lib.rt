@@ -11,11 +11,11 @@ ghost use Rattle.format.specs.Fields.{u16, u32, u32s, pairs_at};
 ghost use Rattle.format.specs.Records.{kind as kind_at, size as size_at};
 ghost use Rattle.format.specs.Question.{head_rank, literal_rank, rank_of, head_fault, text_of, literal_fault, string_range, string_fault, coefficient_in_range, pair_in_range};
 ghost use Rattle.format.specs.Question.{rising, form_range, arithmetic_fault, fact_fault, extended_range, extended_fault, rank_in_place, question_body_fault};
-ghost use Rattle.format.specs.Question.{room_for, question_fault, question_advanced, ending, read_by};
+ghost use Rattle.format.specs.Question.{room_for, question_fault, question_advanced, read_by};
 ghost use Rattle.format.specs.Places.{skip, texts, literals_from};
 ghost use Rattle.records.specs.Placed.{Placed};
 ghost use Rattle.faults.specs.Numbers.{fault_in};
-ghost use Rattle.question.specs.Progress.{manner_of, progress_of, reading_of};
+ghost use Rattle.question.specs.Progress.{manner_of, progress_of, ends_at, reading_of};
 ghost use Rattle.question.specs.Standing.{StandsTo, NextAt};
 ghost use Rattle.question.specs.Columns.{column_at};
 ghost use Rattle.question.specs.Texts.{LiteralText};
@@ -310,6 +310,16 @@ pub struct Progress {
     pub extended: usize,
 }
 
+impl Progress {
+    // "Columns: the q integer variables, then len of each string variable, then code of each": how many there are.
+    pub fn columns(self) -> usize
+        requires { (self.p ≤ variable_limit) × (self.q ≤ variable_limit) }
+        ensures { result ≡ self.q + (self.p + self.p) }
+    {
+        self.q + 2 * self.p
+    }
+}
+
 // "They stand in order of kind"; "4 when a kind is unknown or out of its place (a 16th literal .. included)": a record of a rank after the rank last and so many
 // literals, where ranks up to the greatest are taken.
 fn in_place(greatest: usize, last: usize, literals: usize, rank: usize) -> bool
@@ -334,7 +344,7 @@ fn body_fault(b: &[u8], s: Progress, kind: usize, at: usize, size: usize) -> Res
         HEAD_RANK => head_fault(b, at, size),
         LITERAL_RANK => literal_fault(b, s.n, s.literals, at, size),
         EXTENDED_RANK => extended_fault(b, s.p, s.q, at, size),
-        _ => fact_fault(b, s.p, s.literals, s.q + (s.p + s.p), kind, at, size),
+        _ => fact_fault(b, s.p, s.literals, s.columns(), kind, at, size),
     }
 }
 
@@ -428,11 +438,14 @@ pub struct Read {
     pub record: usize,
 }
 
-// Whether a record of this kind ends the question: a claim or an end record.
-fn ends_question(k: usize) -> bool
-    ensures { result ≡ ending k }
+// Whether the question ends at what stands at a position: at the head of a claim or an end record, whole or not.
+fn ends_question(found: Found) -> bool
+    ensures { result ≡ ends_at found }
 {
-    k == KIND_CLAIM || k == KIND_END
+    match found {
+        Found::Whole(kind, _) | Found::Cut(kind) => kind == KIND_CLAIM || kind == KIND_END,
+        Found::Nothing => false,
+    }
 }
 
 // The question of the bytes, read in a manner; "reading ends at the six leading bytes of the first claim or end record".
@@ -454,34 +467,23 @@ pub fn read_question(m: Manner, b: &[u8]) -> Result<Read, Refusal>
     let mut at = 0;
     let mut record = 0;
     loop {
-        match read_at(b, at) {
-            Found::Nothing => return Err(Fault::CutShort.at(record)),
-            Found::Cut(k) => {
-                if ends_question(k) {
-                    return Ok(Read {
-                        numbers,
-                        at,
-                        record,
-                    });
-                }
-                return Err(Fault::CutShort.at(record));
-            }
-            Found::Whole(k, size) => {
-                if ends_question(k) {
-                    return Ok(Read {
-                        numbers,
-                        at,
-                        record,
-                    });
-                }
-                if let Err(fault) = record_fault(m, b, numbers, k, at, size) {
-                    return Err(fault.at(record));
-                }
-                numbers = advance(b, numbers, k, at);
-                at = at + RECORD_HEAD + size;
-                record += 1;
-            }
+        let found = read_at(b, at);
+        if ends_question(found) {
+            return Ok(Read {
+                numbers,
+                at,
+                record,
+            });
         }
+        let Found::Whole(kind, size) = found else {
+            return Err(Fault::CutShort.at(record));
+        };
+        if let Err(fault) = record_fault(m, b, numbers, kind, at, size) {
+            return Err(fault.at(record));
+        }
+        numbers = advance(b, numbers, kind, at);
+        at += RECORD_HEAD + size;
+        record += 1;
     }
 }
 

@@ -1,16 +1,16 @@
-use borrow.Enum.Refused.{opened}
 use mathlib.Core.Path.{sym, ◌∙◌}
 use native.Mathlib.Omega.{arith}
 use borrow.Author.Tests.{le-leb, lt-leb, eq-eqb, ne_eqb}
 use Rattle.format.specs.Records.{kind}
 use Rattle.delimiters.specs.Numbers.{end_fault}
-use Rattle.records.proofs.Finding.{found_whole, not_whole, all_there}
+use Rattle.delimiters.proofs.Ends.{cut_off}
+use Rattle.records.proofs.Finding.{found_whole, all_there}
 use Rattle.delimiters.proofs.end_fault.Goals as goal
 
 pub returns-in_default : goal.returns-in_default
 unfolding end_fault
 returns-in_default c =
-    rw (lt-leb _ _ (not_whole c.args.ticket.now c.args.at _ c.read_at.ensures (opened c.in_default.in_default-own.keys2)))
+    rw (lt-leb _ _ (cut_off c.args.ticket.now c.args.at _ c.read_at.ensures c.in_default.not-Whole))
 
 pub returns-then-kind-ne-KIND_END : goal.returns-then-kind-ne-KIND_END
 unfolding end_fault

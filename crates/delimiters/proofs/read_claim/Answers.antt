@@ -1,4 +1,3 @@
-use borrow.Enum.Refused.{opened}
 use mathlib.Core.Path.{◌≡◌, sym, ◌∙◌}
 use mathlib.Core.Logic.{◌⊎◌, inl, inr}
 use mathlib.Core.List.{List}
@@ -10,12 +9,13 @@ use Rattle.format.specs.Records.{size, kind}
 use Rattle.format.specs.Question.{Progress}
 use Rattle.format.specs.Reading.{claim_fault}
 use Rattle.question.specs.Progress.{progress_of}
-use Rattle.records.proofs.Finding.{found_whole, not_whole, all_there}
+use Rattle.delimiters.proofs.Ends.{cut_off}
+use Rattle.records.proofs.Finding.{found_whole, all_there}
 use Rattle.delimiters.proofs.read_claim.Goals as goal
 
 pub returns-in_default-clause-fault : goal.returns-in_default-clause-fault
 returns-in_default-clause-fault c =
-    rw (lt-leb _ _ (not_whole c.args.ticket.now c.args.at _ c.read_at.ensures (opened c.in_default.in_default-own.keys2)))
+    rw (lt-leb _ _ (cut_off c.args.ticket.now c.args.at _ c.read_at.ensures c.in_default.not-Whole))
 
 -- no head was read, or the record is no claim
 module _ (b : List ℕ) (s : Progress) (at k m : ℕ) (w : (k ≡ kind b at) × (m ≡ size b at) × (at + 6 + m ≤ length b)) where

@@ -1,5 +1,7 @@
 use borrow.Author.Tests.{ne_eqb}
 use mathlib.Core.Path.{◌∙◌, sym}
+use native.Mathlib.Omega.{arith}
+use Rattle.format.specs.Question.{rank_of}
 use Rattle.format.proofs.Places.{length_texts}
 use Rattle.question.proofs.body_fault.Goals as goal
 
@@ -17,10 +19,9 @@ returns-in-5 c = rw (sym c.rank_of.ensures ∙ c.in-5.is) c.extended_fault.ensur
 
 pub returns-in_default : goal.returns-in_default
 returns-in_default c =
-    let rank = c.rank_of.ensures in
     rw (
-      ne_eqb _ _ (λ z. c.in_default.in_default-own.rest.0.0.1 (rank ∙ z)),
-      ne_eqb _ _ (λ z. c.in_default.in_default-own.rest.0.1 (rank ∙ z)),
-      ne_eqb _ _ (λ z. c.in_default.in_default-own.rest.1 (rank ∙ z)),
+      ne_eqb (rank_of c.args.kind) 1 (λ e. omega (arith, c.rank_of.ensures)),
+      ne_eqb (rank_of c.args.kind) 2 (λ e. omega (arith, c.rank_of.ensures)),
+      ne_eqb (rank_of c.args.kind) 5 (λ e. omega (arith, c.rank_of.ensures)),
       length_texts,
-    ) c.fact_fault.ensures
+    ) (rw c.columns.ensures at c.fact_fault.ensures)

@@ -1,3 +1,4 @@
+use native.Mathlib.Omega.{arith}
 use borrow.Author.Tests.{ne_eqb}
 use Rattle.format.specs.Question.{fact_fault}
 use Rattle.question.proofs.fact_fault.Goals as goal
@@ -12,4 +13,4 @@ returns-in-4 c = rw c.in-4.is c.arithmetic_fault.ensures
 
 pub returns-in_default : goal.returns-in_default
 unfolding fact_fault
-returns-in_default c = rw (ne_eqb _ _ c.in_default.in_default-own.rest.0.1, ne_eqb _ _ c.in_default.in_default-own.rest.1)
+returns-in_default c = rw (ne_eqb c.args.kind 3 (λ e. omega arith), ne_eqb c.args.kind 4 (λ e. omega arith))

@@ -13,8 +13,8 @@ use Rattle.question.proofs.read_question.Given as goal
 abbrev pub Left : Manner → List ℕ → Progress → ℕ → ℕ → Type 0
 Left m b s r at = read_on (question_fault (manner_of m)) b (progress_of b s) r at ≡ read_on (question_fault (manner_of m)) b unread 0 0
 
-abbrev pub invariant-loop-k : goal.invariant-loop-k
-invariant-loop-k l = (l.record ≤ l.at) × StandsTo l.b l.numbers l.at × Left l.m l.b l.numbers l.record l.at
+abbrev pub invariant-loop-m : goal.invariant-loop-m
+invariant-loop-m l = (l.record ≤ l.at) × StandsTo l.b l.numbers l.at × Left l.m l.b l.numbers l.record l.at
 
-abbrev pub decreases-loop-k : goal.decreases-loop-k
-decreases-loop-k l = length l.b - l.at
+abbrev pub decreases-loop-m : goal.decreases-loop-m
+decreases-loop-m l = length l.b - l.at
