@@ -19,7 +19,7 @@ use encoding::LEN;
 use limits::FACT_LIMIT;
 use question::{Progress, column_of};
 use records::{fields_at, u16_at};
-use rows::{Search, TAG_NE, TAG_NOT_SAME, lowest_difference, row_at, tag_of};
+use rows::{TAG_NE, TAG_NOT_SAME, lowest_difference, row_at, tag_of};
 use steps::{OPERANDS, Rule};
 
 // How many numbers hold the sets of a branch's facts, two for each.
@@ -200,8 +200,8 @@ fn lengths_set(s: Progress, x: usize, y: usize, work: &[i64], count: usize, sets
     let i = column_of(s.p, s.q, LEN, x);
     let j = column_of(s.p, s.q, LEN, y);
     match lowest_difference(work, count, i, j) {
-        Search::At(k) => fact_set(sets, count, k),
-        Search::Nothing => no_constraint(),
+        Some(k) => fact_set(sets, count, k),
+        None => no_constraint(),
     }
 }
 

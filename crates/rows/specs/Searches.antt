@@ -1,9 +1,7 @@
 -- What a search in code gives, as the definitions have it.
-use Rattle.std.specs.Prelude.{ℕ}
-use Rattle.std.proofs.Math.Option.{Option, none, some}
-use Rattle.rows.specs.declared.Search as code
-use Rattle.rows.specs.declared.Search.{Search}
+use Rattle.std.specs.Prelude.{ℕ, Option, Some, None}
+use Rattle.std.proofs.Math.Option as math
 
-abbrev pub number_in : Search → Option ℕ
-number_in (code.TheVariants.At k) = some k
-number_in code.TheVariants.Nothing = none
+abbrev pub number_in : Option ℕ → math.Option ℕ
+number_in (Some k) = math.some k
+number_in None = math.none

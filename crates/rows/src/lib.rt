@@ -380,16 +380,8 @@ fn one_of(row: &[i64], one: &[i64], other: &[i64], column: usize) -> bool
     same_by(one, row, column) || same_by(other, row, column)
 }
 
-// What a search among the facts of a branch gives.
-#[derive(Drop)]
-pub enum Search {
-    // The number of the lowest fact that was looked for.
-    At(usize),
-    Nothing,
-}
-
 // The lowest fact that states that the difference of two columns is 0, in either order.
-pub fn lowest_difference(work: &[i64], count: usize, i: usize, j: usize) -> Search
+pub fn lowest_difference(work: &[i64], count: usize, i: usize, j: usize) -> Option<usize>
     requires count_le_fact_limit { (count ≤ fact_limit) × (work_numbers ≤ length work.now) }
     requires i_lt_column_limit { (i < column_limit) × (j < column_limit) × (i ≢ j) }
     ensures { number_in result ≡ lowest_difference (branch_of work.now count) i j }
@@ -398,10 +390,7 @@ pub fn lowest_difference(work: &[i64], count: usize, i: usize, j: usize) -> Sear
     fill_difference(&mut one, EQ, i, j);
     let mut other = [0i64; ROW_LENGTH];
     fill_difference(&mut other, EQ, j, i);
-    match (0..count).find(|k| one_of(row_at(work, *k), &one, &other, i)) {
-        Some(k) => Search::At(k),
-        None => Search::Nothing,
-    }
+    (0..count).find(|k| one_of(row_at(work, *k), &one, &other, i))
 }
 
 // Does a fact state that the difference of two columns is 0, in either order?
@@ -410,10 +399,7 @@ pub fn states_equal(work: &[i64], count: usize, i: usize, j: usize) -> bool
     requires i_lt_column_limit { (i < column_limit) × (j < column_limit) × (i ≢ j) }
     ensures { result ≡ states_equal (branch_of work.now count) i j }
 {
-    match lowest_difference(work, count, i, j) {
-        Search::At(_) => true,
-        Search::Nothing => false,
-    }
+    lowest_difference(work, count, i, j).is_some()
 }
 
 // ---- values

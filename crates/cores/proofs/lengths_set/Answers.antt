@@ -1,6 +1,7 @@
 use Prim.Native.Nat.{ℕ}
 use mathlib.Core.Path.{◌∙◌, ◌≡◌, ap, ap₂, sym}
 use native.Mathlib.Omega.{arith}
+use Rattle.std.specs.Prelude.{Option}
 use Rattle.calculus.specs.Cores.{Rested, facts, found_set, lengths_set}
 use Rattle.calculus.specs.Facts.{Branch}
 use Rattle.calculus.specs.Rules.{lowest_difference}
@@ -9,7 +10,6 @@ use Rattle.cores.specs.Words.{words_of}
 use Rattle.question.specs.Columns.{column_at}
 use Rattle.question.specs.Posed.{numbered}
 use Rattle.rows.specs.Searches.{number_in}
-use Rattle.rows.specs.declared.Search.{Search}
 use Rattle.cores.proofs.lengths_set.Goals as goal
 use Rattle.cores.proofs.lengths_set.Goals.{After-lowest_difference}
 
@@ -37,14 +37,14 @@ found c r h =
     ∙ ap (λ (b : Branch). lowest_difference b c.column_of-i.result c.column_of-j.result) (sym h.rows)
     ∙ ap₂ (λ (i j : ℕ). lowest_difference (facts r) i j) c.column_of-i.ensures.0 c.column_of-j.ensures.0)
 
-pub returns-in-At : goal.returns-in-At
-returns-in-At c = λ r h n.
+pub returns-in-Some : goal.returns-in-Some
+returns-in-Some c = λ r h n.
     c.fact_set.ensures r h.carried
-    ∙ ap (λ (e : Search). words_of (found_set r (number_in e))) (sym c.in-At.is)
-    ∙ ap words_of (found (goal.at.returns-in-At c).After-lowest_difference r h)
+    ∙ ap (λ (e : Option ℕ). words_of (found_set r (number_in e))) (sym c.in-Some.is)
+    ∙ ap words_of (found (goal.at.returns-in-Some c).After-lowest_difference r h)
 
-pub returns-in-Nothing : goal.returns-in-Nothing
-returns-in-Nothing c = λ r h n.
-    c.no_constraint-in-Nothing.ensures
-    ∙ ap (λ (e : Search). words_of (found_set r (number_in e))) (sym c.in-Nothing.is)
-    ∙ ap words_of (found (goal.at.returns-in-Nothing c).After-lowest_difference r h)
+pub returns-in-None : goal.returns-in-None
+returns-in-None c = λ r h n.
+    c.no_constraint-in-None.ensures
+    ∙ ap (λ (e : Option ℕ). words_of (found_set r (number_in e))) (sym c.in-None.is)
+    ∙ ap words_of (found (goal.at.returns-in-None c).After-lowest_difference r h)

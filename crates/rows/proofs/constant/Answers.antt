@@ -4,7 +4,8 @@ use Rattle.std.proofs.lemmas.Iterator.Search.{all_from_yields_List}
 use mir.Syntax.{w64}
 use mir.Val.{SFits}
 use Rattle.calculus.specs.LinearForms.{is_zero}
-use Rattle.rows.proofs.Chains.{part_from, list_all_is}
+use Rattle.lists.proofs.Library.{list_all_is}
+use Rattle.rows.proofs.Chains.{part_from}
 use Rattle.rows.proofs.Tested.{zero_test}
 use Rattle.rows.proofs.constant.Goals as goal
 

@@ -3,7 +3,8 @@ use Rattle.std.proofs.lemmas.Iterator.{YieldsList-from_slice}
 use Rattle.std.proofs.lemmas.Iterator.Search.{all_from_yields_List}
 use Rattle.calculus.specs.Limits.{number_limit}
 use Rattle.format.specs.Fields.{within, all_within}
-use Rattle.rows.proofs.Chains.{part_from, list_all_is}
+use Rattle.lists.proofs.Library.{list_all_is}
+use Rattle.rows.proofs.Chains.{part_from}
 use Rattle.rows.proofs.form_within.Goals as goal
 
 pub returns : goal.returns

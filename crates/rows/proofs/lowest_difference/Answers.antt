@@ -1,5 +1,5 @@
 use Prim.Native.Nat.{◌+◌, ◌*◌, ◌<◌, ◌≤◌, ℕ}
-use Rattle.std.proofs.Common.{rules, tests, true, false, Some, None}
+use Rattle.std.proofs.Common.{rules, tests, true, false}
 use Rattle.std.proofs.lemmas.Iterator.{serves_from_Range, first_from_Range}
 use lib.IntN.{pos, ℤ}
 use lib.ListN.{length}
@@ -11,7 +11,8 @@ use Rattle.calculus.specs.LinearForms.{column, eq_integers, minus}
 use Rattle.calculus.specs.Rules.{states_difference}
 use Rattle.rows.specs.Rows.{fact_of, row_at}
 use Rattle.rows.proofs.Branches.{length_row}
-use Rattle.rows.proofs.Chains.{none_found, found_at}
+use Rattle.rows.proofs.Chains.{number_found}
+use Rattle.std.specs.Prelude.{MatchOption}
 use Rattle.rows.proofs.Forms.{columns_difference}
 use Rattle.rows.proofs.Tested.{equation_row, states_by_row}
 use Rattle.rows.proofs.lowest_difference.Goals as goal
@@ -58,19 +59,11 @@ find-requires-clause-callable c =
     let n = length_row w x in_work in
     search rules)
 
-pub returns-in-Some : goal.returns-in-Some
-returns-in-Some c =
-    let w = c.args.work.now in
-    let here = (goal.at.returns-in-Some c).After-fill_difference-2 in
-    let m : (0 ≤ c.in-Some.k) × (c.in-Some.k < c.args.count) × (found here c.in-Some.k ≡ true) × ((k : ℕ) → 0 ≤ k → k < c.in-Some.k → found here k ≡ false) =
-    first_from_Range _ _ _ (Some c.in-Some.k) (λ k. found here k ≡ true) (λ k. found here k ≡ false) c.in-Some.ensures.ran (λ x q k. search (rules, tests)) (λ x q k. search (rules, tests)) in
-    sym (found_at (states_difference c.args.i c.args.j) w c.args.count c.in-Some.k m.1 (test here _ m.1 ∙ m.2)
-    (λ j l. test here j (omega (arith, m.1)) ∙ m.3 j (omega arith) l))
-
-pub returns-in-None : goal.returns-in-None
-returns-in-None c =
-    let w = c.args.work.now in
-    let here = (goal.at.returns-in-None c).After-fill_difference-2 in
-    let m : (k : ℕ) → 0 ≤ k → k < c.args.count → found here k ≡ false =
-    first_from_Range _ _ _ None (λ k. found here k ≡ true) (λ k. found here k ≡ false) c.in-None.ensures.ran (λ x q k. search (rules, tests)) (λ x q k. search (rules, tests)) in
-    sym (none_found (states_difference c.args.i c.args.j) w c.args.count (λ j l. test here j l ∙ m j (omega arith) l))
+pub returns : goal.returns
+returns c =
+    let here = (goal.at.returns c).After-fill_difference-2 in
+    let count = c.args.count in
+    let m : MatchOption c.find.result ((k : ℕ) → 0 ≤ k → k < count → found here k ≡ false)
+    (λ i. (0 ≤ i) × (i < count) × (found here i ≡ true) × ((k : ℕ) → 0 ≤ k → k < i → found here k ≡ false)) =
+    first_from_Range _ _ _ c.find.result (λ k. found here k ≡ true) (λ k. found here k ≡ false) c.find.ensures.ran (λ x q k. search (rules, tests)) (λ x q k. search (rules, tests)) in
+    number_found (states_difference c.args.i c.args.j) c.args.work.now (found here) count c.find.result (test here) m

@@ -1,13 +1,15 @@
-use mathlib.Core.Path.{◌∙◌, ap, sym}
+use mathlib.Core.Path.{◌≡◌, refl, ◌∙◌, ap}
+use Prim.Native.Nat.{ℕ}
+use Rattle.std.specs.Option.{is_some}
+use Rattle.std.specs.Prelude.{Option, Some, None}
 use Rattle.calculus.specs.Rules.{found, states_equal}
-use Rattle.rows.specs.declared.Search.{Search}
 use Rattle.rows.specs.Searches.{number_in}
 use Rattle.rows.proofs.states_equal.Goals as goal
 
-pub returns-in-At : goal.returns-in-At
-unfolding states_equal
-returns-in-At c = ap (λ (r : Search). found (number_in r)) (sym c.in-At.is) ∙ ap found c.lowest_difference.ensures
+some_found : (o : Option ℕ) → is_some o ≡ found (number_in o)
+some_found (Some k) = refl
+some_found None = refl
 
-pub returns-in-Nothing : goal.returns-in-Nothing
+pub returns : goal.returns
 unfolding states_equal
-returns-in-Nothing c = ap (λ (r : Search). found (number_in r)) (sym c.in-Nothing.is) ∙ ap found c.lowest_difference.ensures
+returns c = c.is_some.ensures ∙ some_found c.lowest_difference.result ∙ ap found c.lowest_difference.ensures
