@@ -1,6 +1,6 @@
 -- What judging finds, outcome by outcome.
 use Prim.Native.Nat.{ℕ, ◌≤◌}
-use mathlib.Core.Path.{◌≡◌, refl, sym, ap, ap₂, subst}
+use mathlib.Core.Path.{◌≡◌, refl, sym, ◌∙◌, ap, ap₂, subst}
 use mathlib.Core.Bool.{Bool, true, false}
 use mathlib.Core.Option.{Option, none, some}
 use mathlib.Core.List.{List}
@@ -17,7 +17,10 @@ use Rattle.format.specs.Judging.{Submission, Submitted, by_form, judge_answer, s
 use Rattle.format.proofs.Refusals.{refusal_up_to}
 use Rattle.format.proofs.Shown.{nothing_up_to}
 use Rattle.question.proofs.Posed.{said_stopped, said_headless, said_headed}
-use Rattle.judging.specs.declared.Judgement.TheVariants.{Refused}
+use Rattle.std.specs.Prelude.{Err}
+use Rattle.faults.specs.Numbers.{number}
+use Rattle.faults.specs.declared.Fault.TheVariants.{OutOfPlace, AnswerForm, AnswerRange}
+use Rattle.faults.specs.declared.Refusal.{Refusal}
 use Rattle.judging.specs.declared.Side.TheVariants as side
 use Rattle.judging.specs.declared.Finding.{Finding}
 use Rattle.judging.specs.Judgements.{Finds}
@@ -32,17 +35,21 @@ module _ (b v : List ℕ) (u : Question) (es : List Extended) where
       → Finds b v (judge_answer u es v) r
   by {r = r} e f h = subst (λ (g : Submission). Finds b v g r) (sym (ap₂ (by_form u es v) e f)) h
 
-  pub unformed : answer_form v u.p u.q 0 ≡ false
-      → Finds b v (judge_answer u es v) (record { said = Refused 15 0; shown = record { side = side.Answer; from = 0; to = length v } })
-  unformed e = by e refl (record { says = refl; shows = refl })
+  pub unformed : {f : Refusal}
+      → answer_form v u.p u.q 0 ≡ false
+      → (f.fault ≡ AnswerForm) × (f.record ≡ 0)
+      → Finds b v (judge_answer u es v) (record { said = Err f; shown = record { side = side.Answer; from = 0; to = length v } })
+  unformed e h = by e refl (record { says = ap₂ format.Refusal (ap number h.0) h.1; shows = refl })
 
-  pub out_of_range : {r at to : ℕ}
+  pub out_of_range : {f : Refusal} {r at to : ℕ}
       → answer_form v u.p u.q 0 ≡ true
       → outside v u u.p 0 0 ≡ some r
+      → (f.fault ≡ AnswerRange) × (f.record ≡ r)
       → at ≡ skip v r 0
       → to ≡ next v at
-      → Finds b v (judge_answer u es v) (record { said = Refused 16 r; shown = record { side = side.Answer; from = at; to = to } })
-  out_of_range e f here end = by e f (record { says = refl; shows = rw end (ap (record_shown of_answer v) here) })
+      → Finds b v (judge_answer u es v) (record { said = Err f; shown = record { side = side.Answer; from = at; to = to } })
+  out_of_range e o h here end =
+      by e o (record { says = ap₂ format.Refusal (ap number h.0) h.1; shows = rw end (ap (record_shown of_answer v) here) })
 
   pub judged : {r : Finding}
       → answer_form v u.p u.q 0 ≡ true
@@ -55,24 +62,28 @@ module _ (b v : List ℕ) (u : Question) (es : List Extended) where
 
 module _ (b v : List ℕ) where
   -- its refusals show nothing
-  refused : (c r : ℕ) → c ≤ 10 → Finds b v (format.Rejected c r) (record { said = Refused c r; shown = record { side = side.Question; from = 0; to = 0 } })
-  refused c r h = record { says = refl; shows = sym (nothing_up_to v c r h) }
+  refused : (f : Refusal) → number f.fault ≤ 10
+      → Finds b v (format.Rejected (number f.fault) f.record) (record { said = Err f; shown = record { side = side.Question; from = 0; to = 0 } })
+  refused f h = record { says = refl; shows = sym (nothing_up_to v (number f.fault) f.record h) }
 
   told : {g : Submission} {o : Finding} → submission b v ≡ g → Finds b v g o → Finds b v (submission b v) o
   told {o = o} e h = subst (λ (g : Submission). Finds b v g o) (sym e) h
 
-  pub stopped : {c r : ℕ}
-      → judged_question b ≡ Stopped c r
-      → Finds b v (submission b v) (record { said = Refused c r; shown = record { side = side.Question; from = 0; to = 0 } })
+  pub stopped : {f : Refusal}
+      → judged_question b ≡ Stopped (number f.fault) f.record
+      → Finds b v (submission b v) (record { said = Err f; shown = record { side = side.Question; from = 0; to = 0 } })
   unfolding submission
-  stopped {c} {r} e = told (said_stopped format.Rejected (λ u es. judge_answer u es v) b e) (refused c r (refusal_up_to judging_manner b e))
+  stopped {f} e = told (said_stopped format.Rejected (λ u es. judge_answer u es v) b e) (refused f (refusal_up_to judging_manner b e))
 
-  pub headless : {s : Progress} {at r : ℕ}
+  pub headless : {f : Refusal} {s : Progress} {at r : ℕ}
       → judged_question b ≡ Ended s at r
       → s.last ≡ 0
-      → Finds b v (submission b v) (record { said = Refused 4 r; shown = record { side = side.Question; from = 0; to = 0 } })
+      → (f.fault ≡ OutOfPlace) × (f.record ≡ r)
+      → Finds b v (submission b v) (record { said = Err f; shown = record { side = side.Question; from = 0; to = 0 } })
   unfolding submission
-  headless {r = r} e f = told (said_headless format.Rejected (λ u es. judge_answer u es v) b e f) (refused 4 r (omega arith))
+  headless {f} e g h =
+      told (said_headless format.Rejected (λ u es. judge_answer u es v) b e g ∙ ap₂ format.Rejected (ap number (sym h.0)) (sym h.1))
+      (refused f (rw h.0 (omega arith)))
 
   pub headed : {s : Progress} {at r : ℕ} {o : Finding}
       → judged_question b ≡ Ended s at r

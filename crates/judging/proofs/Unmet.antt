@@ -21,7 +21,8 @@ use Rattle.question.specs.declared.Progress.{Progress}
 use Rattle.question.specs.Progress.{numbers_of}
 use Rattle.question.specs.Posed.{asked, extended_asked, Posed}
 use Rattle.question.proofs.Posed.{literal_count}
-use Rattle.judging.specs.declared.Judgement.TheVariants.{AllMet, Unmet}
+use Rattle.std.specs.Prelude.{Ok}
+use Rattle.judging.specs.declared.Verdict.TheVariants.{AllMet, Unmet}
 use Rattle.judging.specs.declared.Side.TheVariants as side
 use Rattle.judging.specs.Judgements.{Finds}
 
@@ -78,7 +79,7 @@ module _ (b v : List ℕ) (s : Progress) (a : Assignment) where
           ∙ ap some (length_constraints b k from))
 
       pub finds_unmet : {to : ℕ} → to ≡ next b at
-          → Finds b v (Submitted u es a) (record { said = Unmet k; shown = record { side = side.Question; from = at; to = to } })
+          → Finds b v (Submitted u es a) (record { said = Ok (Unmet k); shown = record { side = side.Question; from = at; to = to } })
       finds_unmet {to} end =
           let first : some k ≡ first_unmet u es a = sym first_here in
           let place : at ≡ skip b k (constraints_from b (length u.literals)) =
@@ -86,7 +87,7 @@ module _ (b v : List ℕ) (s : Progress) (a : Assignment) where
           record { says = ap said_of first; shows = rw end (ap (record_shown of_question b) place) ∙ ap (unmet_shown b u) first }
 
     pub finds_all_met : (k : ℕ) → MetTo k → k ≡ count
-        → Finds b v (Submitted u es a) (record { said = AllMet; shown = record { side = side.Question; from = 0; to = 0 } })
+        → Finds b v (Submitted u es a) (record { said = Ok AllMet; shown = record { side = side.Question; from = 0; to = 0 } })
     finds_all_met k before e =
         let first : none ≡ first_unmet u es a = sym before ∙ ap (λ (m : ℕ). lowest test (constraints_at b m from)) e ∙ ap (lowest test) (sym in_line) in
         record { says = ap said_of first; shows = ap (unmet_shown b u) first }

@@ -1,18 +1,20 @@
 -- What judging says and shows, as the code has it.
-use Rattle.std.specs.Prelude.{◌≡◌, List, ℕ}
+use Rattle.std.specs.Prelude.{◌≡◌, List, ℕ, Result, Ok, Err}
 use Rattle.format.specs.Judging as format
 use Rattle.format.specs.Judging.{of_question, of_answer, said, shown_by}
-use Rattle.judging.specs.declared.Judgement.{Judgement}
-use Rattle.judging.specs.declared.Judgement.TheVariants.{Refused, AllMet, Unmet}
+use Rattle.faults.specs.Numbers.{number}
+use Rattle.faults.specs.declared.Refusal.{Refusal}
+use Rattle.judging.specs.declared.Verdict.{Verdict}
+use Rattle.judging.specs.declared.Verdict.TheVariants.{AllMet, Unmet}
 use Rattle.judging.specs.declared.Side.{Side}
 use Rattle.judging.specs.declared.Side.TheVariants.{Question, Answer}
 use Rattle.judging.specs.declared.Shown.{Shown}
 use Rattle.judging.specs.declared.Finding.{Finding}
 
-abbrev pub judgement_of : Judgement → format.Judgement
-judgement_of (Refused c r) = format.Refusal c r
-judgement_of AllMet = format.AllMet
-judgement_of (Unmet k) = format.Unmet k
+abbrev pub judgement_of : Result Verdict Refusal → format.Judgement
+judgement_of (Err r) = format.Refusal (number r.fault) r.record
+judgement_of (Ok AllMet) = format.AllMet
+judgement_of (Ok (Unmet k)) = format.Unmet k
 
 abbrev pub side_of : Side → format.Side
 side_of Question = of_question

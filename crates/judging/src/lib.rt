@@ -26,9 +26,10 @@ use encoding::{
     KIND_STRING, RECORD_HEAD, SAME,
 };
 use extended::{cased, precedes, reads_as, written_as};
+use faults::{Fault, Refusal};
 use limits::COLUMN_LIMIT;
 use question::{
-    HEAD_RANK, JUDGING, Progress, Reading, behind_literals, literal_text, read_question, same_text,
+    HEAD_RANK, JUDGING, Progress, behind_literals, literal_text, read_question, same_text,
 };
 use records::{fields_at, i32_at, record_places, u16_at, u32_at};
 use rows::relation_holds;
@@ -145,36 +146,34 @@ fn constraint_met(
 
 // ---- what is said and shown
 
-#[derive(Drop)]
-pub enum Judgement {
-    // The number of a refusal and its record.
-    Refused(usize, usize),
+#[derive(Clone, Copy, Debug, PartialEq, Eq)]
+pub enum Verdict {
     AllMet,
     // The number of the first constraint that is not met.
     Unmet(usize),
 }
 
-#[derive(Clone, Copy)]
+#[derive(Clone, Copy, Debug, PartialEq, Eq)]
 pub enum Side {
     Question,
     Answer,
 }
 
 // The part of the question or of the answer from a position up to another.
-#[derive(Clone, Copy)]
+#[derive(Clone, Copy, Debug, PartialEq, Eq)]
 pub struct Shown {
     pub side: Side,
     pub from: usize,
     pub to: usize,
 }
 
-#[derive(Drop)]
+#[derive(Clone, Copy, Debug, PartialEq, Eq)]
 pub struct Finding {
-    pub said: Judgement,
+    pub said: Result<Verdict, Refusal>,
     pub shown: Shown,
 }
 
-fn found(said: Judgement, side: Side, from: usize, to: usize) -> Finding
+fn found(said: Result<Verdict, Refusal>, side: Side, from: usize, to: usize) -> Finding
     ensures { result ≡ record { said = said; shown = record { side = side; from = from; to = to } } }
 {
     Finding {
@@ -234,11 +233,11 @@ fn first_unmet(b: &[u8], v: &[u8], s: Progress, places: &[usize], values: &[i64]
     let mut at = behind_literals(b, s.literals);
     for k in 0..count {
         if !constraint_met(b, v, s, places, values, at) {
-            return found(Judgement::Unmet(k), Side::Question, at, record_end(b, at));
+            return found(Ok(Verdict::Unmet(k)), Side::Question, at, record_end(b, at));
         }
         at = record_end(b, at);
     }
-    found(Judgement::AllMet, Side::Question, 0, 0)
+    found(Ok(Verdict::AllMet), Side::Question, 0, 0)
 }
 
 // An answer of its form and in its ranges: its strings' places and its columns' values are found once.
@@ -259,11 +258,11 @@ fn judge_behind(b: &[u8], v: &[u8], s: Progress) -> Finding
     ensures { Finds b.now v.now (judge_answer (asked b.now s) (extended_asked b.now s) v.now) result }
 {
     if !answer_formed(v, s.p, s.q) {
-        return found(Judgement::Refused(15, 0), Side::Answer, 0, v.len());
+        return found(Err(Fault::AnswerForm.at(0)), Side::Answer, 0, v.len());
     }
     match first_outside(v, s.n, s.p, s.q) {
         Some(outside) => found(
-            Judgement::Refused(16, outside.number),
+            Err(Fault::AnswerRange.at(outside.number)),
             Side::Answer,
             outside.at,
             record_end(v, outside.at),
@@ -277,13 +276,10 @@ pub fn judge_answer(question: &[u8], answer: &[u8]) -> Finding
     ensures { Finds question.now answer.now (submission question.now answer.now) result }
 {
     match read_question(JUDGING, question) {
-        Reading::Stopped(c, r) => found(Judgement::Refused(c, r), Side::Question, 0, 0),
-        Reading::Ended(s, _, r) => {
-            if s.last < HEAD_RANK {
-                found(Judgement::Refused(4, r), Side::Question, 0, 0)
-            } else {
-                judge_behind(question, answer, s)
-            }
+        Err(refusal) => found(Err(refusal), Side::Question, 0, 0),
+        Ok(read) if read.numbers.last < HEAD_RANK => {
+            found(Err(Fault::OutOfPlace.at(read.record)), Side::Question, 0, 0)
         }
+        Ok(read) => judge_behind(question, answer, read.numbers),
     }
 }

@@ -10,21 +10,21 @@ ghost use Rattle.calculus.specs.NormalForms.{alike, occurrences, agrees_by, eq_h
 ghost use Rattle.format.specs.Fields.{u16};
 ghost use Rattle.format.specs.Question.{extended_of};
 ghost use Rattle.format.specs.Places.{skip, texts, literals_from, extended_from};
-ghost use Rattle.format.specs.Sameness as format;
 ghost use Rattle.format.specs.Sameness.{agreement, sameness};
 ghost use Rattle.question.specs.declared.Progress.{Progress};
 ghost use Rattle.question.specs.Posed.{asked, extended_asked, Posed};
 ghost use Rattle.rows.specs.Rows.{row_length, fact_of};
-ghost use Rattle.sameness.specs.Asked.{sameness_of, AskedAs, Said};
+ghost use Rattle.sameness.specs.Asked.{sameness_of, AskedAs};
 ghost use Rattle.sameness.specs.Ready.{literal_named, LiteralIn, Ready, facts_in, extended_in};
 
 use constraints::load;
 use encoding::RECORD_HEAD;
+use faults::{Fault, Refusal};
 use limits::WORK_NUMBERS;
 use normal::normalise;
 use question::{
-    HEAD_RANK, JUDGING, Progress, Reading, behind_literals, behind_records, literal_text,
-    read_question, same_text,
+    HEAD_RANK, JUDGING, Progress, behind_literals, behind_records, literal_text, read_question,
+    same_text,
 };
 use records::{u16_at, u32_at};
 use rows::{
@@ -196,67 +196,42 @@ fn same_asked(b: &[u8], s: Progress, c: &[u8], t: Progress) -> bool
 
 // ---- the operation
 
-#[derive(Drop)]
+// One of the two questions.
+#[derive(Clone, Copy, Debug, PartialEq, Eq)]
 pub enum Which {
     First,
     Second,
 }
 
-#[derive(Drop)]
-pub enum Sameness {
-    // Which of the two is refused, the number and the record.
-    Refused(Which, usize, usize),
-    Same,
-    Different,
+// A refusal and the question that it concerns.
+#[derive(Clone, Copy, Debug, PartialEq, Eq)]
+pub struct Refused {
+    pub which: Which,
+    pub refusal: Refusal,
 }
 
-// A question that was read "by judging's rules": refused, or by its numbers.
-#[derive(Drop)]
-enum Asked {
-    Refused(usize, usize),
-    Read(Progress),
-}
-
-// Reads a question by judging's rules; one without a head gives 4.
-fn read_asked(b: &[u8]) -> Asked
+// Reads a question "by judging's rules"; one without a head gives 4.
+fn read_asked(b: &[u8]) -> Result<Progress, Refusal>
     ensures { AskedAs b.now result }
 {
-    match read_question(JUDGING, b) {
-        Reading::Stopped(c, r) => Asked::Refused(c, r),
-        Reading::Ended(s, _, r) => {
-            if s.last < HEAD_RANK {
-                Asked::Refused(4, r)
-            } else {
-                Asked::Read(s)
-            }
-        }
+    let read = read_question(JUDGING, b)?;
+    if read.numbers.last < HEAD_RANK {
+        return Err(Fault::OutOfPlace.at(read.record));
     }
-}
-
-// The second question, compared with the first, which was read.
-fn same_as(b: &[u8], s: Progress, c: &[u8]) -> Sameness
-    requires { Posed b.now s }
-    ensures { Said c.now (format.SameRefused format.second)
-        (λ v ds. format.found_by (same_by agreement (asked b.now s) (extended_asked b.now s) v ds)) (sameness_of result) }
-{
-    match read_asked(c) {
-        Asked::Refused(n, r) => Sameness::Refused(Which::Second, n, r),
-        Asked::Read(t) => {
-            if same_asked(b, s, c, t) {
-                Sameness::Same
-            } else {
-                Sameness::Different
-            }
-        }
-    }
+    Ok(read.numbers)
 }
 
 // Says whether two questions are the same. "The first question's refusal .. comes before the second's, and a refusal says which of the two it concerns".
-pub fn same_questions(first: &[u8], second: &[u8]) -> Sameness
+pub fn same_questions(first: &[u8], second: &[u8]) -> Result<bool, Refused>
     ensures { sameness_of result ≡ sameness first.now second.now }
 {
-    match read_asked(first) {
-        Asked::Refused(n, r) => Sameness::Refused(Which::First, n, r),
-        Asked::Read(s) => same_as(first, s, second),
-    }
+    let s = read_asked(first).map_err(|refusal| Refused {
+        which: Which::First,
+        refusal,
+    })?;
+    let t = read_asked(second).map_err(|refusal| Refused {
+        which: Which::Second,
+        refusal,
+    })?;
+    Ok(same_asked(first, s, second, t))
 }

@@ -10,28 +10,17 @@ use Rattle.judging.proofs.judge_answer.Goals as goal
 pub judge_behind-requires : goal.judge_behind-requires
 unfolding reading_of
 judge_behind-requires c =
-    let s = c.args in
-    question_posed judging_manner refl s.question.now c.in-Ended.s _ _
-    (sym c.in-Ended.ensures) (omega arith)
+    question_posed judging_manner refl c.args.question.now c.in-Ok.read.numbers _ _ (sym c.in-Ok.ensures) (omega arith)
 
-pub returns-in-Stopped : goal.returns-in-Stopped
+pub returns-in-Err : goal.returns-in-Err
 unfolding reading_of
-returns-in-Stopped c =
-    let s = c.args in
-    rw c.found.ensures (stopped s.question.now s.answer.now
-    (sym c.in-Stopped.ensures))
+returns-in-Err c = rw c.found.ensures (stopped c.args.question.now c.args.answer.now (sym c.in-Err.ensures))
 
-pub returns-then-s-lt-HEAD_RANK : goal.returns-then-s-lt-HEAD_RANK
+pub returns-in-Ok : goal.returns-in-Ok
 unfolding reading_of
-returns-then-s-lt-HEAD_RANK c =
-    let s = c.args in
-    rw c.found-then-s-lt-HEAD_RANK.ensures (headless s.question.now s.answer.now
-    (sym c.in-Ended.ensures)
-    (omega arith))
+returns-in-Ok c =
+    rw c.found-in-Ok.ensures (headless c.args.question.now c.args.answer.now (sym c.in-Ok.ensures) (omega arith) c.at.ensures)
 
-pub returns-else-s-lt-HEAD_RANK : goal.returns-else-s-lt-HEAD_RANK
+pub returns-in-Ok-2 : goal.returns-in-Ok-2
 unfolding reading_of asked extended_asked
-returns-else-s-lt-HEAD_RANK c =
-    let s = c.args in
-    headed s.question.now s.answer.now
-    (sym c.in-Ended.ensures) (omega arith) c.judge_behind.ensures
+returns-in-Ok-2 c = headed c.args.question.now c.args.answer.now (sym c.in-Ok.ensures) (omega arith) c.judge_behind.ensures

@@ -24,7 +24,7 @@ unfolding asked
 returns-then-not-answer_formed c =
     let s = c.args in
     rw c.found.ensures (unformed s.b.now s.v.now (asked s.b.now s.s) (extended_asked s.b.now s.s)
-    (sym c.if-not-answer_formed.ensures))
+    (sym c.if-not-answer_formed.ensures) c.at.ensures)
 
 -- an answer of its form
 formed : (c : Else-not-answer_formed) →
@@ -56,7 +56,7 @@ module _ (c : In-Some) where
       (omega (arith, outside_place v _ c.args.s.p 0 0 r located.0)))
 
 pub record_end-requires : goal.record_end-requires
-record_end-requires c = whole c
+record_end-requires c = whole (goal.at.record_end-requires c).In-Some
 
 pub returns-in-Some : goal.returns-in-Some
 unfolding asked
@@ -65,7 +65,7 @@ returns-in-Some c =
     let u = asked s.b.now s.s in
     rw c.found-in-Some.ensures (out_of_range s.b.now s.v.now u (extended_asked s.b.now s.s) (formed (goal.at.returns-in-Some c).Else-not-answer_formed)
     (outside_same s.v.now u (blank u.n u.p u.q) u.p 0 0 refl refl ∙ (located (goal.at.returns-in-Some c).In-Some).0)
-    (located (goal.at.returns-in-Some c).In-Some).1
+    c.at-in-Some.ensures (located (goal.at.returns-in-Some c).In-Some).1
     c.record_end.ensures)
 
 nowhere : (c : In-None) →

@@ -6,7 +6,9 @@ use Rattle.question.specs.Posed.{asked, extended_asked}
 use Rattle.sameness.proofs.Occurrences.{normal_facts}
 use Rattle.sameness.proofs.Outcomes.{compared, ready_agree}
 use Rattle.sameness.proofs.same_asked.Goals as goal
-use Rattle.sameness.proofs.same_asked.Goals.{After-rows_agree, then-not-same_heads-via-then-not-same_heads, then-not-same_heads-via-else-not-same_heads+then-not-records_agree, then-not-same_heads-via-else-not-same_heads+else-not-records_agree+then-not-records_agree-2}
+use Rattle.sameness.proofs.same_asked.Goals.{After-rows_agree, then-not-same_heads-via-then-not-same_heads}
+use Rattle.sameness.proofs.same_asked.Goals.{then-not-same_heads-via-else-not-same_heads+then-not-records_agree}
+use Rattle.sameness.proofs.same_asked.Goals.{then-not-same_heads-via-else-not-same_heads+else-not-records_agree+then-not-records_agree-2}
 
 pub returns-then-not-same_heads : goal.returns-then-not-same_heads
 returns-then-not-same_heads c =
