@@ -16,6 +16,9 @@ use Rattle.format.specs.ProperForm.{by_shape, steps_at}
 use Rattle.format.specs.Needs.{complete, states_met, facts_in, pending_in, Report, report, NeedRefused, Needs, need_by}
 use Rattle.format.proofs.Faults.{none_applies}
 use Rattle.format.proofs.StepTurns.{nonzero}
+use Rattle.faults.specs.Numbers.{number}
+use Rattle.faults.specs.declared.Fault.{Fault}
+use Rattle.question.proofs.Refusals.{numbered}
 use Rattle.delimiters.specs.Numbers.{end_fault}
 use Rattle.delimiters.proofs.Ends.{closed_refused, closed_done}
 use Rattle.delimiters.proofs.AtModel.{unsettled, unended, ended}
@@ -53,8 +56,8 @@ module _ (b : List ℕ) (u : Question) (st : State ℕ ℕ) (m : Report) (r at :
 -- ---- after the last closed branch
 
 module _ (b : List ℕ) (u : Question) (m : Report) (r at : ℕ) where
-  pub end_refused : (c : ℕ) → c ≡ end_fault b at → (c ≡ 0 → ⊥) → need_from b u (proving closed) m r at ≡ NeedRefused c r
-  end_refused c e n = from_refused b u (proving closed) m r at (nonzero (closed_refused (by_shape u) b u r at) c e n)
+  pub end_refused : (x : Fault) → number x ≡ end_fault b at → need_from b u (proving closed) m r at ≡ NeedRefused (number x) r
+  end_refused x e = from_refused b u (proving closed) m r at (nonzero (closed_refused (by_shape u) b u r at) (number x) e (numbered x))
 
   pub end_met : end_fault b at ≡ 0 → need_from b u (proving closed) m r at ≡ Needs m
   unfolding end_fault
@@ -67,12 +70,12 @@ module _ (b : List ℕ) (u : Question) (m : Report) (r at : ℕ) where
 -- ---- at the model, with a body of n bytes
 
 module _ (b : List ℕ) (u : Question) (facts : ℕ) (m : Report) (r at n : ℕ) (en : n ≡ size b at) (k : kind b at ≡ 7) (h : next b at ≤ length b) where
-  pub model_faulty : (f : ℕ) → f ≡ model_fault b u 0 (at + 6) n → (f ≡ 0 → ⊥) → need_from b u (taking facts) m r at ≡ NeedRefused f r
-  model_faulty f e x = from_refused b u (taking facts) m r at (unsettled (by_shape u) b u facts r at n en k h f e x)
+  pub model_faulty : (x : Fault) → number x ≡ model_fault b u 0 (at + 6) n → need_from b u (taking facts) m r at ≡ NeedRefused (number x) r
+  model_faulty x e = from_refused b u (taking facts) m r at (unsettled (by_shape u) b u facts r at n en k h (number x) e (numbered x))
 
   module _ (e : model_fault b u 0 (at + 6) n ≡ 0) where
-    pub model_unended : (c : ℕ) → c ≡ end_fault b (at + 6 + n) → (c ≡ 0 → ⊥) → need_from b u (taking facts) m r at ≡ NeedRefused c (r + 1)
-    model_unended c f x = from_refused b u (taking facts) m r at (unended (by_shape u) b u facts r at n en k h e c f x)
+    pub model_unended : (x : Fault) → number x ≡ end_fault b (at + 6 + n) → need_from b u (taking facts) m r at ≡ NeedRefused (number x) (r + 1)
+    model_unended x f = from_refused b u (taking facts) m r at (unended (by_shape u) b u facts r at n en k h e (number x) f (numbered x))
 
     pub model_met : end_fault b (at + 6 + n) ≡ 0 → facts ≤ m.facts → need_from b u (taking facts) m r at ≡ Needs m
     model_met f l =

@@ -1,6 +1,7 @@
 pub mod Stacks
 pub mod Taking
 pub mod Low
+pub mod Refusals
 pub mod Reports
 pub mod Walking
 pub mod Ends

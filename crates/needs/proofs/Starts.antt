@@ -15,6 +15,9 @@ use Rattle.format.specs.ProperForm.{by_shape, steps_at, steps_behind, claim_behi
 use Rattle.format.specs.Needs.{Report, report, complete, Need, NeedRefused, Needs, need_by, needed}
 use Rattle.format.proofs.Behind.{done→}
 use Rattle.format.proofs.StepTurns.{nonzero, claim_faulty}
+use Rattle.faults.specs.Numbers.{number}
+use Rattle.faults.specs.declared.Fault.{Fault}
+use Rattle.question.proofs.Refusals.{numbered}
 use Rattle.question.specs.declared.Progress.{Progress}
 use Rattle.question.specs.Progress.{progress_of}
 use Rattle.question.specs.Posed.{asked}
@@ -53,8 +56,8 @@ module _ (b : List ℕ) (s : Progress) (at r : ℕ) where
   abbrev reported : Question → Report
   reported v = report (λ k. k) (by_shape v) (begin (by_shape v) (claim_at b at)) (steps_at b (records b (next b at)))
 
-  pub claim_refused : (c : ℕ) → c ≡ claim_fault b (progress_of b s) at → (c ≡ 0 → ⊥) → need_claimed b s at r ≡ NeedRefused c r
-  claim_refused c e n = ap (need_by reported) (nonzero (claim_faulty by_shape b (progress_of b s) at r) c e n)
+  pub claim_refused : (x : Fault) → number x ≡ claim_fault b (progress_of b s) at → need_claimed b s at r ≡ NeedRefused (number x) r
+  claim_refused x e = ap (need_by reported) (nonzero (claim_faulty by_shape b (progress_of b s) at r) (number x) e (numbered x))
 
   pub claim_started : claim_fault b (progress_of b s) at ≡ 0
       → (claim : Claim)

@@ -6,7 +6,7 @@ use native.Mathlib.Numerals.{add-one}
 use mathlib.Core.Path.{◌≡◌, refl, sym, ◌∙◌, ap, ap₂, subst}
 use mathlib.Core.Bool.{true, false}
 use mathlib.Core.List.{List, []}
-use Rattle.std.specs.Prelude.{Option, Some, None}
+use Rattle.std.specs.Prelude.{Option, Some, None, Ok, Err}
 use lib.ListN.{length}
 use borrow.Author.Tests.{eqb-true}
 use Rattle.calculus.specs.Limits.{ticket_bytes}
@@ -29,7 +29,12 @@ use Rattle.delimiters.specs.Claims.{open_under, ends_at}
 use Rattle.delimiters.proofs.Open.{open_number}
 use Rattle.steps.proofs.Table.{least_four}
 use Rattle.steps.proofs.Numbers.{tried_by}
-use Rattle.needs.specs.declared.Walked as walked
+use Rattle.faults.specs.Numbers.{number}
+use Rattle.faults.specs.declared.Fault.{Fault}
+use Rattle.faults.specs.declared.Fault.TheVariants.{CutShort}
+use Rattle.faults.specs.declared.Refusal.{Refusal}
+use Rattle.question.proofs.Refusals.{numbered}
+use Rattle.needs.specs.declared.Walked.TheVariants.{Closed, Model}
 use Rattle.needs.specs.declared.Report as code
 use Rattle.needs.specs.Pending.{deepest}
 use Rattle.needs.specs.Steps.{Fit, state_of, Enters}
@@ -110,21 +115,22 @@ module _ (b : List ℕ) (s : Progress) where
 
     -- ---- a record that ends the steps
 
-    pub going_none : length b < next b i → WalksTo b s n (walked.TheVariants.Refused 3 k)
+    pub going_none : length b < next b i → (q : Refusal) → (q.fault ≡ CutShort) × (q.record ≡ k) → WalksTo b s n (Err q)
     unfolding WalksTo
-    going_none h = sym (from_none b (asked b s) (open_under claim f ss) (report_is r) k i h) ∙ g.rest
+    going_none h q (ef, er) = rw (ef, er) (sym (from_none b (asked b s) (open_under claim f ss) (report_is r) k i h) ∙ g.rest)
 
     pub going_refused : next b i ≤ length b
-        → (c : ℕ)
-        → c ≡ open_number (by_shape (asked b s)) b (asked b s) (open_under claim f ss) i
-        → (c ≡ 0 → ⊥)
-        → WalksTo b s n (walked.TheVariants.Refused c k)
+        → (x : Fault)
+        → number x ≡ open_number (by_shape (asked b s)) b (asked b s) (open_under claim f ss) i
+        → (q : Refusal)
+        → (q.fault ≡ x) × (q.record ≡ k)
+        → WalksTo b s n (Err q)
     unfolding WalksTo
-    going_refused h c q z =
-        sym (from_open b (asked b s) (open_under claim f ss) (report_is r) k i (still_open claim f ss) h c q z) ∙ g.rest
+    going_refused h x e q (ef, er) =
+        rw (ef, er) (sym (from_open b (asked b s) (open_under claim f ss) (report_is r) k i (still_open claim f ss) h (number x) e (numbered x)) ∙ g.rest)
 
     pub going_model : (at₀ r₀ j : ℕ) → Within b s at₀ r₀ → at₀ ≤ i → ends_at claim j ≡ true → j ≡ kind b i → next b i ≤ length b
-        → WalksTo b s n (walked.TheVariants.Model i k m)
+        → WalksTo b s n (Ok (Model i k m))
     unfolding WalksTo
     going_model at₀ r₀ j h below q e w = record {
       here = record {
@@ -165,7 +171,7 @@ module _ (b : List ℕ) (s : Progress) where
           next_state = stepped (by_shape (asked b s)) (open_under claim f ss) (step_with_child b i)
 
       pub going_closed : (ss' : List (Waiting ℕ ℕ)) (x : Option ℕ) → Enters claim b s i f ss ss' x → x ≡ None
-          → WalksTo b s n (walked.TheVariants.Closed (i + 6 + z) (k + 1) m')
+          → WalksTo b s n (Ok (Closed (i + 6 + z) (k + 1) m'))
       unfolding WalksTo
       going_closed ss' x h q =
           ap (λ (st : State ℕ ℕ). need_from b (asked b s) st (report_is m') (k + 1) (i + 6 + z)) (ap (state_of claim ss') (sym q) ∙ h.state) ∙ onward

@@ -1,5 +1,5 @@
 -- What a ticket will need, as the code tells it.
-use Rattle.std.specs.Prelude.{ℕ, ◌+◌, ◌≤◌, max, ◌≡◌, List, [], length}
+use Rattle.std.specs.Prelude.{ℕ, ◌+◌, ◌≤◌, max, ◌≡◌, List, [], length, Result, Ok, Err}
 use Rattle.calculus.specs.Limits.{ticket_bytes, variable_limit}
 use Rattle.calculus.specs.Facts.{Question}
 use Rattle.calculus.specs.Walk.{closed}
@@ -14,17 +14,18 @@ use Rattle.question.specs.Posed.{asked}
 use Rattle.delimiters.specs.declared.Claim.{Claim}
 use Rattle.delimiters.specs.Claims.{open_under}
 use Rattle.needs.specs.declared.Report.{Report}
-use Rattle.needs.specs.declared.Need.{Need}
-use Rattle.needs.specs.declared.Need.TheVariants.{Refused, Needs}
-use Rattle.needs.specs.declared.Walked as walked
+use Rattle.faults.specs.Numbers.{number}
+use Rattle.faults.specs.declared.Refusal.{Refusal}
 use Rattle.needs.specs.declared.Walked.{Walked}
+use Rattle.needs.specs.declared.Walked.TheVariants.{Closed, Model}
 
 abbrev pub report_is : Report → format.Report
 report_is r = record { steps = r.steps; facts = r.facts; pending = r.pending }
 
-abbrev pub need_of : Need → format.Need
-need_of (Refused c r) = format.NeedRefused c r
-need_of (Needs r) = format.Needs (report_is r)
+-- a refusal by its number
+abbrev pub need_of : Result Report Refusal → format.Need
+need_of (Err f) = format.NeedRefused (number f.fault) f.record
+need_of (Ok r) = format.Needs (report_is r)
 
 -- ---- a walk on its way
 
@@ -73,10 +74,10 @@ pub record AtModel (b : List ℕ) (s : Progress) (n : format.Need) (at r : ℕ) 
   pub rest : need_from b (asked b s) (taking facts) m r at ≡ n
 
 -- n is what the ticket needs, by where the walk came to
-unfoldable pub WalksTo : List ℕ → Progress → format.Need → Walked → Type 0
-WalksTo b s n (walked.TheVariants.Refused c r) = format.NeedRefused c r ≡ n
-WalksTo b s n (walked.TheVariants.Closed at r m) = need_from b (asked b s) (proving closed) (report_is m) r at ≡ n
-WalksTo b s n (walked.TheVariants.Model at r m) = AtModel b s n at r (report_is m)
+unfoldable pub WalksTo : List ℕ → Progress → format.Need → Result Walked Refusal → Type 0
+WalksTo b s n (Err f) = format.NeedRefused (number f.fault) f.record ≡ n
+WalksTo b s n (Ok (Closed at r m)) = need_from b (asked b s) (proving closed) (report_is m) r at ≡ n
+WalksTo b s n (Ok (Model at r m)) = AtModel b s n at r (report_is m)
 
 -- ---- the whole ticket
 

@@ -11,17 +11,18 @@ ghost use Rattle.calculus.specs.Walk as calculus;
 ghost use Rattle.format.specs.Needs.{needed};
 ghost use Rattle.format.specs.Reading.{proving, taking};
 ghost use Rattle.format.specs.StepForms.{form_for, fits_form, is_child};
-ghost use Rattle.question.specs.Posed.{asked, ReadTo};
+ghost use Rattle.question.specs.Posed.{asked};
 ghost use Rattle.steps.specs.Rules.{rule_named, shape_of};
 ghost use Rattle.question.specs.declared.Progress.{Progress};
 ghost use Rattle.needs.specs.Pending.{waiting, deepest, walk_of};
 ghost use Rattle.needs.specs.Steps.{Fit, Enters};
-ghost use Rattle.needs.specs.Outcomes.{report_is, with_step, with_state, need_of, need_from, Within, WalksTo, need_started, ModelHere, need_claimed};
+ghost use Rattle.needs.specs.Outcomes.{report_is, with_step, with_state, need_of, need_from, Within, WalksTo, need_started, ModelHere};
 
-use delimiters::{Claim, claim_fault, claim_of, end_fault, ends_steps, model_fault};
+use delimiters::{Claim, end_fault, ends_steps, model_fault, read_claim};
 use encoding::RECORD_HEAD;
+use faults::{Fault, Refusal};
 use limits::TICKET_BYTES;
-use question::{NEEDING, Progress, Reading, read_question};
+use question::{NEEDING, Progress, read_question};
 use records::{Found, read_at, u16_at, u32_at};
 use std::marker::Model;
 use steps::{CHILD_FIELD, Rule, child_count, child_facts, record_fault, rule_of};
@@ -177,7 +178,7 @@ fn take_step(
 
 // ---- the report
 
-#[derive(Drop)]
+#[derive(Clone, Copy, Debug, PartialEq, Eq)]
 pub struct Report {
     pub steps: usize,
     // The most on any branch.
@@ -212,19 +213,27 @@ impl Report {
 
 // ---- all steps
 
-// Refused: the number and the record. Closed: every branch is closed; the position and the number of the record after. Model: the position and the number of
-// the model's record. With both the report so far.
-#[derive(Drop)]
+// Where a walk ends: the record at a position, by its number, and the report so far.
+#[derive(Clone, Copy)]
 enum Walked {
-    Refused(usize, usize),
-    Closed(usize, usize, Report),
-    Model(usize, usize, Report),
+    // Every branch is closed. The record is the one after the last step.
+    Closed {
+        at: usize,
+        record: usize,
+        report: Report,
+    },
+    // The record is the model.
+    Model {
+        at: usize,
+        record: usize,
+        report: Report,
+    },
 }
 
 // The records from the one after the claim, record r at a position, on the question's constraints: until every branch is closed, or up to the model.
-fn walk(ticket: &[u8], s: Progress, claim: Claim, at: usize, r: usize) -> Walked
-    requires { Within ticket.now s at r }
-    ensures { WalksTo ticket.now s (need_started claim ticket.now s r at) result }
+fn walk(ticket: &[u8], s: Progress, claim: Claim, from: usize, r: usize) -> Result<Walked, Refusal>
+    requires { Within ticket.now s from r }
+    ensures { WalksTo ticket.now s (need_started claim ticket.now s r from) result }
 {
     let mut pending = PendingSplits::new();
     let mut report = Report {
@@ -233,100 +242,65 @@ fn walk(ticket: &[u8], s: Progress, claim: Claim, at: usize, r: usize) -> Walked
         pending: 0,
     };
     let mut facts = s.constraints;
-    let mut i = at;
-    let mut k = r;
+    let mut at = from;
+    let mut record = r;
     loop {
         report = report.with_state(facts, pending.len());
-        let Found::Whole(kind, size) = read_at(ticket, i) else {
-            return Walked::Refused(3, k);
+        let Found::Whole(kind, size) = read_at(ticket, at) else {
+            return Err(Fault::CutShort.at(record));
         };
         if ends_steps(claim, kind) {
-            return Walked::Model(i, k, report);
+            return Ok(Walked::Model { at, record, report });
         }
-        let fault = record_fault(ticket, s, claim, i, kind, size);
-        if fault != 0 {
-            return Walked::Refused(fault, k);
-        }
+        record_fault(ticket, s, claim, at, kind, size).map_err(|fault| fault.at(record))?;
         report = report.with_step();
-        let entered = take_step(ticket, s, claim, i, size, facts, &mut pending);
-        i += RECORD_HEAD + size;
-        k += 1;
+        let entered = take_step(ticket, s, claim, at, size, facts, &mut pending);
+        at += RECORD_HEAD + size;
+        record += 1;
         match entered {
             Some(next) => facts = next,
-            None => return Walked::Closed(i, k, report),
+            None => return Ok(Walked::Closed { at, record, report }),
         }
     }
 }
 
 // ---- the whole ticket
 
-#[derive(Drop)]
-pub enum Need {
-    // The number of a refusal and its record.
-    Refused(usize, usize),
-    Needs(Report),
-}
-
 // After the last closed branch: the end.
-fn at_end(ticket: &[u8], at: usize, r: usize, report: Report) -> Need
+fn at_end(ticket: &[u8], at: usize, r: usize, report: Report) -> Result<Report, Refusal>
     ensures { (s : Progress) → need_of result ≡ need_from ticket.now (asked ticket.now s) (proving closed) (report_is report) r at }
 {
-    let c = end_fault(ticket, at);
-    if c != 0 {
-        return Need::Refused(c, r);
-    }
-    Need::Needs(report)
+    end_fault(ticket, at).map_err(|fault| fault.at(r))?;
+    Ok(report)
 }
 
 // The model's record, of which 5 and 6 are tested, and the end after it.
-fn at_model(ticket: &[u8], s: Progress, at: usize, r: usize, report: Report) -> Need
+fn at_model(
+    ticket: &[u8],
+    s: Progress,
+    at: usize,
+    r: usize,
+    report: Report,
+) -> Result<Report, Refusal>
     requires { ModelHere ticket.now s at r }
     ensures { (facts : ℕ) → facts ≤ report.facts
         → need_of result ≡ need_from ticket.now (asked ticket.now s) (taking facts) (report_is report) r at }
 {
     let size = u32_at(ticket, at);
-    let f = model_fault(ticket, s, at + RECORD_HEAD, size);
-    if f != 0 {
-        return Need::Refused(f, r);
-    }
-    let c = end_fault(ticket, at + RECORD_HEAD + size);
-    if c != 0 {
-        return Need::Refused(c, r + 1);
-    }
-    Need::Needs(report)
-}
-
-// The steps, and what stands after them.
-fn behind_claim(ticket: &[u8], s: Progress, claim: Claim, at: usize, r: usize) -> Need
-    requires { Within ticket.now s at r }
-    ensures { need_of result ≡ need_started claim ticket.now s r at }
-{
-    match walk(ticket, s, claim, at, r) {
-        Walked::Refused(c, k) => Need::Refused(c, k),
-        Walked::Closed(to, k, report) => at_end(ticket, to, k, report),
-        Walked::Model(to, k, report) => at_model(ticket, s, to, k, report),
-    }
-}
-
-// The claim and what stands after it, where reading of the question ended. Record r stands there.
-fn behind_question(ticket: &[u8], s: Progress, at: usize, r: usize) -> Need
-    requires { ReadTo ticket.now s at r }
-    ensures { need_of result ≡ need_claimed ticket.now s at r }
-{
-    let c = claim_fault(ticket, s, at);
-    if c != 0 {
-        return Need::Refused(c, r);
-    }
-    let claim = claim_of(u16_at(ticket, at + RECORD_HEAD));
-    behind_claim(ticket, s, claim, at + 8, r + 1)
+    model_fault(ticket, s, at + RECORD_HEAD, size).map_err(|fault| fault.at(r))?;
+    end_fault(ticket, at + RECORD_HEAD + size).map_err(|fault| fault.at(r + 1))?;
+    Ok(report)
 }
 
 // What a ticket will need. "It never gives 10".
-pub fn need_ticket(ticket: &[u8]) -> Need
+pub fn need_ticket(ticket: &[u8]) -> Result<Report, Refusal>
     ensures { need_of result ≡ needed ticket.now }
 {
-    match read_question(NEEDING, ticket) {
-        Reading::Stopped(c, r) => Need::Refused(c, r),
-        Reading::Ended(s, at, r) => behind_question(ticket, s, at, r),
+    let read = read_question(NEEDING, ticket)?;
+    let s = read.numbers;
+    let claim = read_claim(ticket, s, read.at).map_err(|fault| fault.at(read.record))?;
+    match walk(ticket, s, claim, read.at + 8, read.record + 1)? {
+        Walked::Closed { at, record, report } => at_end(ticket, at, record, report),
+        Walked::Model { at, record, report } => at_model(ticket, s, at, record, report),
     }
 }
