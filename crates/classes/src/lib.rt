@@ -140,64 +140,64 @@ pub fn labels(work: &[i64], count: usize) -> [u8; NODE_COUNT]
 // ---- classes
 
 // Are two nodes in one class?
-fn same_class(labels: &[u8], i: usize, j: usize) -> bool
-    requires { (length labels.now ≡ node_count) × (i < node_count) × (j < node_count) }
+fn same_class(labels: &[u8; NODE_COUNT], i: usize, j: usize) -> bool
+    requires { (i < node_count) × (j < node_count) }
     ensures { result ≡ same_class labels.now i j }
 {
     labels[i] == labels[j]
 }
 
 // Are two variables in one class?
-pub fn one_class(labels: &[u8], x: usize, y: usize) -> bool
-    requires { (length labels.now ≡ node_count) × (x < variable_limit) × (y < variable_limit) }
+pub fn one_class(labels: &[u8; NODE_COUNT], x: usize, y: usize) -> bool
+    requires { (x < variable_limit) × (y < variable_limit) }
     ensures { result ≡ same_class labels.now (var_node x) (var_node y) }
 {
     same_class(labels, variable_node(x), variable_node(y))
 }
 
 // Does the class of variable x hold literal l?
-pub fn class_holds(labels: &[u8], x: usize, l: usize) -> bool
-    requires { (length labels.now ≡ node_count) × (x < variable_limit) × (l < variable_limit) }
+pub fn class_holds(labels: &[u8; NODE_COUNT], x: usize, l: usize) -> bool
+    requires { (x < variable_limit) × (l < variable_limit) }
     ensures { result ≡ same_class labels.now (var_node x) (lit_node l) }
 {
     same_class(labels, variable_node(x), literal_node(l))
 }
 
 // The lowest of the first m literals in the class of variable x: "the lowest literal number counts".
-pub fn class_literal(labels: &[u8], m: usize, x: usize) -> Option<usize>
-    requires { (length labels.now ≡ node_count) × (m ≤ variable_limit) × (x < variable_limit) }
+pub fn class_literal(labels: &[u8; NODE_COUNT], m: usize, x: usize) -> Option<usize>
+    requires { (m ≤ variable_limit) × (x < variable_limit) }
     ensures { literal_of result ≡ lowest_literal labels.now x 0 m }
 {
     (0..m).find(|l| class_holds(labels, x, *l))
 }
 
 // The lowest variable in the class of variable x.
-pub fn lowest_variable(labels: &[u8], x: usize) -> usize
-    requires { (length labels.now ≡ node_count) × (x < variable_limit) }
+pub fn lowest_variable(labels: &[u8; NODE_COUNT], x: usize) -> usize
+    requires { x < variable_limit }
     ensures { result ≡ lowest_variable labels.now x }
 {
     (0..x).find(|y| one_class(labels, x, *y)).unwrap_or(x)
 }
 
 // Does literal i share a class with a lower one?
-fn literal_meets(labels: &[u8], i: usize) -> bool
-    requires { (length labels.now ≡ node_count) × (i < variable_limit) }
+fn literal_meets(labels: &[u8; NODE_COUNT], i: usize) -> bool
+    requires { i < variable_limit }
     ensures { result ≡ literal_meets labels.now i }
 {
     (0..i).any(|j| same_class(labels, literal_node(i), literal_node(j)))
 }
 
 // "two different literals share a class", of the first m.
-fn literals_meet(labels: &[u8], m: usize) -> bool
-    requires { (length labels.now ≡ node_count) × (m ≤ variable_limit) }
+fn literals_meet(labels: &[u8; NODE_COUNT], m: usize) -> bool
+    requires { (m ≤ variable_limit) }
     ensures { result ≡ any_below m (literal_meets labels.now) }
 {
     (0..m).any(|i| literal_meets(labels, i))
 }
 
 // Is a row a fact a ≉ b with both sides in one class?
-fn row_sides_meet(row: &[i64], labels: &[u8]) -> bool
-    requires { (length labels.now ≡ node_count) × (length row.now ≡ row_length) }
+fn row_sides_meet(row: &[i64], labels: &[u8; NODE_COUNT]) -> bool
+    requires { length row.now ≡ row_length }
     ensures { result ≡ sides_meet labels.now (fact_of row.now ∷ []) }
 {
     tag_of(row) == TAG_NOT_SAME
@@ -205,16 +205,16 @@ fn row_sides_meet(row: &[i64], labels: &[u8]) -> bool
 }
 
 // "a ≉ fact has both sides in one", among the first `count` facts.
-fn sides_meet(work: &[i64], count: usize, labels: &[u8]) -> bool
-    requires { (length labels.now ≡ node_count) × (count ≤ fact_limit) × (row_length * count ≤ length work.now) }
+fn sides_meet(work: &[i64], count: usize, labels: &[u8; NODE_COUNT]) -> bool
+    requires { (count ≤ fact_limit) × (row_length * count ≤ length work.now) }
     ensures { result ≡ sides_meet labels.now (branch_of work.now count) }
 {
     (0..count).any(|k| row_sides_meet(row_at(work, k), labels))
 }
 
 // Does S-Conf fit on a branch of `count` facts with these labels, where the question has m literals, the empty one included?
-pub fn conflict(work: &[i64], count: usize, labels: &[u8], m: usize) -> bool
-    requires { (length labels.now ≡ node_count) × (count ≤ fact_limit) × (row_length * count ≤ length work.now) × (m ≤ variable_limit) }
+pub fn conflict(work: &[i64], count: usize, labels: &[u8; NODE_COUNT], m: usize) -> bool
+    requires { (count ≤ fact_limit) × (row_length * count ≤ length work.now) × (m ≤ variable_limit) }
     ensures { result ≡ clash m labels.now (branch_of work.now count) }
 {
     literals_meet(labels, m) || sides_meet(work, count, labels)

@@ -6,7 +6,7 @@ ghost use Rattle.std.specs.Prelude.{◌≡◌, ◌+◌, ◌*◌, ◌≤◌, ◌<
 ghost use Rattle.lists.specs.Lists.{all_below};
 ghost use Rattle.calculus.specs.Limits.{alphabet_limit, variable_limit, fact_limit};
 ghost use Rattle.calculus.specs.Classes as classes;
-ghost use Rattle.calculus.specs.Classes.{node_count, literal_in};
+ghost use Rattle.calculus.specs.Classes.{literal_in};
 ghost use Rattle.calculus.specs.Model.{model_value};
 ghost use Rattle.calculus.specs.SettledTest as test;
 ghost use Rattle.calculus.specs.SettledTest.{lowest_of_length, settled_card};
@@ -19,7 +19,7 @@ ghost use Rattle.leaf.specs.Leaf.{Modelled, LiteralsAt, LeafReady};
 ghost use Rattle.leaf.specs.Values.{text_fits, literal_fits, l_valid_fits, code_fits, roomy, var_fits, pair_by, pair_with, pair_fits, by_earlier};
 
 use encoding::{CODE, LEN};
-use limits::LENGTH_LIMIT;
+use limits::{LENGTH_LIMIT, NODE_COUNT};
 use question::Progress;
 
 // The empty literal.
@@ -59,12 +59,12 @@ fn literal_fits(
     ticket: &[u8],
     places: &[usize],
     s: Progress,
-    labels: &[u8],
+    labels: &[u8; NODE_COUNT],
     x: usize,
     len: i64,
     code: i64,
 ) -> bool
-    requires { Posed ticket.now s × (length labels.now ≡ node_count) × (x < variable_limit) × LiteralsAt ticket.now places.now s }
+    requires { Posed ticket.now s × (x < variable_limit) × LiteralsAt ticket.now places.now s }
     ensures { result ≡ literal_fits (asked ticket.now s) (literal_in (asked ticket.now s) labels.now x) len code }
 {
     match classes::class_literal(labels, s.literals + 1, x) {
@@ -77,8 +77,8 @@ fn literal_fits(
 }
 
 // L-Valid for variable x, whose length is given.
-fn length_fits(labels: &[u8], x: usize, len: i64) -> bool
-    requires { (length labels.now ≡ node_count) × (x < variable_limit) }
+fn length_fits(labels: &[u8; NODE_COUNT], x: usize, len: i64) -> bool
+    requires { x < variable_limit }
     ensures { result ≡ l_valid_fits labels.now x len }
 {
     classes::class_holds(labels, x, EMPTY) || len > 0
@@ -97,8 +97,8 @@ fn code_fits(n: usize, len: i64, code: i64) -> bool
 }
 
 // The number of classes whose length is the given one.
-fn classes_of(model: &[i64], s: Progress, labels: &[u8], wanted: i64) -> usize
-    requires { Modelled model.now s × (length labels.now ≡ node_count) }
+fn classes_of(model: &[i64], s: Progress, labels: &[u8; NODE_COUNT], wanted: i64) -> usize
+    requires { Modelled model.now s }
     ensures value { result ≡ length (lowest_of_length (numbered s) labels.now model.now wanted s.p) }
     ensures upper_bound { result ≤ s.p }
 {
@@ -117,8 +117,8 @@ fn has_room(n: usize, k: usize, size: usize) -> bool
 }
 
 // Card for the length of variable x. It has at most p classes, which are counted only where there is no room for p strings.
-fn card_fits(model: &[i64], s: Progress, labels: &[u8], x: usize) -> bool
-    requires { Modelled model.now s × (length labels.now ≡ node_count) × (s.n ≤ alphabet_limit) × (x < s.p) }
+fn card_fits(model: &[i64], s: Progress, labels: &[u8; NODE_COUNT], x: usize) -> bool
+    requires { Modelled model.now s × (s.n ≤ alphabet_limit) × (x < s.p) }
     ensures { result ≡ settled_card (numbered s) labels.now model.now x }
 {
     let len = value_of(model, s, LEN, x);
@@ -136,10 +136,10 @@ fn var_fits(
     places: &[usize],
     model: &[i64],
     s: Progress,
-    labels: &[u8],
+    labels: &[u8; NODE_COUNT],
     x: usize,
 ) -> bool
-    requires { LeafReady ticket.now places.now model.now s × (length labels.now ≡ node_count) × (x < s.p) }
+    requires { LeafReady ticket.now places.now model.now s × (x < s.p) }
     ensures { result ≡ var_fits (asked ticket.now s) labels.now model.now x }
 {
     let len = value_of(model, s, LEN, x);
@@ -167,13 +167,13 @@ fn pair_by(same: bool, z: i64, w: i64, c: i64, d: i64) -> bool
 fn pair_fits(
     model: &[i64],
     s: Progress,
-    labels: &[u8],
+    labels: &[u8; NODE_COUNT],
     x: usize,
     len: i64,
     code: i64,
     y: usize,
 ) -> bool
-    requires { Modelled model.now s × (length labels.now ≡ node_count) × (x < s.p) × (y < s.p) }
+    requires { Modelled model.now s × (x < s.p) × (y < s.p) }
     ensures { result ≡ pair_with (numbered s) labels.now model.now x len code y }
 {
     let same = classes::one_class(labels, x, y);
@@ -183,8 +183,8 @@ fn pair_fits(
 }
 
 // S-Prop and C-Inj for variable x with every variable before it.
-fn pairs_fit(model: &[i64], s: Progress, labels: &[u8], x: usize) -> bool
-    requires { Modelled model.now s × (length labels.now ≡ node_count) × (x < s.p) }
+fn pairs_fit(model: &[i64], s: Progress, labels: &[u8; NODE_COUNT], x: usize) -> bool
+    requires { Modelled model.now s × (x < s.p) }
     ensures { result ≡ all_below x (pair_fits (numbered s) labels.now model.now x) }
 {
     let len = value_of(model, s, LEN, x);
@@ -200,17 +200,23 @@ fn values_fit(
     places: &[usize],
     model: &[i64],
     s: Progress,
-    labels: &[u8],
+    labels: &[u8; NODE_COUNT],
     x: usize,
 ) -> bool
-    requires { LeafReady ticket.now places.now model.now s × (length labels.now ≡ node_count) × (x < s.p) }
+    requires { LeafReady ticket.now places.now model.now s × (x < s.p) }
     ensures { result ≡ by_earlier (asked ticket.now s) labels.now model.now x }
 {
     var_fits(ticket, places, model, s, labels, x) && pairs_fit(model, s, labels, x)
 }
 
-fn every_fits(ticket: &[u8], places: &[usize], model: &[i64], s: Progress, labels: &[u8]) -> bool
-    requires { LeafReady ticket.now places.now model.now s × (length labels.now ≡ node_count) }
+fn every_fits(
+    ticket: &[u8],
+    places: &[usize],
+    model: &[i64],
+    s: Progress,
+    labels: &[u8; NODE_COUNT],
+) -> bool
+    requires { LeafReady ticket.now places.now model.now s }
     ensures { result ≡ all_below s.p (by_earlier (asked ticket.now s) labels.now model.now) }
 {
     (0..s.p).all(|x| values_fit(ticket, places, model, s, labels, x))
@@ -224,9 +230,9 @@ pub fn settled(
     count: usize,
     model: &[i64],
     s: Progress,
-    labels: &[u8],
+    labels: &[u8; NODE_COUNT],
 ) -> bool
-    requires leaf_ready { LeafReady ticket.now places.now model.now s × (count ≤ fact_limit) × (row_length * count ≤ length work.now) × (length labels.now ≡ node_count) }
+    requires leaf_ready { LeafReady ticket.now places.now model.now s × (count ≤ fact_limit) × (row_length * count ≤ length work.now) }
     requires labels_value { labels.now ≡ classes.labels (branch_of work.now count) }
     ensures { result ≡ test.settled (asked ticket.now s) (branch_of work.now count) model.now }
 {

@@ -7,7 +7,6 @@ ghost use Rattle.calculus.specs.Limits.{alphabet_limit, variable_limit, length_l
 ghost use Rattle.calculus.specs.LinearForms.{eqℤ};
 ghost use Rattle.calculus.specs.Facts.{Branch, len};
 ghost use Rattle.calculus.specs.Classes as calculus;
-ghost use Rattle.calculus.specs.Classes.{node_count};
 ghost use Rattle.calculus.specs.Model.{model_value};
 ghost use Rattle.calculus.specs.Strings.{word, eq_string, given, fresh_from, one_char, strings};
 ghost use Rattle.format.specs.Fields.{u32s};
@@ -18,7 +17,7 @@ ghost use Rattle.leaf.specs.Leaf.{Modelled, LeafReady, ShortSizes};
 ghost use Rattle.strings.specs.Filling.{sized, string_in, given_strings, is_it, fixed_at, completed_by};
 
 use encoding::{CODE, LEN};
-use limits::{LENGTH_LIMIT, VARIABLE_LIMIT};
+use limits::{LENGTH_LIMIT, NODE_COUNT, VARIABLE_LIMIT};
 use question::Progress;
 
 // The size of a variable that has no string yet. Sizes are plain numbers and not options: those of the filled table are handed on as they stand, and the definitions
@@ -137,11 +136,11 @@ fn fill_fixed(
     places: &[usize],
     model: &[i64],
     s: Progress,
-    labels: &[u8],
+    labels: &[u8; NODE_COUNT],
     x: usize,
     row: &mut [u32],
 ) -> usize
-    requires leaf_ready { LeafReady ticket.now places.now model.now s × (length labels.now ≡ node_count) × (x < s.p) × (length row.old ≡ length_limit) }
+    requires leaf_ready { LeafReady ticket.now places.now model.now s × (x < s.p) × (length row.old ≡ length_limit) }
     requires within { Within value_limit model.now }
     ensures { sized result row.new ≡ fixed_at (asked ticket.now s) labels.now model.now x }
 {
@@ -165,10 +164,10 @@ fn give_fixed(
     places: &[usize],
     model: &[i64],
     s: Progress,
-    labels: &[u8],
+    labels: &[u8; NODE_COUNT],
     characters: &mut [u32],
 ) -> [usize; VARIABLE_LIMIT]
-    requires leaf_ready { LeafReady ticket.now places.now model.now s × (length labels.now ≡ node_count) × (length_limit * s.p ≤ length characters.old) }
+    requires leaf_ready { LeafReady ticket.now places.now model.now s × (length_limit * s.p ≤ length characters.old) }
     requires within { Within value_limit model.now }
     ensures { (y : ℕ) → y < s.p
         → string_in characters.new result y ≡ fixed_at (asked ticket.now s) labels.now model.now y }
@@ -187,12 +186,12 @@ fn give_fixed(
 fn complete(
     model: &[i64],
     s: Progress,
-    labels: &[u8],
+    labels: &[u8; NODE_COUNT],
     characters: &mut [u32],
     sizes: &[usize],
     x: usize,
 ) -> usize
-    requires modelled { Modelled model.now s × (length labels.now ≡ node_count) × (1 ≤ s.n) × (s.n ≤ alphabet_limit) × (x < s.p)
+    requires modelled { Modelled model.now s × (1 ≤ s.n) × (s.n ≤ alphabet_limit) × (x < s.p)
         × (length_limit * s.p ≤ length characters.old) × (length sizes.now ≡ variable_limit) }
     requires x_in_bounds { nat_abs (model_value (numbered s) model.now len x) ≤ length_limit }
     requires by_index { (y : ℕ) → y < x → get_or sizes.now y 0 ≤ length_limit }
@@ -227,10 +226,10 @@ pub fn give_strings(
     places: &[usize],
     model: &[i64],
     s: Progress,
-    labels: &[u8],
+    labels: &[u8; NODE_COUNT],
     characters: &mut [u32],
 ) -> [usize; VARIABLE_LIMIT]
-    requires leaf_ready { LeafReady ticket.now places.now model.now s × (length labels.now ≡ node_count) × (length_limit * s.p ≤ length characters.old) }
+    requires leaf_ready { LeafReady ticket.now places.now model.now s × (length_limit * s.p ≤ length characters.old) }
     requires within { Within value_limit model.now }
     requires short_sizes { ShortSizes (asked ticket.now s) model.now }
     ensures p_after { (b : Branch) → labels.now ≡ calculus.labels b

@@ -27,7 +27,7 @@ found-is c =
 
 pub placed_text-text-requires : goal.placed_text-text-requires
 placed_text-text-requires c =
-    let p = literal_placed c.args.ticket.now c.args.s c.args.labels.now c.args.x c.in-Some.l (found-is c) c.requires.0 c.requires.3 in
+    let p = literal_placed c.args.ticket.now c.args.s c.args.labels.now c.args.x c.in-Some.l (found-is c) c.requires.0 c.requires.2 in
     record { literals_from_in_bounds = p.0; placed = p.1 }
 
 pub fits_text-requires : goal.fits_text-requires

@@ -73,7 +73,7 @@ placed_text-literal-requires c =
 pub fill_text-requires : goal.fill_text-requires
 fill_text-requires c = (
   c.placed_text-literal.ensures.0,
-  omega (arith, short (goal.at.fill_text-requires c).After-placed_text-literal, c.requires.leaf_ready.3),
+  omega (arith, short (goal.at.fill_text-requires c).After-placed_text-literal, c.requires.leaf_ready.2),
   short (goal.at.fill_text-requires c).After-placed_text-literal,
 )
 
@@ -81,7 +81,7 @@ pub fill_character-requires : goal.fill_character-requires
 fill_character-requires c =
     let e : to_z w64 (of_z w64 c.value_of-code.result) ≡ model_value (numbered c.args.s) c.args.model.now code c.args.x =
     to_z-of_z {w = w64} (record { sfits = c.value_of-code.type_inv }) ∙ c.value_of-code.ensures in
-    (omega (arith, ap nat_abs e, c.requires.within (column_of (numbered c.args.s) code c.args.x)), c.requires.leaf_ready.3)
+    (omega (arith, ap nat_abs e, c.requires.within (column_of (numbered c.args.s) code c.args.x)), c.requires.leaf_ready.2)
 
 pub returns-in-Some : goal.returns-in-Some
 returns-in-Some c =

@@ -19,7 +19,7 @@ loop-x-init c = (refl, refl, λ y h. no_number y h)
 pub fill_fixed-size-requires : goal.fill_fixed-size-requires
 fill_fixed-size-requires c =
     record {
-      leaf_ready = (c.requires.leaf_ready.0, c.requires.leaf_ready.1, search rules, search rules);
+      leaf_ready = (c.requires.leaf_ready.0, search rules, search rules);
       within = c.requires.within;
     }
 

@@ -27,7 +27,7 @@ loop-x-init c =
     let k : length c.give_fixed-sizes.new.characters ≡ length c.args.characters.now =
     c.give_fixed-sizes.auto.characters in (
       c.requires.leaf_ready.0.posed.stands.few_strings,
-      omega (arith, c.requires.leaf_ready.2),
+      omega (arith, c.requires.leaf_ready.1),
       refl,
       c.give_fixed-sizes.type_inv.1.0.1,
       (λ y h. omega arith),
@@ -41,7 +41,6 @@ complete-size-requires c =
     let l = c.loop-x in record {
       modelled = (
         search rules,
-        c.requires.leaf_ready.1,
         some_character c.requires.leaf_ready.0.posed,
         c.requires.leaf_ready.0.posed.stands.few_characters,
         c.loop-x-test.true,
