@@ -105,11 +105,11 @@ pub fn write(
     ticket: &[u8],
     places: &[usize],
     s: Progress,
-    labels: &[u8],
+    labels: &[u8; NODE_COUNT],
     model: &[i64],
     answer: &mut [u8],
 )
-    requires { Writable ticket.now places.now s model.now × (length labels.now ≡ calculus.node_count) × (answer_bytes ≤ length answer.old) }
+    requires { Writable ticket.now places.now s model.now × (answer_bytes ≤ length answer.old) }
     ensures { (br : Branch) (m : List ℤ) → Answers ticket.now places.now s br m labels.now model.now
         → answer.new ≡ answer_after (Strings (answer_of (asked ticket.now s) br m)) answer.old }
 {

@@ -52,7 +52,6 @@ settled-requires c =
         columns_ready c.args.ticket.now c.args.places.now c.args.s c.requires.posed.0 c.requires.posed.2 c.args.model.now c.requires.posed.1.all,
         search rules,
         search rules,
-        search rules,
       );
       labels_value = c.requires.fine.1;
     }

@@ -15,14 +15,14 @@ pub give_strings-sizes-requires : goal.give_strings-sizes-requires
 give_strings-sizes-requires c =
     let pre = c.requires in
     record {
-      leaf_ready = (pre.0.ready, pre.1, search rules);
+      leaf_ready = (pre.0.ready, search rules);
       within = pre.0.small;
       short_sizes = pre.0.short_sizes;
     }
 
 pub write_answer-requires : goal.write_answer-requires
 write_answer-requires c =
-    (c.give_strings-sizes.ensures.table, integers_there c.args.ticket.now c.args.places.now c.args.s c.args.model.now c.requires.0, c.requires.2)
+    (c.give_strings-sizes.ensures.table, integers_there c.args.ticket.now c.args.places.now c.args.s c.args.model.now c.requires.0, c.requires.1)
 
 pub returns : goal.returns
 returns c br m a =
