@@ -2,14 +2,14 @@
 // by position: what is kept of it is numbers, and its literals and constraints stay where they stand in the bytes.
 #![tactic(auto)]
 
-ghost use Rattle.std.specs.Prelude.{◌≡◌, cond, ◌+◌, ◌*◌, ◌-◌, ◌<◌, ◌≤◌, length, eqb, nat_abs};
+ghost use Rattle.std.specs.Prelude.{ℕ, Bool, ◌≡◌, cond, ◌+◌, ◌*◌, ◌-◌, ◌<◌, ◌≤◌, length, eqb, nat_abs};
 ghost use Rattle.calculus.specs.Limits.{variable_limit, column_limit};
 ghost use Rattle.calculus.specs.Alphabet.{all_characters};
 ghost use Rattle.calculus.specs.Facts.{code_of};
 ghost use Rattle.calculus.specs.Strings.{eq_string, given};
 ghost use Rattle.format.specs.Fields.{u16, u32, u32s, pairs_at};
 ghost use Rattle.format.specs.Records.{kind as kind_at, size as size_at};
-ghost use Rattle.format.specs.Question.{head_rank, literal_rank, rank_of, head_fault, text_of, literal_fault, string_range, string_fault, coefficient_in_range, pair_in_range};
+ghost use Rattle.format.specs.Question.{head_rank, literal_rank, rank_of, head_fault, text_of, literal_fault, three_fault, string_range, string_fault, coefficient_in_range, pair_in_range};
 ghost use Rattle.format.specs.Question.{rising, form_range, arithmetic_fault, fact_fault, extended_range, extended_fault, rank_in_place, question_body_fault};
 ghost use Rattle.format.specs.Question.{room_for, question_fault, question_advanced, read_by};
 ghost use Rattle.format.specs.Places.{skip, texts, literals_from};
@@ -110,6 +110,26 @@ fn literal_fault(b: &[u8], n: usize, k: usize, at: usize, size: usize) -> Result
     Ok(())
 }
 
+// A body of three u16 fields that are to be in a range.
+fn three_fault<R: FnOnce(usize, usize, usize) -> bool>(
+    b: &[u8],
+    at: usize,
+    size: usize,
+    in_range: R,
+) -> Result<(), Fault>
+    requires there { at + size ≤ length b.now }
+    requires callable { R.IsAlwaysCallable in_range }
+    ensures { (range : ℕ → ℕ → ℕ → Bool) → ((f x y : ℕ) (r : Bool) → R.post in_range f x y r → r ≡ range f x y) → fault_in result ≡ three_fault range b.now at size }
+{
+    if size != 6 {
+        return Err(Fault::NoForm);
+    }
+    if !in_range(u16_at(b, at), u16_at(b, at + 2), u16_at(b, at + 4)) {
+        return Err(Fault::OutOfRange);
+    }
+    Ok(())
+}
+
 // Whether a string constraint's fields are in their ranges, over p variables and k literals besides the empty one.
 fn string_in_range(p: usize, k: usize, relation: usize, x: usize, y: usize) -> bool
     ensures { result ≡ string_range p k relation x y }
@@ -128,16 +148,12 @@ fn string_fault(b: &[u8], p: usize, k: usize, at: usize, size: usize) -> Result<
     requires { at + size ≤ length b.now }
     ensures { fault_in result ≡ string_fault b.now p k at size }
 {
-    if size != 6 {
-        return Err(Fault::NoForm);
-    }
-    let relation = u16_at(b, at);
-    let x = u16_at(b, at + 2);
-    let y = u16_at(b, at + 4);
-    if !string_in_range(p, k, relation, x, y) {
-        return Err(Fault::OutOfRange);
-    }
-    Ok(())
+    three_fault(
+        b,
+        at,
+        size,
+        |relation, x, y| string_in_range(p, k, relation, x, y),
+    )
 }
 
 // Whether a number may be a coefficient.
@@ -234,21 +250,18 @@ fn extended_fault(b: &[u8], p: usize, q: usize, at: usize, size: usize) -> Resul
     requires { at + size ≤ length b.now }
     ensures { fault_in result ≡ extended_fault b.now p q at size }
 {
-    if size != 6 {
-        return Err(Fault::NoForm);
-    }
-    let function = u16_at(b, at);
-    let x = u16_at(b, at + 2);
-    let y = u16_at(b, at + 4);
-    if !extended_in_range(p, q, function, x, y) {
-        return Err(Fault::OutOfRange);
-    }
-    Ok(())
+    three_fault(
+        b,
+        at,
+        size,
+        |function, x, y| extended_in_range(p, q, function, x, y),
+    )
 }
 
 // ---- kinds and their order
 
 // "They stand in order of kind": the ranks of the records in this order; 0 stands before the head. Kinds 1 to 4 are their own ranks, and kind 11 stands after.
+// They are numbers and no enum, since a rank is compared by its order alone and a kind's number is its rank without a table.
 pub const HEAD_RANK: usize = KIND_HEAD;
 
 const LITERAL_RANK: usize = KIND_LITERAL;
@@ -536,9 +549,10 @@ pub fn literal_text(b: &[u8], l: usize) -> Text
     ensures { LiteralText b.now l result }
 {
     if l == 0 {
-        return EMPTY_TEXT;
+        EMPTY_TEXT
+    } else {
+        written_text(b, l, behind_literals(b, l - 1))
     }
-    written_text(b, l, behind_literals(b, l - 1))
 }
 
 // The text of literal l, where the places of the literals are known.
@@ -548,9 +562,10 @@ pub fn placed_text(b: &[u8], places: &[usize], l: usize) -> Text
     ensures { LiteralText b.now l result }
 {
     if l == 0 {
-        return EMPTY_TEXT;
+        EMPTY_TEXT
+    } else {
+        written_text(b, l, places[l - 1])
     }
-    written_text(b, l, places[l - 1])
 }
 
 // "code (the code point of a one-character string, else −1)", of a text.
