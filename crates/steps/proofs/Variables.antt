@@ -5,7 +5,7 @@ use native.Mathlib.Omega.{arith}
 use mathlib.Core.Path.{◌≡◌, refl, sym, ◌∙◌, ap, subst}
 use mathlib.Core.Bool.{true, false, not, ◌&&◌, ◌||◌}
 use mathlib.Core.List.{List, [], ◌∷◌}
-use borrow.Author.Tests.{eq-eqb, ne_eqb, ltb-true, not-true}
+use borrow.Author.Tests.{eq-eqb, ltb-true, not-true}
 use lib.ListN.{length, get_or}
 use lib.Dec.{ltb}
 use lib.IntN.{ℤ}
@@ -44,9 +44,6 @@ u16s_at b i n j h = field_at 2 (u16 b) i n j 0 h
 
 pub among_yes : (b : List ℕ) (i left x : ℕ) → 0 < left → u16 b i ≡ x → among x (u16s b i left) ≡ true
 among_yes b i left x h e = ap (among x) (u16s_more b i left h) ∙ ap (λ t. t || among x (u16s b (i + 2) (left - 1))) (eq-eqb x (u16 b i) (sym e))
-
-pub among_no : (b : List ℕ) (i left x : ℕ) → 0 < left → (u16 b i ≡ x → ⊥) → among x (u16s b i left) ≡ among x (u16s b (i + 2) (left - 1))
-among_no b i left x h e = ap (among x) (u16s_more b i left h) ∙ ap (λ t. t || among x (u16s b (i + 2) (left - 1))) (ne_eqb x (u16 b i) (λ q. e (sym q)))
 
 -- ---- different variables
 

@@ -27,7 +27,7 @@ use records::{fields_at, u16_at, u32_at};
 // ---- the rules
 
 // By name; Unknown is every number that document 01 gives to none.
-#[derive(Clone, Copy)]
+#[derive(Clone, Copy, Debug, PartialEq, Eq)]
 pub enum Rule {
     Sum,
     Branch,
@@ -65,6 +65,14 @@ pub fn rule_of(number: usize) -> Rule
         13 => Rule::Join,
         _ => Rule::Unknown,
     }
+}
+
+// A step of proper form: its rule, and where its body stands in the ticket.
+#[derive(Clone, Copy, Debug, PartialEq, Eq)]
+pub struct Step {
+    pub rule: Rule,
+    pub body: usize,
+    pub size: usize,
 }
 
 // ---- "Work out the operand length of each rule instead of storing the table of step forms"
