@@ -1,6 +1,6 @@
 -- What checking promises, by the sizes of the lent buffers.
 use Prim.Native.Nat.{ℕ, ◌<◌, ◌≤◌}
-use mathlib.Core.Path.{◌≡◌, refl, sym, ◌∙◌, ap}
+use mathlib.Core.Path.{◌≡◌, refl, sym, ◌∙◌, ap, ap₂}
 use mathlib.Core.Bool.{Bool, true, false}
 use mathlib.Core.List.{List, []}
 use lib.ListN.{length, replicate}
@@ -14,9 +14,12 @@ use Rattle.format.specs.Checking as format
 use Rattle.format.specs.Checking.{checker, outcome_of, large_enough, verdict_by, verdict}
 use Rattle.format.specs.Cores.{core, core_of}
 use Rattle.format.specs.Demands.{work_after}
-use Rattle.deciding.specs.declared.Outcome.{Outcome}
-use Rattle.deciding.specs.declared.Outcome.TheVariants.{Refused}
-use Rattle.deciding.specs.Outcomes.{told, Decided}
+use Rattle.std.specs.Prelude.{Result, Err}
+use Rattle.faults.specs.Numbers.{number}
+use Rattle.faults.specs.declared.Fault.TheVariants.{SmallBuffer}
+use Rattle.faults.specs.declared.Refusal.{Refusal}
+use Rattle.deciding.specs.declared.Verdict.{Verdict}
+use Rattle.deciding.specs.Outcomes.{Refused, told, Decided}
 use Rattle.checking.specs.Outcomes.{Promised}
 use Rattle.format.proofs.Sizes.{OtherThanOne, never_one}
 
@@ -36,20 +39,20 @@ module _ (b : List ℕ) (w : List ℤ) (a : List ℕ) where
   sized e = ap by_size e
 
   -- "1 when the work area has under 6,400 numbers or the answer buffer under 4,268 bytes"
-  small : large_enough (length w) (length a) ≡ false → Promised b w w a a (Refused 1 0)
+  small : (f : Refusal) → (f.fault ≡ SmallBuffer) × (f.«record» ≡ 0) → large_enough (length w) (length a) ≡ false → Promised b w w a a (Err f)
   unfolding told
-  small e = record {
+  small f h e = record {
     outcome = format.Refused 1 0;
     set = [];
     checked = record { outcome = sym (sized e); took_part = refl; work_is = refl; answer_is = refl };
-    tells = refl;
+    tells = ap₂ Refused (ap number h.0) h.1;
   }
 
-  pub small_work : length w < work_numbers → Promised b w w a a (Refused 1 0)
-  small_work h = small (rw (lt-leb work_numbers (length w) h))
+  pub small_work : (f : Refusal) → (f.fault ≡ SmallBuffer) × (f.«record» ≡ 0) → length w < work_numbers → Promised b w w a a (Err f)
+  small_work f e h = small f e (rw (lt-leb work_numbers (length w) h))
 
-  pub small_answer : work_numbers ≤ length w → length a < answer_bytes → Promised b w w a a (Refused 1 0)
-  small_answer g h = small (rw (le-leb work_numbers (length w) g, lt-leb answer_bytes (length a) h))
+  pub small_answer : (f : Refusal) → (f.fault ≡ SmallBuffer) × (f.«record» ≡ 0) → work_numbers ≤ length w → length a < answer_bytes → Promised b w w a a (Err f)
+  small_answer f e g h = small f e (rw (le-leb work_numbers (length w) g, lt-leb answer_bytes (length a) h))
 
   -- "The whole work area, numbers past 6,400 too, is zero after every call"
   cleared : (o : format.Outcome) → OtherThanOne o → replicate (length w) (pos 0) ≡ work_after o w
@@ -57,7 +60,7 @@ module _ (b : List ℕ) (w : List ℤ) (a : List ℕ) where
   cleared format.NoSolution other = refl
   cleared (format.Strings given) other = refl
 
-  pub decided : {w' : List ℤ} {a' : List ℕ} {r : Outcome} → work_numbers ≤ length w → answer_bytes ≤ length a → w' ≡ replicate (length w) (pos 0)
+  pub decided : {w' : List ℤ} {a' : List ℕ} {r : Result Verdict Refusal} → work_numbers ≤ length w → answer_bytes ≤ length a → w' ≡ replicate (length w) (pos 0)
       → Decided (outcome_of (read_behind checker b (question b))) (core b) a a' r → Promised b w w' a a' r
   decided g h z d = record {
     outcome = outcome_of (read_behind checker b (question b));

@@ -27,10 +27,14 @@ use Rattle.format.proofs.Buffers.{lengths_kept}
 use Rattle.format.proofs.Claimed.{claimed_asked}
 use Rattle.format.proofs.NoSolution.{accepted→closed}
 use Rattle.format.proofs.Demands.{demands}
-use Rattle.deciding.specs.declared.Outcome.{Outcome}
-use Rattle.deciding.specs.Outcomes.{told}
+use Rattle.std.specs.Prelude.{Result, Ok, Err}
+use Rattle.faults.specs.declared.Refusal.{Refusal}
+use Rattle.deciding.specs.declared.Verdict.{Verdict}
+use Rattle.deciding.specs.declared.Verdict.TheVariants.{NoSolution, Strings}
+use Rattle.deciding.specs.Outcomes as outcomes
+use Rattle.deciding.specs.Outcomes.{Told, told, told_by}
 use Rattle.checking.specs.Outcomes.{Promised}
-use Rattle.checking.specs.Theory.{TookPart, NoSolutionIsTrue, IsTrue, Theory}
+use Rattle.checking.specs.Theory.{TookPart, NoSolutionIsTrue, StringsAreTrue, IsTrue, Theory}
 
 -- ---- the set
 
@@ -95,8 +99,19 @@ module _ (ticket : List ℕ) (work : List ℤ) (answer answer' : List ℕ) where
         untouched = kept;
       }
 
+  -- by what is told
+  abbrev pub IsTold : Told → Type 0
+  IsTold (outcomes.Refused c r) = answer' ≡ answer
+  IsTold (outcomes.NoSolution x y) = NoSolutionIsTrue ticket answer answer' x y
+  IsTold outcomes.Strings = StringsAreTrue ticket answer answer'
+
+  pub by_code : (r : Result Verdict Refusal) → IsTold (told_by r) → IsTrue ticket answer answer' r
+  by_code (Err f) h = h
+  by_code (Ok (NoSolution words)) h = h
+  by_code (Ok Strings) h = h
+
   by_outcome : (o : format.Outcome) (set : Set) → verdict (length work) (length answer) ticket ≡ o → set ≡ core_of o ticket → answer' ≡ answer_after o answer
-      → IsTrue ticket answer answer' (told o set)
+      → IsTold (told o set)
   unfolding told
   by_outcome (format.Refused c r) set e is kept = kept
   by_outcome format.NoSolution set e is kept = no_solution_true set e is kept
@@ -104,14 +119,14 @@ module _ (ticket : List ℕ) (work : List ℤ) (answer answer' : List ℕ) where
       let (u, answered) = demands.th_5 (length work) (length answer) ticket a e in
       record { question = u; given = a; stands = kept; begins = λ bytes. (demands.th_put ticket bytes u).0 answered.asked; answered = answered }
 
-pub checked_is_true : {ticket : List ℕ} {work work' : List ℤ} {answer answer' : List ℕ} {r : Outcome} → Promised ticket work work' answer answer' r
+pub checked_is_true : {ticket : List ℕ} {work work' : List ℤ} {answer answer' : List ℕ} {r : Result Verdict Refusal} → Promised ticket work work' answer answer' r
     → Theory ticket work work' answer answer' r
-checked_is_true {ticket} {work} {work'} {answer} {answer'} h =
+checked_is_true {ticket} {work} {work'} {answer} {answer'} {r} h =
     let c = h.checked in
     let kept = lengths_kept ticket work answer in
     record {
-      is_true = subst (IsTrue ticket answer answer') (sym h.tells)
-          (by_outcome ticket work answer answer' h.outcome h.set (sym c.outcome) c.took_part c.answer_is);
+      is_true = by_code ticket work answer answer' r (subst (IsTold ticket work answer answer') (sym h.tells)
+          (by_outcome ticket work answer answer' h.outcome h.set (sym c.outcome) c.took_part c.answer_is));
       answer_length = ap length (c.answer_is ∙ ap (λ o. answer_after o answer) c.outcome) ∙ kept.of_the_answer;
       work_length = ap length (c.work_is ∙ ap (λ o. work_after o work) c.outcome) ∙ kept.of_work;
     }

@@ -1,6 +1,6 @@
 -- Demand 3 of the code, as far as it speaks of what is handed out: what `check_ticket` returns and the bytes that it leaves in the answer buffer are true of the
 -- ticket. That it accepts the leaves that it should is Th6, by the equation of its contract (Th1).
-use Rattle.std.specs.Prelude.{ℕ, ◌-◌, ◌≡◌, cond, List, [], ◌++◌, length, drop, ltb, ℤ}
+use Rattle.std.specs.Prelude.{ℕ, ◌-◌, ◌≡◌, cond, List, [], ◌++◌, length, drop, ltb, ℤ, Result, Ok, Err}
 use Rattle.std.proofs.Math.Option.{some}
 use Rattle.std.proofs.Math.ListN.{get_elem?}
 use Rattle.calculus.specs.Facts.{Question, Fact}
@@ -8,8 +8,9 @@ use Rattle.calculus.specs.Meaning.{Assignment, IsAssignment, Meets}
 use Rattle.format.specs.Question.{question_of}
 use Rattle.format.specs.Answer.{encode}
 use Rattle.format.specs.Demands.{Bytes, PutsQuestion, bit, NoAssignment, Answered}
-use Rattle.deciding.specs.declared.Outcome.{Outcome}
-use Rattle.deciding.specs.declared.Outcome.TheVariants.{Refused, NoSolution, Strings}
+use Rattle.faults.specs.declared.Refusal.{Refusal}
+use Rattle.deciding.specs.declared.Verdict.{Verdict}
+use Rattle.deciding.specs.declared.Verdict.TheVariants.{NoSolution, Strings}
 
 -- constraint k is in the set that is returned in two numbers: bit k of the first, bit k − 64 of the second
 abbrev pub TookPart : ℕ → ℕ → ℕ → Type 0
@@ -40,13 +41,13 @@ pub record StringsAreTrue (ticket answer answer' : List ℕ) : Type 0 where
   pub answered : Answered ticket question given
 
 -- by what is returned; "A refusal .. writes nothing to the answer buffer"
-abbrev pub IsTrue : List ℕ → List ℕ → List ℕ → Outcome → Type 0
-IsTrue ticket answer answer' (Refused c r) = answer' ≡ answer
-IsTrue ticket answer answer' (NoSolution low high) = NoSolutionIsTrue ticket answer answer' low high
-IsTrue ticket answer answer' Strings = StringsAreTrue ticket answer answer'
+abbrev pub IsTrue : List ℕ → List ℕ → List ℕ → Result Verdict Refusal → Type 0
+IsTrue ticket answer answer' (Err f) = answer' ≡ answer
+IsTrue ticket answer answer' (Ok (NoSolution words)) = NoSolutionIsTrue ticket answer answer' words.low words.high
+IsTrue ticket answer answer' (Ok Strings) = StringsAreTrue ticket answer answer'
 
 -- the ticket, the work area and the answer buffer before and after, and what is returned
-pub record Theory (ticket : List ℕ) (work work' : List ℤ) (answer answer' : List ℕ) (r : Outcome) : Type 0 where
+pub record Theory (ticket : List ℕ) (work work' : List ℤ) (answer answer' : List ℕ) (r : Result Verdict Refusal) : Type 0 where
   pub is_true : IsTrue ticket answer answer' r
   pub answer_length : length answer' ≡ length answer
   pub work_length : length work' ≡ length work

@@ -6,7 +6,12 @@ use mathlib.Core.Bool.{false}
 use mathlib.Core.List.{List, []}
 use lib.ListN.{length}
 use lib.IntN.{ℤ}
+use Rattle.std.specs.Prelude.{Ok, Err}
 use Rattle.calculus.specs.Facts.{Branch}
+use Rattle.faults.specs.Numbers.{number}
+use Rattle.faults.specs.declared.Fault.{Fault}
+use Rattle.faults.specs.declared.Fault.TheVariants.{CutShort}
+use Rattle.question.proofs.Refusals.{numbered}
 use Rattle.format.specs.Records.{size, next}
 use Rattle.format.specs.StepForms.{rule as rule_at}
 use Rattle.format.specs.Checking as format
@@ -29,7 +34,7 @@ use Rattle.steps.specs.Faults.{fault_under}
 use Rattle.steps.specs.Offered.{offered, tried_under}
 use Rattle.steps.proofs.Numbers.{tried_by, form_refused, its_kind, its_form, its_field, its_trial}
 use Rattle.calculus.proofs.Walks.{Pending}
-use Rattle.claims.specs.declared.Next.TheVariants.{Refused, Step}
+use Rattle.claims.specs.declared.Next.TheVariants.{Step}
 use Rattle.claims.specs.Outcomes.{outcome_from}
 use Rattle.claims.specs.Steps.{NextAt}
 
@@ -42,7 +47,7 @@ module _ (b : List ℕ) (s : Progress) (at : ℕ) where
   by_checking NoSolution w count ss = refl
   by_checking Strings w count ss = refl
 
-  pub none_there : (claim : Claim) → length b < next b at → NextAt claim b s at (Refused 3)
+  pub none_there : (claim : Claim) → length b < next b at → NextAt claim b s at (Err CutShort)
   unfolding NextAt
   none_there claim h br ss r = ap outcome_of (turn_none (checker (asked b s)) b (asked b s) (open_under claim br ss) r at h)
 
@@ -56,13 +61,14 @@ module _ (b : List ℕ) (s : Progress) (at : ℕ) where
     abbrev number_there : ℕ
     number_there = open_fault (length b) (at + 6 + m) k m (fault_under claim b s (at + 6) m)
 
-    pub refused_there : (f : ℕ) → f ≡ number_there → (f ≡ 0 → ⊥) → NextAt claim b s at (Refused f)
+    pub refused_there : (f : Fault) → number f ≡ number_there → NextAt claim b s at (Err f)
     unfolding NextAt
-    refused_there f q n br ss r =
-        by_end (refused_open (checker (asked b s)) b (asked b s) (open_under claim br ss) at r (all_there b at k m w) f
-        (form_refused (checker (asked b s)) b s br ss at claim k m w e f q n) n)
+    refused_there f q br ss r =
+        by_end (refused_open (checker (asked b s)) b (asked b s) (open_under claim br ss) at r (all_there b at k m w) (number f)
+        (form_refused (checker (asked b s)) b s br ss at claim k m w e (number f) q (numbered f)) (numbered f))
       where
-        by_end : RefusedOpen (checker (asked b s)) b (asked b s) (open_under claim br ss) at r f → outcome_from b s (open_under claim br ss) r at ≡ format.Refused f r
+        by_end : RefusedOpen (checker (asked b s)) b (asked b s) (open_under claim br ss) at r (number f)
+            → outcome_from b s (open_under claim br ss) r at ≡ format.Refused (number f) r
         by_end (inl d) = ap outcome_of d
         by_end (inr (eleven, d)) = ap outcome_of d ∙ unclosed claim br ss r ∙ ap (λ c. format.Refused c r) (sym eleven)
 
@@ -70,7 +76,7 @@ module _ (b : List ℕ) (s : Progress) (at : ℕ) where
       pub formed_there : Formed b (asked b s) (at + 6) m
       formed_there = its_form (checker (asked b s)) b s [] [] at claim k m w e z
 
-      pub step_there : (r : Rule) → rule_named r ≡ rule_at b (at + 6) → NextAt claim b s at (Step r m)
+      pub step_there : (r : Rule) → rule_named r ≡ rule_at b (at + 6) → NextAt claim b s at (Ok (Step r m))
       unfolding NextAt
       step_there r named = record {
         sized = w.1;

@@ -3,7 +3,6 @@ use Prim.Native.Nat.{ℕ, ◌+◌, ◌≤◌, ◌<◌}
 use native.Mathlib.Omega.{arith}
 use native.Mathlib.Numerals.{add-one}
 use mathlib.Core.Path.{◌≡◌, refl, sym, ◌∙◌, ap, ap₂, subst}
-use mathlib.Core.Logic.{◌⊎◌, inl, inr}
 use mathlib.Core.Bool.{true, false}
 use mathlib.Core.List.{List, [], ◌∷◌, ◌++◌}
 use lib.ListN.{length, take}
@@ -32,20 +31,22 @@ use Rattle.delimiters.specs.declared.Claim.TheVariants.{NoSolution, Strings}
 use Rattle.delimiters.specs.Claims.{open_under, ends_at}
 use Rattle.derivation.specs.State.{child_on, waitings, state_of, tried_at, KeepsBelow}
 use Rattle.derivation.specs.Ok.{Rooted, AllPend, InOrder}
-use Rattle.derivation.specs.Actions.{number_of, Follows, Acts}
+use Rattle.derivation.specs.Actions.{Follows, Acts}
 use Rattle.derivation.specs.declared.Action.{Action}
 use Rattle.derivation.specs.declared.Action.TheVariants.{Closes, Extends, Splits}
 use Rattle.derivation.proofs.Holding.{fine, waiting}
 use Rattle.derivation.proofs.Closing.{rooted_mark}
 use Rattle.derivation.proofs.Acting as acting
 use Rattle.derivation.proofs.Acting.{entered, same_rows, holds_closed, entered_closed, entered_next, extended, entered_one, split_up, few_split, entered_more}
-use denote.Enum.Declared.{tag_of}
-use Rattle.claims.specs.contracts.Next.{the_type}
+use Rattle.std.specs.Prelude.{Ok, Err}
+use Rattle.faults.specs.Numbers.{number}
+use Rattle.faults.specs.declared.Fault.{Fault}
+use Rattle.faults.specs.declared.Refusal.{Refusal}
+use Rattle.question.proofs.Refusals.{numbered}
+use Rattle.cores.specs.declared.Words.{Words}
 use Rattle.claims.specs.declared.Walked as walked
-use Rattle.claims.specs.declared.Next as next-record
-use Rattle.claims.specs.declared.Next.{Next}
-use Rattle.claims.specs.Outcomes.{first_upto, outcome_from, walked_of, LeafAt, CoreAt}
-use Rattle.claims.specs.Steps.{NextAt, ended_by}
+use Rattle.claims.specs.Outcomes.{first_upto, outcome_from, walked_of, LeafAt}
+use Rattle.claims.specs.Steps.{NextAt}
 use Rattle.format.proofs.Faults.{not_both}
 use Rattle.format.proofs.StepTurns.{turn_faulty, turn_stepped}
 use Rattle.steps.specs.Offered.{offered}
@@ -145,28 +146,29 @@ module _ (b : List ℕ) (s : Progress) where
   module _ {claim : Claim} {n : ℕ} {outcome : Outcome} {w : List ℤ} {c : code.Branch} {known : Known} {i k : ℕ}
       (g : Going claim n outcome w c known i k) (v : List ℤ) where
     -- at its record
-    going_stopped : (f : ℕ) → NextAt claim b s i (next-record.TheVariants.Refused f) → walked_of b s v (walked.TheVariants.Refused f k) ≡ outcome
+    pub going_stopped : (f : Fault) (x : Refusal) → NextAt claim b s i (Err f) → (x.fault ≡ f) × (x.record ≡ k) → walked_of b s v (Err x) ≡ outcome
     unfolding walked_of NextAt
-    going_stopped f h = sym (h (branch_of w c.count) (pending_on w c) k) ∙ g.rest
+    going_stopped f x h e = rw (e.0, e.1) (sym (h (branch_of w c.count) (pending_on w c) k) ∙ g.rest)
 
     -- as a step
     pub going_refused : next b i ≤ length b
-        → (f : ℕ)
-        → f ≡ fault_at claim w c i
-        → (f ≡ 0 → ⊥)
-        → walked_of b s v (walked.TheVariants.Refused f k) ≡ outcome
+        → (f : Fault) (x : Refusal)
+        → number f ≡ fault_at claim w c i
+        → (x.fault ≡ f) × (x.record ≡ k)
+        → walked_of b s v (Err x) ≡ outcome
     unfolding walked_of
-    going_refused h f e z = sym (ap outcome_of (turn_faulty (checker (asked b s)) b (asked b s) (stands_at claim w c) k i h f e z)) ∙ g.rest
+    going_refused h f x e q =
+        rw (q.0, q.1) (sym (ap outcome_of (turn_faulty (checker (asked b s)) b (asked b s) (stands_at claim w c) k i h (number f) e (numbered f))) ∙ g.rest)
 
-  going_model : (claim : Claim) (n : ℕ) (outcome : Outcome) (w : List ℤ) (c : code.Branch) (known : Known) (i k j : ℕ)
+  pub going_model : (claim : Claim) (n : ℕ) (outcome : Outcome) (w : List ℤ) (c : code.Branch) (known : Known) (i k j : ℕ)
       → Going claim n outcome w c known i k
       → ends_at claim j ≡ true
-      → walked_of b s w (walked.TheVariants.Model i k c.count) ≡ outcome
+      → walked_of b s w (Ok (walked.TheVariants.Model i k c.count)) ≡ outcome
   unfolding walked_of
   going_model NoSolution n outcome w c known i k j g e = absurd (not_both false e refl)
   going_model Strings n outcome w c known i k j g e = g.rest
 
-  leaf_here : (claim : Claim) (n : ℕ) (outcome : Outcome) (w : List ℤ) (c : code.Branch) (known : Known) (i k j : ℕ)
+  pub leaf_here : (claim : Claim) (n : ℕ) (outcome : Outcome) (w : List ℤ) (c : code.Branch) (known : Known) (i k j : ℕ)
       → Going claim n outcome w c known i k
       → ends_at claim j ≡ true
       → j ≡ kind b i
@@ -176,19 +178,6 @@ module _ (b : List ℕ) (s : Progress) where
   leaf_here NoSolution n outcome w c known i k j g e q h = absurd (not_both false e refl)
   leaf_here Strings n outcome w c known i k j g e q h = record { model = sym q ∙ eqb-true j 7 e; whole = h; fine = g.holds; low = g.low }
 
-  -- what was found there is no step, by its tag
-  pub going_ended : (claim : Claim) (n : ℕ) (outcome : Outcome) (w : List ℤ) (c : code.Branch) (known : Known) (i k at : ℕ) (x : Next)
-      → Going claim n outcome w c known i k
-      → NextAt claim b s i x
-      → (tag_of the_type x ≡ 0) ⊎ (tag_of the_type x ≡ 1)
-      → (walked_of b s w (ended_by x i k c.count) ≡ outcome) × LeafAt b w (ended_by x i k c.count) × CoreAt b s at (ended_by x i k c.count)
-  unfolding NextAt LeafAt CoreAt
-  going_ended claim n outcome w c known i k at (next-record.TheVariants.Refused f) g h e = (going_stopped g w f h, tt, tt)
-  going_ended claim n outcome w c known i k at next-record.TheVariants.Model g h e =
-      (going_model claim n outcome w c known i k (kind b i) g h.0, leaf_here claim n outcome w c known i k (kind b i) g h.0 refl h.1, tt)
-  going_ended claim n outcome w c known i k at (next-record.TheVariants.Step rule m) g h (inl e) = absurd (omega arith)
-  going_ended claim n outcome w c known i k at (next-record.TheVariants.Step rule m) g h (inr e) = absurd (omega arith)
-
   -- ---- a step
 
   -- the step in a record of m bytes at a position, with the work area v after it
@@ -196,7 +185,7 @@ module _ (b : List ℕ) (s : Progress) where
     pub sized : m ≡ size b i
     pub whole : next b i ≤ length b
     pub step : kind b i ≡ 6
-    pub number : number_of a ≡ fault_at claim w c i
+    pub number : 0 ≡ fault_at claim w c i
     pub acts : Acts claim b (asked b s) i c.depth w c.count v a
 
   -- the number that it was tried for is that with the splits that are pending: under claim 1 as many as the depth says
@@ -236,27 +225,26 @@ module _ (b : List ℕ) (s : Progress) where
       into = entered held i v a t.acts
 
       -- the walk enters it
-      on_from : (x : Walk Branch (List Fact)) → x ≡ into → number_of a ≡ 0 → on (proving x) (k + 1) (i + 6 + m) ≡ outcome
+      on_from : (x : Walk Branch (List Fact)) → x ≡ into → on (proving x) (k + 1) (i + 6 + m) ≡ outcome
       unfolding offered
-      on_from x q z =
+      on_from x q =
           ap (λ (y : Walk Branch (List Fact)). on (proving y) (k + 1) (i + 6 + m)) q
           ∙ ap₂ (λ (l r : ℕ). on (proving into) r (i + 6 + l)) t.sized (add-one k)
-          ∙ sym (ap outcome_of (turn_stepped (checker (asked b s)) b (asked b s) (stands_at NoSolution w c) k i t.whole t.step (sym t.number ∙ z)))
+          ∙ sym (ap outcome_of (turn_stepped (checker (asked b s)) b (asked b s) (stands_at NoSolution w c) k i t.whole t.step (sym t.number)))
           ∙ g.rest
 
       going_on : (x : List ℤ) (d : code.Branch) (known' : Known)
           → (state_of b (asked b s) x d ≡ into) × InOrder b s x d
-          → number_of a ≡ 0
           → Knows x d.count known'
           → length x ≡ length w
           → Going NoSolution n outcome x d known' (i + 6 + m) (k + 1)
       unfolding Holds state_of
-      going_on x d known' q z h same = record {
+      going_on x d known' q h same = record {
         kept = same ∙ g.kept;
         low = omega (arith, g.low);
         holds = q.1;
         knows = h;
-        rest = on_from (state_of b (asked b s) x d) q.0 z;
+        rest = on_from (state_of b (asked b s) x d) q.0;
       }
 
     -- ---- claim 2
@@ -265,11 +253,10 @@ module _ (b : List ℕ) (s : Progress) where
         → Stepped Strings w c i m v a
         → (d : code.Branch)
         → Follows b (asked b s) (branch_of w c.count) i v d.count
-        → number_of a ≡ 0
         → length v ≡ length w
         → Going Strings n outcome v d known (i + 6 + m) (k + 1)
     unfolding Holds offered
-    going_taken g t d f z same = record {
+    going_taken g t d f same = record {
       kept = same ∙ g.kept;
       low = omega (arith, g.low);
       holds = f.fine;
@@ -278,7 +265,7 @@ module _ (b : List ℕ) (s : Progress) where
           ap (λ (l : Branch). on (taking l) (k + 1) (i + 6 + m)) f.rows
           ∙ ap₂ (λ (l r : ℕ). on (taking (branch_of w c.count ++ child_on b (asked b s) (branch_of w c.count) i (child_field b (i + 6)))) r (i + 6 + l))
           t.sized (add-one k)
-          ∙ sym (ap outcome_of (turn_stepped (checker (asked b s)) b (asked b s) (stands_at Strings w c) k i t.whole t.step (sym t.number ∙ z)))
+          ∙ sym (ap outcome_of (turn_stepped (checker (asked b s)) b (asked b s) (stands_at Strings w c) k i t.whole t.step (sym t.number)))
           ∙ g.rest;
     }
 
@@ -289,11 +276,11 @@ module _ (b : List ℕ) (s : Progress) where
         → Stepped claim w c i m v a
         → a ≡ Closes
         → c.depth ≡ 0
-        → (x : List ℤ) (low high : ℕ)
-        → walked_of b s x (walked.TheVariants.Closed (i + 6 + m) (k + 1) low high) ≡ outcome
+        → (x : List ℤ) (core : Words)
+        → walked_of b s x (Ok (walked.TheVariants.Closed (i + 6 + m) (k + 1) core)) ≡ outcome
     unfolding walked_of
-    going_closed NoSolution g t q d x low high = on_from g t closed (entered_closed (held g t) i v a t.acts q d) (ap number_of q)
-    going_closed Strings g t q d x low high = absurd (closes_alone t q)
+    going_closed NoSolution g t q d x core = on_from g t closed (entered_closed (held g t) i v a t.acts q d)
+    going_closed Strings g t q d x core = absurd (closes_alone t q)
 
     -- the state to cut back from
     pub still_open : (claim : Claim)
@@ -318,7 +305,7 @@ module _ (b : List ℕ) (s : Progress) where
         → length x ≡ length w
         → Going claim n outcome x d known' (i + 6 + m) (k + 1)
     going_next NoSolution g t q x d known' p o h same =
-        going_on g t x d known' (entered_next (held g t) i v a t.acts q (state_of b (asked b s) x d) p, o) (ap number_of q) h same
+        going_on g t x d known' (entered_next (held g t) i v a t.acts q (state_of b (asked b s) x d) p, o) h same
     going_next Strings g t q x d known' p o h same = absurd (closes_alone t q)
 
     -- ---- the branch goes on
@@ -337,10 +324,10 @@ module _ (b : List ℕ) (s : Progress) where
         → length v ≡ length w
         → Going claim n outcome v d known (i + 6 + m) (k + 1)
     going_one NoSolution f g t q d ed es same =
-        going_on g t v d known (entered_one (held g t) i v a t.acts f q d ed es) (ap number_of q)
+        going_on g t v d known (entered_one (held g t) i v a t.acts f q d ed es)
         (subst (λ j. Knows v j known) (sym ed) (knows_grown _ (extended (held g t) i v a t.acts f q).rows g.knows)) same
     going_one Strings f g t q d ed es same =
-        going_taken g t d (subst (λ j. Follows b (asked b s) (branch_of w c.count) i v j) (sym ed) (follows_alone t f q)) (ap number_of q) same
+        going_taken g t d (subst (λ j. Follows b (asked b s) (branch_of w c.count) i v j) (sym ed) (follows_alone t f q)) same
 
     -- ---- the branch splits: under claim 1 alone
 
@@ -362,7 +349,7 @@ module _ (b : List ℕ) (s : Progress) where
         → length v ≡ length w
         → Going claim n outcome v d known (i + 6 + m) (k + 1)
     going_more NoSolution f l g t q d ed es same =
-        going_on g t v d known (entered_more (held g t) i v a t.acts f l q d ed es) (ap number_of q)
+        going_on g t v d known (entered_more (held g t) i v a t.acts f l q d ed es)
         (subst (λ j. Knows v j known) (sym ed) (knows_grown _ (split_up (held g t) i v a t.acts f l q).0.rows g.knows)) same
     going_more Strings f l g t q d ed es same = absurd (splits_alone t f l q)
 

@@ -1,12 +1,14 @@
 -- What the code says of the records after the claim, in the definitions of the format.
-use Rattle.std.specs.Prelude.{ℕ, ◌≤◌, ◌≡◌, List, [], map, length, ℤ}
+use Rattle.std.specs.Prelude.{ℕ, ◌≤◌, ◌≡◌, List, [], map, length, ℤ, Result, Ok, Err}
 use Rattle.calculus.specs.Facts.{Fact, Branch}
 use Rattle.calculus.specs.Walk.{closed}
 use Rattle.calculus.specs.Steps.{Step}
-use Rattle.calculus.specs.Cores.{Set, core_in}
+use Rattle.calculus.specs.Cores.{core_in}
 use Rattle.format.specs.Records.{kind, next, records}
 use Rattle.format.specs.ProperForm.{steps_at}
-use Rattle.format.specs.Cores.{low, high}
+use Rattle.faults.specs.Numbers.{number}
+use Rattle.faults.specs.declared.Refusal.{Refusal}
+use Rattle.cores.specs.Words.{words_of}
 use Rattle.format.specs.Reading.{State, proving, taking, steps_on}
 use Rattle.format.specs.Checking.{checker, Outcome, Refused, outcome_of}
 use Rattle.delimiters.specs.declared.Claim.{Claim}
@@ -37,10 +39,10 @@ abbrev pub walk_from : Claim → List ℕ → Progress → ℕ → ℕ → Outco
 walk_from claim b s r at = outcome_from b s (open_under claim (asked b s).constraints []) r at
 
 -- refused; or every branch is closed, and reading goes on at a position and record; or it goes on at the model's record, on the branch of the first count rows
-unfoldable pub walked_of : List ℕ → Progress → List ℤ → Walked → Outcome
-walked_of b s w (walked.TheVariants.Refused c r) = Refused c r
-walked_of b s w (walked.TheVariants.Closed at r low high) = outcome_from b s (proving closed) r at
-walked_of b s w (walked.TheVariants.Model at r count) = outcome_from b s (taking (branch_of w count)) r at
+unfoldable pub walked_of : List ℕ → Progress → List ℤ → Result Walked Refusal → Outcome
+walked_of b s w (Err f) = Refused (number f.fault) f.record
+walked_of b s w (Ok (walked.TheVariants.Closed at r core)) = outcome_from b s (proving closed) r at
+walked_of b s w (Ok (walked.TheVariants.Model at r count)) = outcome_from b s (taking (branch_of w count)) r at
 
 -- the model's record is all there, and the rows are in order
 pub record AtModel (b : List ℕ) (w : List ℤ) (at r count : ℕ) : Type 0 where
@@ -50,8 +52,7 @@ pub record AtModel (b : List ℕ) (w : List ℤ) (at r count : ℕ) : Type 0 whe
   pub low : r ≤ at
 
 unfoldable pub LeafAt : List ℕ → List ℤ → Walked → Type 0
-LeafAt b w (walked.TheVariants.Refused c r) = Unit {0}
-LeafAt b w (walked.TheVariants.Closed at r low high) = Unit {0}
+LeafAt b w (walked.TheVariants.Closed at r core) = Unit {0}
 LeafAt b w (walked.TheVariants.Model at r count) = AtModel b w at r count
 
 -- the steps from a position on
@@ -60,6 +61,5 @@ steps_from b at = map (λ (t : Step × ℕ). t.0) (steps_at b (records b at))
 
 -- where every branch is closed, the words are those of the core of the steps from a position on
 unfoldable pub CoreAt : List ℕ → Progress → ℕ → Walked → Type 0
-CoreAt b s at (walked.TheVariants.Refused c r) = Unit {0}
-CoreAt b s at (walked.TheVariants.Closed to r x y) = let c : Set = core_in (asked b s) (steps_from b at) in (x ≡ low c) × (y ≡ high c)
+CoreAt b s at (walked.TheVariants.Closed to r core) = core ≡ words_of (core_in (asked b s) (steps_from b at))
 CoreAt b s at (walked.TheVariants.Model to r count) = Unit {0}

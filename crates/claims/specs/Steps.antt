@@ -1,5 +1,5 @@
 -- A record where a branch is open, and what is kept beside the walk.
-use Rattle.std.specs.Prelude.{ℕ, ◌+◌, ◌<◌, ◌≤◌, ◌≡◌, true, cond, List, [], length, take, leb, ℤ}
+use Rattle.std.specs.Prelude.{ℕ, ◌+◌, ◌<◌, ◌≤◌, ◌≡◌, true, cond, List, [], length, take, leb, ℤ, Result, Ok, Err}
 use Rattle.calculus.specs.Facts.{Fact, Branch}
 use Rattle.calculus.specs.Walk.{Waiting}
 use Rattle.calculus.specs.Cores.{Rested, rooted_from}
@@ -22,9 +22,9 @@ use Rattle.cores.specs.declared.Words.{Words}
 use Rattle.cores.specs.declared.Unions.{Unions}
 use Rattle.cores.specs.Words.{words_of, union_of, unions_of}
 use Rattle.cores.specs.Sets.{Stands, RestsOn}
+use Rattle.faults.specs.Numbers.{number}
+use Rattle.faults.specs.declared.Fault.{Fault}
 use Rattle.claims.specs.declared.Grounds.{Grounds}
-use Rattle.claims.specs.declared.Walked.{Walked}
-use Rattle.claims.specs.declared.Walked.TheVariants as walked
 use Rattle.claims.specs.declared.Next as next-record
 use Rattle.claims.specs.declared.Next.{Next}
 use Rattle.claims.specs.Outcomes.{outcome_from}
@@ -75,14 +75,8 @@ pub record StepAt (claim : Claim) (b : List ℕ) (s : Progress) (at : ℕ) (rule
       → tried_under claim b s (at + 6) (size_of b at) w count (length ss) ≡ fault (checker (asked b s)) b (asked b s) (open_under claim (branch_of w count) ss) at
 
 -- refused whatever the branch; or it ends the steps; or a step
-unfoldable pub NextAt : Claim → List ℕ → Progress → ℕ → Next → Type 0
-NextAt claim b s at (next-record.TheVariants.Refused c) =
-    (br : Branch) (ss : List (Waiting Branch (List Fact))) (r : ℕ) → outcome_from b s (open_under claim br ss) r at ≡ Refused c r
-NextAt claim b s at next-record.TheVariants.Model = (ends_at claim (kind b at) ≡ true) × (next b at ≤ length b)
-NextAt claim b s at (next-record.TheVariants.Step rule m) = StepAt claim b s at rule m
-
--- how the walk ends there, at record k with so many facts on the branch; a step does not end it
-abbrev pub ended_by : Next → ℕ → ℕ → ℕ → Walked
-ended_by (next-record.TheVariants.Refused c) at k count = walked.Refused c k
-ended_by next-record.TheVariants.Model at k count = walked.Model at k count
-ended_by (next-record.TheVariants.Step rule m) at k count = walked.Refused 0 k
+unfoldable pub NextAt : Claim → List ℕ → Progress → ℕ → Result Next Fault → Type 0
+NextAt claim b s at (Err f) =
+    (br : Branch) (ss : List (Waiting Branch (List Fact))) (r : ℕ) → outcome_from b s (open_under claim br ss) r at ≡ Refused (number f) r
+NextAt claim b s at (Ok next-record.TheVariants.Model) = (ends_at claim (kind b at) ≡ true) × (next b at ≤ length b)
+NextAt claim b s at (Ok (next-record.TheVariants.Step rule m)) = StepAt claim b s at rule m

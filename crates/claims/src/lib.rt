@@ -1,7 +1,7 @@
 // The steps of a derivation under either claim: claim 1's walk over every branch, claim 2's path to its leaf.
 #![tactic(auto)]
 
-ghost use Rattle.std.specs.Prelude.{◌≡◌, ◌≤◌};
+ghost use Rattle.std.specs.Prelude.{◌≡◌, ◌≤◌, IfOk};
 ghost use Rattle.calculus.specs.Classes.{labels};
 ghost use Rattle.rows.specs.Rows.{branch_of};
 ghost use Rattle.rows.specs.Work.{Fine};
@@ -10,7 +10,7 @@ ghost use Rattle.cores.specs.Sets.{Roomy, Filled};
 ghost use Rattle.delimiters.specs.declared.Claim.TheVariants.{NoSolution};
 ghost use Rattle.calculus.specs.Limits.{fact_limit};
 ghost use Rattle.claims.specs.Outcomes.{first_upto, Loaded, walk_from, walked_of, LeafAt, CoreAt};
-ghost use Rattle.claims.specs.Steps.{FirstGrounds, BroughtUp, grounds_back, with_closing, SetOf, Added, NextAt, ended_by};
+ghost use Rattle.claims.specs.Steps.{FirstGrounds, BroughtUp, grounds_back, with_closing, SetOf, Added, NextAt};
 ghost use Rattle.derivation.specs.Actions.{ReadyUnder};
 
 use branch::Branch;
@@ -22,6 +22,7 @@ use cores::{
 use delimiters::{Claim, ends_steps};
 use derivation::{Action, next_child, take_step};
 use encoding::RECORD_HEAD;
+use faults::{Fault, Refusal};
 use question::Progress;
 use records::{Found, read_at, u16_at};
 use steps::{Rule, record_fault, rule_of};
@@ -49,87 +50,77 @@ struct Grounds {
     core: Words,
 }
 
-// At first: each constraint rests on itself. Under claim 2 no set is kept.
-fn first_grounds(claim: Claim, work: &[i64], sets: &mut [u64], constraints: usize) -> Grounds
-    requires { Fine work.now constraints × Roomy sets.old }
-    ensures { FirstGrounds claim work.now sets.new constraints result }
-{
-    let core = no_constraint();
-    match claim {
-        Claim::NoSolution => {
-            root_sets(sets, constraints);
-            let roots = cores::bring_up(no_unions(), 0, work, sets, constraints);
-            Grounds {
-                unions: roots,
-                roots,
-                core,
+impl Grounds {
+    // At first: each constraint rests on itself. Under claim 2 no set is kept.
+    fn first(claim: Claim, work: &[i64], sets: &mut [u64], constraints: usize) -> Grounds
+        requires { Fine work.now constraints × Roomy sets.old }
+        ensures { FirstGrounds claim work.now sets.new constraints result }
+    {
+        let core = no_constraint();
+        match claim {
+            Claim::NoSolution => {
+                root_sets(sets, constraints);
+                let roots = cores::bring_up(no_unions(), 0, work, sets, constraints);
+                Grounds {
+                    unions: roots,
+                    roots,
+                    core,
+                }
+            }
+            Claim::Strings => {
+                let roots = no_unions();
+                Grounds {
+                    unions: roots,
+                    roots,
+                    core,
+                }
             }
         }
-        Claim::Strings => {
-            let roots = no_unions();
+    }
+
+    // The unions of the first `upto` facts are brought up to the first `count`.
+    fn brought_up(
+        self,
+        claim: Claim,
+        upto: usize,
+        work: &[i64],
+        sets: &[u64],
+        count: usize,
+    ) -> Grounds
+        requires { (upto ≤ count) × Fine work.now count × Roomy sets.now }
+        ensures { BroughtUp claim work.now sets.now upto count self result }
+    {
+        match claim {
+            Claim::NoSolution => Grounds {
+                unions: cores::bring_up(self.unions, upto, work, sets, count),
+                ..self
+            },
+            Claim::Strings => self,
+        }
+    }
+
+    // The unions of the first `mark` facts, where those of the first `upto` are kept: these, or, where they go further, those of the question's constraints.
+    fn set_back(self, upto: usize, mark: usize) -> Grounds
+        ensures { result ≡ grounds_back self upto mark }
+    {
+        if upto <= mark {
+            self
+        } else {
             Grounds {
-                unions: roots,
-                roots,
-                core,
+                unions: self.roots,
+                ..self
             }
         }
     }
-}
 
-// The unions of the first `upto` facts are brought up to the first `count`.
-fn grounds_upto(
-    claim: Claim,
-    grounds: Grounds,
-    upto: usize,
-    work: &[i64],
-    sets: &[u64],
-    count: usize,
-) -> Grounds
-    requires { (upto ≤ count) × Fine work.now count × Roomy sets.now }
-    ensures { BroughtUp claim work.now sets.now upto count grounds result }
-{
-    let roots = grounds.roots;
-    let core = grounds.core;
-    match claim {
-        Claim::NoSolution => {
-            let unions = cores::bring_up(grounds.unions, upto, work, sets, count);
-            Grounds {
-                unions,
-                roots,
-                core,
-            }
+    // A closing step rests on a set.
+    fn with_closing(self, set: Words) -> Grounds
+        ensures { result ≡ with_closing self set }
+    {
+        Grounds {
+            core: union_of(self.core, set),
+            ..self
         }
-        Claim::Strings => grounds,
-    }
-}
-
-// The unions of the first `mark` facts, where those of the first `upto` are kept: these, or, where they go further, those of the question's constraints.
-fn grounds_back(grounds: Grounds, upto: usize, mark: usize) -> Grounds
-    ensures { result ≡ grounds_back grounds upto mark }
-{
-    if upto <= mark {
-        return grounds;
-    }
-    let roots = grounds.roots;
-    let core = grounds.core;
-    Grounds {
-        unions: roots,
-        roots,
-        core,
-    }
-}
-
-// A closing step rests on a set.
-fn with_closing(grounds: Grounds, set: Words) -> Grounds
-    ensures { result ≡ with_closing grounds set }
-{
-    let unions = grounds.unions;
-    let roots = grounds.roots;
-    let core = union_of(grounds.core, set);
-    Grounds {
-        unions,
-        roots,
-        core,
     }
 }
 
@@ -144,15 +135,14 @@ fn set_of(
     work: &[i64],
     count: usize,
     sets: &[u64],
-    grounds: Grounds,
+    unions: Unions,
 ) -> Words
     requires { ReadyUnder claim rule ticket.now s at size work.now count × Roomy sets.now }
-    ensures { SetOf claim rule ticket.now s at size work.now count sets.now grounds.unions result }
+    ensures { SetOf claim rule ticket.now s at size work.now count sets.now unions result }
 {
     match claim {
         Claim::NoSolution => {
             let body = at + RECORD_HEAD;
-            let unions = grounds.unions;
             step_set(ticket, s, rule, body, size, work, count, sets, unions)
         }
         Claim::Strings => no_constraint(),
@@ -172,50 +162,34 @@ fn keep_set(claim: Claim, sets: &mut [u64], from: usize, to: usize, set: Words)
 
 // ---- the records
 
-// The record at a position where a branch is open. Refused: the number. Model: it ends the steps. Step: its rule and the length of its body.
-#[derive(Drop)]
+// The record at a position where a branch is open: a step by its rule and the length of its body, or the model, which ends the steps.
+#[derive(Clone, Copy)]
 enum Next {
-    Refused(usize),
     Model,
     Step(Rule, usize),
 }
 
-fn next_record(ticket: &[u8], s: Progress, claim: Claim, at: usize) -> Next
+fn next_record(ticket: &[u8], s: Progress, claim: Claim, at: usize) -> Result<Next, Fault>
     requires { Posed ticket.now s }
     ensures { NextAt claim ticket.now s at result }
 {
     let Found::Whole(kind, size) = read_at(ticket, at) else {
-        return Next::Refused(3);
+        return Err(Fault::CutShort);
     };
     if ends_steps(claim, kind) {
-        return Next::Model;
+        return Ok(Next::Model);
     }
-    let fault = record_fault(ticket, s, claim, at, kind, size);
-    if fault != 0 {
-        return Next::Refused(fault);
-    }
+    record_fault(ticket, s, claim, at, kind, size)?;
     let rule = rule_of(u16_at(ticket, at + RECORD_HEAD));
-    Next::Step(rule, size)
+    Ok(Next::Step(rule, size))
 }
 
-// Refused: the number and the record. Closed: every branch is closed; the position and the number of the record after, and the two words of the core. Model: the
-// position and the number of the model's record, and how many facts stand on the branch.
-#[derive(Drop)]
+// Closed: every branch is closed; the position and the number of the record after, and the core. Model: the position and the number of the model's record, and how
+// many facts stand on the branch.
+#[derive(Clone, Copy)]
 pub enum Walked {
-    Refused(usize, usize),
-    Closed(usize, usize, u64, u64),
+    Closed(usize, usize, Words),
     Model(usize, usize, usize),
-}
-
-// Where the walk ends at a record that is no step of proper form: record k at a position, with so many facts on the branch. It is called for no step.
-fn ended(next: Next, at: usize, k: usize, count: usize) -> Walked
-    ensures { result ≡ ended_by next at k count }
-{
-    match next {
-        Next::Refused(c) => Walked::Refused(c, k),
-        Next::Model => Walked::Model(at, k, count),
-        Next::Step(rule, size) => Walked::Refused(0, k),
-    }
 }
 
 // The records from the one after the claim, record r at a position, on the question's constraints: until every branch is closed, or up to the model. The sets of
@@ -228,42 +202,55 @@ pub fn walk(
     r: usize,
     work: &mut [i64],
     sets: &mut [u64],
-) -> Walked
+) -> Result<Walked, Refusal>
     requires { Loaded ticket.now s work.old × (r ≤ «record») × Roomy sets.old }
     ensures walked { walked_of ticket.now s work.new result ≡ walk_from claim ticket.now s r «record» }
-    ensures leaf { LeafAt ticket.now work.new result }
-    ensures core { CoreAt ticket.now s «record» result }
+    ensures leaf { IfOk result (λ w. LeafAt ticket.now work.new w) }
+    ensures core { IfOk result (λ w. CoreAt ticket.now s «record» w) }
 {
     let first = first_known(claim, work, s.constraints);
     let mut known = first;
-    let mut grounds = first_grounds(claim, work, sets, s.constraints);
+    let mut grounds = Grounds::first(claim, work, sets, s.constraints);
     let mut b = Branch::new(s.constraints);
     let mut i = record;
     let mut k = r;
     loop {
         let mut count = b.count as usize;
-        let found = next_record(ticket, s, claim, i);
+        let found = next_record(ticket, s, claim, i).map_err(|fault| fault.at(k))?;
         let Next::Step(rule, size) = found else {
-            return ended(found, i, k, count);
+            return Ok(Walked::Model(i, k, count));
         };
         let next = i + RECORD_HEAD + size;
         let upto = known.upto;
         known = classes_for(rule, known, work, count);
-        grounds = grounds_upto(claim, grounds, upto, work, sets, known.upto);
-        let mut set = set_of(claim, ticket, s, rule, i, size, work, count, sets, grounds);
+        grounds = grounds.brought_up(claim, upto, work, sets, known.upto);
+        let mut set = set_of(
+            claim,
+            ticket,
+            s,
+            rule,
+            i,
+            size,
+            work,
+            count,
+            sets,
+            grounds.unions,
+        );
         let depth = b.depth as usize;
         let labels = known.labels;
-        match take_step(ticket, s, claim, rule, i, size, work, count, depth, labels) {
-            Action::Refused(c) => return Walked::Refused(c, k),
+        let taken = take_step(ticket, s, claim, rule, i, size, work, count, depth, labels).map_err(
+            |fault| fault.at(k),
+        )?;
+        match taken {
             Action::Closes => {
-                grounds = with_closing(grounds, set);
+                grounds = grounds.with_closing(set);
                 if depth == 0 {
-                    return Walked::Closed(next, k + 1, grounds.core.low, grounds.core.high);
+                    return Ok(Walked::Closed(next, k + 1, grounds.core));
                 }
                 let split = b.latest();
                 count = split.mark as usize;
                 set = set_at(sets, count);
-                grounds = grounds_back(grounds, known.upto, count);
+                grounds = grounds.set_back(known.upto, count);
                 known = set_back(known, first, count);
                 b = next_child(ticket, s, work, b, split);
             }

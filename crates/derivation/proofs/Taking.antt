@@ -45,7 +45,7 @@ use Rattle.conclusions.specs.Made.{closing_of}
 use Rattle.conclusions.proofs.Tried.{Single, one_conclusion, tried_once}
 use Rattle.derivation.specs.State.{offered_in, tried_at}
 use Rattle.derivation.specs.Ok.{Splits}
-use Rattle.derivation.specs.Actions.{number_of, Begins, Follows, Acts, begun_child, begun_as, ReadyUnder}
+use Rattle.derivation.specs.Actions.{Begins, Follows, Acts, begun_child, begun_as, ReadyUnder}
 use Rattle.derivation.specs.declared.Action.TheVariants as action
 use Rattle.derivation.proofs.Children.{none_of_these}
 
@@ -149,15 +149,6 @@ pub ready_by : {claim : Claim} {r : Rule} {b : List ℕ} {s : Progress} {at m : 
     → conclusions_of (rule_named r) ≡ k
     → ReadyBy r k b s (at + 6) m w count
 ready_by h c = record { ready = h.ready; named = h.named; concludes = c }
-
--- a child that begins is no refusal
-pub begun_number : (claim : Claim) (last k : ℕ) → number_of (begun_as claim last k) ≡ 0
-begun_number NoSolution last k = go (leb last 1)
-  where
-    go : (t : Bool) → number_of (cond t (action.Extends k) (action.Splits k last)) ≡ 0
-    go true = refl
-    go false = refl
-begun_number Strings last k = refl
 
 module _ (b : List ℕ) (s : Progress) (at m : ℕ) (em : m ≡ size b at) (w : List ℤ) (count : ℕ) where
   pub by_size : (claim : Claim) (pending f : ℕ) → f ≡ tried_under claim b s (at + 6) m w count pending → f ≡ tried_at claim b s at w count pending

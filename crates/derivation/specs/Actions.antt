@@ -1,5 +1,5 @@
 -- A step that is ready to be taken under a claim, and what the code says of it.
-use Rattle.std.specs.Prelude.{ℕ, ◌+◌, ◌≤◌, ◌<◌, ◌≡◌, true, cond, List, [], ◌++◌, leb, ℤ}
+use Rattle.std.specs.Prelude.{ℕ, ◌+◌, ◌≤◌, ◌<◌, ◌≡◌, true, cond, List, [], ◌++◌, leb, ℤ, Result, IfOk}
 use Rattle.std.proofs.Math.Option.{some}
 use Rattle.calculus.specs.Limits.{pending_limit}
 use Rattle.calculus.specs.Facts.{Question, Branch}
@@ -17,17 +17,12 @@ use Rattle.steps.specs.Faults.{field_fits}
 use Rattle.steps.specs.Ready.{Ready}
 use Rattle.steps.specs.Conclusions.{conclusions_of}
 use Rattle.steps.specs.declared.Conclusions.TheVariants.{Several}
+use Rattle.faults.specs.Numbers.{fault_in}
+use Rattle.faults.specs.declared.Fault.{Fault}
 use Rattle.derivation.specs.State.{offered_in, child_on, tried_at}
 use Rattle.derivation.specs.Ok.{Splits}
 use Rattle.derivation.specs.declared.Action as action
 use Rattle.derivation.specs.declared.Action.{Action}
-
--- the number that refuses the step, 0 for none
-abbrev pub number_of : Action → ℕ
-number_of (action.TheVariants.Refused n) = n
-number_of action.TheVariants.Closes = 0
-number_of (action.TheVariants.Extends k) = 0
-number_of (action.TheVariants.Splits k n) = 0
 
 -- the step in the record at a position fits with n children, and the facts of the first stand after those of the branch, as the first k rows of the work area
 -- w
@@ -51,7 +46,6 @@ pub record Follows (b : List ℕ) (u : Question) (br : Branch) (at : ℕ) (w : L
 -- the step in the record at a position, under a claim, on the branch of the first count rows of the work area v with so many splits pending; w is the work
 -- area after it. Under claim 2 no branch closes, and no split is pending
 unfoldable pub Acts : Claim → List ℕ → Question → ℕ → ℕ → List ℤ → ℕ → List ℤ → Action → Type 0
-Acts claim b u at pending v count w (action.TheVariants.Refused n) = n ≡ 0 → ⊥
 Acts NoSolution b u at pending v count w action.TheVariants.Closes = (offered_in b u (branch_of v count) at ≡ some []) × (branch_of w count ≡ branch_of v count)
 Acts NoSolution b u at pending v count w (action.TheVariants.Extends k) = Begins b u (branch_of v count) at 1 w k
 Acts NoSolution b u at pending v count w (action.TheVariants.Splits k n) = Begins b u (branch_of v count) at n w k × Branches b at n pending
@@ -64,10 +58,10 @@ abbrev pub ActsOn : Claim → List ℕ → Progress → ℕ → ℕ → List ℤ
 ActsOn claim b s at pending v count w a = Acts claim b (asked b s) at pending v count w a
 
 -- a step with one conclusion, in a record of m bytes: the same under both claims, where its child field fits
-abbrev pub ConcludesUnder : List ℕ → Progress → ℕ → ℕ → List ℤ → ℕ → List ℤ → Action → Type 0
-ConcludesUnder b s at m v count w a =
+abbrev pub ConcludesUnder : List ℕ → Progress → ℕ → ℕ → List ℤ → ℕ → List ℤ → Result Action Fault → Type 0
+ConcludesUnder b s at m v count w r =
     (claim : Claim) (pending : ℕ) → field_fits claim b s.n (at + 6) m ≡ true
-    → (number_of a ≡ tried_at claim b s at v count pending) × ActsOn claim b s at pending v count w a
+    → (fault_in r ≡ tried_at claim b s at v count pending) × IfOk r (λ a. ActsOn claim b s at pending v count w a)
 
 -- ---- a split whose child begins
 

@@ -1,7 +1,8 @@
 // The derivation: what a step comes to, under either claim.
 #![tactic(auto)]
 
-ghost use Rattle.std.specs.Prelude.{◌≡◌, ℕ, ◌+◌, ◌≤◌, ◌<◌, length};
+ghost use Rattle.std.specs.Prelude.{◌≡◌, ℕ, ◌+◌, ◌≤◌, ◌<◌, length, IfOk};
+ghost use Rattle.faults.specs.Numbers.{fault_in};
 ghost use Rattle.format.specs.Records.{size as size_of};
 ghost use Rattle.steps.specs.Rules.{rule_named};
 ghost use Rattle.steps.specs.Conclusions.{conclusions_of};
@@ -11,11 +12,12 @@ ghost use Rattle.conclusions.specs.Labels.{Labelled};
 ghost use Rattle.branch.specs.Stack.{stack, latest_of};
 ghost use Rattle.derivation.specs.State.{tried_at, CutsBack, KeepsBelow};
 ghost use Rattle.derivation.specs.Ok.{InOrder};
-ghost use Rattle.derivation.specs.Actions.{number_of, ActsOn, ConcludesUnder, begun_child, begun_as, ReadyUnder};
+ghost use Rattle.derivation.specs.Actions.{ActsOn, ConcludesUnder, begun_child, begun_as, ReadyUnder};
 
 use branch::{Branch, Split};
 use delimiters::Claim;
 use encoding::RECORD_HEAD;
+use faults::Fault;
 use limits::NODE_COUNT;
 use question::Progress;
 use records::{u16_at, u32_at};
@@ -23,11 +25,10 @@ use splits::put_child;
 use steps::{CHILD_FIELD, Conclusions, Rule};
 use trials::split_fault;
 
-// What a step comes to. Refused: the number. Closes: the branch is closed. Extends: the number of facts on the branch then. Splits: the number
-// of facts on the branch of its first child, and that of its children.
-#[derive(Drop)]
+// What a step that fits comes to. Closes: the branch is closed. Extends: the number of facts on the branch then. Splits: the number of facts on the branch of its
+// first child, and that of its children.
+#[derive(Clone, Copy, Debug, PartialEq, Eq)]
 pub enum Action {
-    Refused(usize),
     Closes,
     Extends(usize),
     Splits(usize, usize),
@@ -35,7 +36,7 @@ pub enum Action {
 
 // ---- a step on the branch of the first rows, with so many splits pending
 
-// A step of A-Conf or S-Conf, which closes the branch; 8 where it does not fit. "Closing rules do not fit under claim 2".
+// A step of A-Conf or S-Conf, which closes the branch where it fits. "Closing rules do not fit under claim 2".
 fn take_closing(
     ticket: &[u8],
     s: Progress,
@@ -46,21 +47,21 @@ fn take_closing(
     work: &[i64],
     count: usize,
     labels: [u8; NODE_COUNT],
-) -> Action
+) -> Result<Action, Fault>
     requires ready_under { ReadyUnder claim rule ticket.now s «record» size work.now count }
     requires rule_value { (conclusions_of (rule_named rule) ≡ Nothing) × Labelled rule labels work.now count }
-    ensures number { (pending : ℕ) → number_of result ≡ tried_at claim ticket.now s «record» work.now count pending }
-    ensures acts { (pending : ℕ) → ActsOn claim ticket.now s «record» pending work.now count work.now result }
+    ensures number { (pending : ℕ) → fault_in result ≡ tried_at claim ticket.now s «record» work.now count pending }
+    ensures acts { (pending : ℕ) → IfOk result (λ a. ActsOn claim ticket.now s «record» pending work.now count work.now a) }
 {
     match claim {
         Claim::NoSolution => {
             let body = record + RECORD_HEAD;
             if !conclusions::closes(ticket, s, rule, body, size, work, count, labels) {
-                return Action::Refused(8);
+                return Err(Fault::DoesNotFit);
             }
-            Action::Closes
+            Ok(Action::Closes)
         }
-        Claim::Strings => Action::Refused(8),
+        Claim::Strings => Err(Fault::DoesNotFit),
     }
 }
 
@@ -74,17 +75,14 @@ fn take_conclusion(
     work: &mut [i64],
     count: usize,
     labels: [u8; NODE_COUNT],
-) -> Action
+) -> Result<Action, Fault>
     requires ready_by { ReadyBy rule One ticket.now s («record» + 6) size work.old count × (size ≡ size_of ticket.now «record») }
     requires labelled { Labelled rule labels work.old count }
     ensures { ConcludesUnder ticket.now s «record» size work.old count work.new result }
 {
     let body = record + RECORD_HEAD;
-    let fault = conclusions::conclude(ticket, s, rule, body, size, work, count, labels);
-    if fault != 0 {
-        return Action::Refused(fault);
-    }
-    Action::Extends(count + 1)
+    conclusions::conclude(ticket, s, rule, body, size, work, count, labels)?;
+    Ok(Action::Extends(count + 1))
 }
 
 // The child of a split that begins: the first under claim 1, the one taken under claim 2.
@@ -105,9 +103,10 @@ fn begun_as(claim: Claim, last: usize, begun: usize) -> Action
     match claim {
         Claim::NoSolution => {
             if last <= 1 {
-                return Action::Extends(begun);
+                Action::Extends(begun)
+            } else {
+                Action::Splits(begun, last)
             }
-            Action::Splits(begun, last)
         }
         Claim::Strings => Action::Extends(begun),
     }
@@ -124,20 +123,17 @@ fn take_split(
     work: &mut [i64],
     count: usize,
     pending: usize,
-) -> Action
+) -> Result<Action, Fault>
     requires { ReadyUnder claim rule ticket.now s «record» size work.old count × (conclusions_of (rule_named rule) ≡ Several) }
-    ensures number { number_of result ≡ tried_at claim ticket.now s «record» work.old count pending }
-    ensures acts { ActsOn claim ticket.now s «record» pending work.old count work.new result }
+    ensures number { fault_in result ≡ tried_at claim ticket.now s «record» work.old count pending }
+    ensures acts { IfOk result (λ a. ActsOn claim ticket.now s «record» pending work.old count work.new a) }
 {
     let body = record + RECORD_HEAD;
-    let fault = split_fault(ticket, s, claim, rule, body, size, work, count, pending);
-    if fault != 0 {
-        return Action::Refused(fault);
-    }
+    split_fault(ticket, s, claim, rule, body, size, work, count, pending)?;
     let last = steps::child_count(rule, s.n, size);
     let child = begun_child(ticket, claim, body);
     let begun = put_child(ticket, s, rule, body, size, work, count, child);
-    begun_as(claim, last, begun)
+    Ok(begun_as(claim, last, begun))
 }
 
 // The step in the record at a position, with the labels of the branch where its rule asks for classes.
@@ -152,10 +148,10 @@ pub fn take_step(
     count: usize,
     pending: usize,
     labels: [u8; NODE_COUNT],
-) -> Action
+) -> Result<Action, Fault>
     requires { ReadyUnder claim rule ticket.now s «record» size work.old count × Labelled rule labels work.old count }
-    ensures number { number_of result ≡ tried_at claim ticket.now s «record» work.old count pending }
-    ensures acts { ActsOn claim ticket.now s «record» pending work.old count work.new result }
+    ensures number { fault_in result ≡ tried_at claim ticket.now s «record» work.old count pending }
+    ensures acts { IfOk result (λ a. ActsOn claim ticket.now s «record» pending work.old count work.new a) }
 {
     match steps::conclusions_of(rule) {
         Conclusions::Nothing => {
@@ -190,7 +186,5 @@ pub fn next_child(ticket: &[u8], s: Progress, work: &mut [i64], b: Branch, split
         split.mark as usize,
         split.child as usize,
     );
-    let cut = b.cut_back();
-    let begun = cut.take_next_child();
-    begun.extend(count)
+    b.cut_back().take_next_child().extend(count)
 }

@@ -11,8 +11,10 @@ use Rattle.format.specs.Checking as format
 use Rattle.format.specs.Checking.{verdict}
 use Rattle.format.specs.Answer.{encode}
 use Rattle.format.specs.Demands.{answer_after}
-use Rattle.deciding.specs.declared.Outcome.{Outcome}
-use Rattle.deciding.specs.Outcomes.{told}
+use Rattle.std.specs.Prelude.{Result}
+use Rattle.faults.specs.declared.Refusal.{Refusal}
+use Rattle.deciding.specs.declared.Verdict.{Verdict}
+use Rattle.deciding.specs.Outcomes.{told, told_by}
 use Rattle.checking.specs.Outcomes.{Promised}
 use Rattle.lines.specs.Lines.{strings_line}
 use Rattle.lines.specs.Put.{Put}
@@ -28,8 +30,8 @@ same_lines ticket buffer format.NoSolution set e = refl
 same_lines ticket buffer (format.Strings a) set e =
     ap (λ l. strings_line ++ l) (answer_lines_law work_numbers answer_bytes ticket a (drop (length (encode a)) buffer) e)
 
-pub reported : {ticket : List ℕ} {work work' : List ℤ} {answer answer' out out' : List ℕ} {o : Outcome} {to : ℕ} → Promised ticket work work' answer answer' o
-    → length work ≡ work_numbers → length answer ≡ answer_bytes → Put out 0 (lines_by o answer') out' to → to ≤ length out' → Reports ticket out out' to
+pub reported : {ticket : List ℕ} {work work' : List ℤ} {answer answer' out out' : List ℕ} {o : Result Verdict Refusal} {to : ℕ} → Promised ticket work work' answer answer' o
+    → length work ≡ work_numbers → length answer ≡ answer_bytes → Put out 0 (lines_by (told_by o) answer') out' to → to ≤ length out' → Reports ticket out out' to
 reported {ticket} {answer = answer} {out' = out'} {to = to} k e f p h =
     let outcome : k.outcome ≡ verdict work_numbers answer_bytes ticket = k.checked.outcome ∙ ap₂ (λ w a. verdict w a ticket) e f in
     record {

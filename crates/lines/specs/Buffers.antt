@@ -3,8 +3,7 @@ use Rattle.std.specs.Prelude.{ℕ, suc, ◌+◌, ◌/◌, true, false, List, [],
 use Rattle.format.specs.Fields.{i32s}
 use Rattle.format.specs.Records.{size, kind, whole, records}
 use Rattle.format.specs.Places.{text_at}
-use Rattle.deciding.specs.declared.Outcome.{Outcome}
-use Rattle.deciding.specs.declared.Outcome.TheVariants.{Refused, NoSolution, Strings}
+use Rattle.deciding.specs.Outcomes.{Told, Refused, NoSolution, Strings}
 use Rattle.lines.specs.Lines.{refused_line, none_line, strings_line, string_line, integer_lines, end_line}
 
 -- of the records left, by their positions, the first of which has number k
@@ -19,7 +18,7 @@ record_lines b k (at ∷ ats) = elim (whole b at) [
 ]
 
 -- the lines for what checking tells, with the answer at the front of a buffer
-unfoldable pub lines_by : Outcome → List ℕ → List ℕ
+unfoldable pub lines_by : Told → List ℕ → List ℕ
 lines_by (Refused c r) answer = refused_line c r
 lines_by (NoSolution low high) answer = none_line
 lines_by Strings answer = strings_line ++ record_lines answer 0 (records answer 0)

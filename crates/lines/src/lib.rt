@@ -2,16 +2,19 @@
 #![tactic(auto)]
 
 ghost use Rattle.std.specs.Prelude.{◌≡◌, [], ◌∷◌, ◌++◌, ◌+◌, ◌*◌, ◌≤◌, ◌<◌, length};
+ghost use Rattle.faults.specs.Numbers.{number};
 ghost use Rattle.format.specs.Fields.{u32s, i32s, signed};
 ghost use Rattle.format.specs.Records.{records};
+ghost use Rattle.deciding.specs.Outcomes.{told_by};
 ghost use Rattle.lines.specs.Lines.{digits, decimal, integer, spaced, refused_line, string_line, integer_line, integer_lines, end_line};
 ghost use Rattle.lines.specs.Buffers.{record_lines, lines_by};
 ghost use Rattle.lines.specs.Reports.{Reports};
 ghost use Rattle.lines.specs.Pages.{Puts, Room};
 
 use checking::check_ticket;
-use deciding::Outcome;
+use deciding::Verdict;
 use encoding::{KIND_VALUE, RECORD_HEAD};
+use faults::Refusal;
 use limits::{ANSWER_BYTES, REPORT_BYTES, WORK_NUMBERS};
 use records::{Found, read_at, u32_at};
 
@@ -90,14 +93,14 @@ impl Page<'_> {
     // ---- lines
 
     // "`refused 13 at 4` (number, record)"
-    fn refused(&mut self, number: usize, at_record: usize)
+    fn refused(&mut self, refusal: Refusal)
         requires { Room self.old 53 }
-        ensures { Puts self.old (refused_line number at_record) 53 self.new }
+        ensures { Puts self.old (refused_line (number refusal.fault) refusal.«record») 53 self.new }
     {
         self.text(b"refused ");
-        self.decimal(number);
+        self.decimal(refusal.fault.number());
         self.text(b" at ");
-        self.decimal(at_record);
+        self.decimal(refusal.record);
         self.byte(b'\n');
     }
 
@@ -176,15 +179,15 @@ impl Page<'_> {
 
     // ---- the program's lines
 
-    // The lines for an outcome of checking, with the answer buffer as it was left.
-    fn outcome(&mut self, outcome: Outcome, answer: &[u8])
+    // The lines for what checking tells, with the answer buffer as it was left.
+    fn outcome(&mut self, outcome: Result<Verdict, Refusal>, answer: &[u8])
         requires { Room self.old (12 * length answer.now + 64) }
-        ensures { Puts self.old (lines_by outcome answer.now) (12 * length answer.now + 64) self.new }
+        ensures { Puts self.old (lines_by (told_by outcome) answer.now) (12 * length answer.now + 64) self.new }
     {
         match outcome {
-            Outcome::Refused(c, r) => self.refused(c, r),
-            Outcome::NoSolution(_, _) => self.text(b"verdict none\n"),
-            Outcome::Strings => {
+            Err(refusal) => self.refused(refusal),
+            Ok(Verdict::NoSolution(_)) => self.text(b"verdict none\n"),
+            Ok(Verdict::Strings) => {
                 self.text(b"verdict strings\n");
                 self.records(answer);
             }

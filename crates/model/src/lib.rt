@@ -1,11 +1,12 @@
 // The model: "7 model, claim 2 only, once", what is tested at it, and the answer that it gives.
 #![tactic(auto)]
 
-ghost use Rattle.std.specs.Prelude.{◌≡◌, List, ◌++◌, ◌+◌, ◌*◌, ◌-◌, ◌≤◌, length, ℤ};
+ghost use Rattle.std.specs.Prelude.{◌≡◌, List, ◌++◌, ◌+◌, ◌*◌, ◌-◌, ◌≤◌, length, ℤ, IfOk};
 ghost use Rattle.calculus.specs.Limits.{column_limit, answer_bytes};
 ghost use Rattle.calculus.specs.LinearForms.{zeros};
 ghost use Rattle.calculus.specs.Facts.{Branch};
 ghost use Rattle.calculus.specs.Classes as calculus;
+ghost use Rattle.faults.specs.Numbers.{fault_in};
 ghost use Rattle.format.specs.Fields.{i32s};
 ghost use Rattle.format.specs.Checking.{Strings, leaf_fault, answer_of};
 ghost use Rattle.format.specs.Demands.{answer_after};
@@ -17,6 +18,7 @@ ghost use Rattle.model.specs.Settled.{values, model_of, fault_of, Filled, Writab
 
 use answer::write_answer;
 use delimiters::model_fault;
+use faults::Fault;
 use limits::{LENGTH_LIMIT, NODE_COUNT, VARIABLE_LIMIT};
 use question::Progress;
 use records::i32_at;
@@ -44,33 +46,27 @@ fn leaf_fault(
     model: &[i64],
     s: Progress,
     labels: [u8; NODE_COUNT],
-) -> usize
+) -> Result<(), Fault>
     requires posed { Posed ticket.now s × Filled model.now s × LiteralsAt ticket.now places.now s }
     requires fine { Fine work.now count × (labels ≡ calculus.labels (branch_of work.now count)) }
-    ensures { result ≡ leaf_fault (asked ticket.now s) (branch_of work.now count) (values s model.now) }
+    ensures { fault_in result ≡ leaf_fault (asked ticket.now s) (branch_of work.now count) (values s model.now) }
 {
     if !rows::keeps_facts(work, count, model) {
-        return 12;
+        return Err(Fault::BreaksFact);
     }
     let columns = s.q + (s.p + s.p);
     let values = &model[..columns];
     if !leaf::settled(ticket, places, work, count, values, s, &labels) {
-        return 13;
+        return Err(Fault::NotSettled);
     }
     if !leaf::short_lengths(values, s) {
-        return 14;
+        return Err(Fault::LongString);
     }
-    0
+    Ok(())
 }
 
-// The first number that applies to a model's record, 0 for none, and the leaf's labels, which the answer is written by.
-#[derive(Drop)]
-pub struct Settled {
-    pub fault: usize,
-    pub labels: [u8; NODE_COUNT],
-}
-
-// The record of a model with its body at a position, on the branch of the first count rows. The model's numbers are filled into zeros.
+// The record of a model with its body at a position, on the branch of the first count rows. The model's numbers are filled into zeros. A leaf that is settled by
+// them gives its labels, which the answer is written by.
 pub fn settle(
     ticket: &[u8],
     places: &[usize],
@@ -80,24 +76,18 @@ pub fn settle(
     work: &[i64],
     count: usize,
     model: &mut [i64],
-) -> Settled
+) -> Result<[u8; NODE_COUNT], Fault>
     requires { Posed ticket.now s × (at + size ≤ length ticket.now) × Fine work.now count × LiteralsAt ticket.now places.now s
         × (model.old ≡ zeros column_limit) }
-    ensures fault { result.fault ≡ fault_of ticket.now s (branch_of work.now count) at size }
-    ensures settled { result.fault ≡ 0 → Answers ticket.now places.now s (branch_of work.now count)
-        (model_of ticket.now s at) result.labels model.new }
+    ensures fault { fault_in result ≡ fault_of ticket.now s (branch_of work.now count) at size }
+    ensures settled { IfOk result (λ labels. Answers ticket.now places.now s (branch_of work.now count)
+        (model_of ticket.now s at) labels model.new) }
 {
-    let labels = classes::labels(work, count);
-    let form = model_fault(ticket, s, at, size);
-    if form != 0 {
-        return Settled {
-            fault: form,
-            labels,
-        };
-    }
+    model_fault(ticket, s, at, size)?;
     read_model(model, ticket, at, s.q + (s.p + s.p));
-    let fault = leaf_fault(ticket, places, work, count, model, s, labels);
-    Settled { fault, labels }
+    let labels = classes::labels(work, count);
+    leaf_fault(ticket, places, work, count, model, s, labels)?;
+    Ok(labels)
 }
 
 // "The strings .. The integers are the model's": the answer of a leaf that is settled by its model.

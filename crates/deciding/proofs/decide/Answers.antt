@@ -1,4 +1,5 @@
 use mathlib.Core.Path.{◌∙◌, ap, sym}
+use Rattle.std.proofs.lemmas.Result.{err_from_is_err_and}
 use Rattle.deciding.proofs.Outcomes.{decided_by, refused}
 use Rattle.deciding.proofs.Posing.{read_to}
 use Rattle.format.specs.Checking.{checker, outcome_of}
@@ -9,28 +10,23 @@ use Rattle.deciding.proofs.decide.Goals as goal
 pub behind_question-requires : goal.behind_question-requires
 unfolding reading_of
 behind_question-requires c =
-    let read-question-call = c.read_question in
-    let pre = c.requires in
-    let s = c.args in
-    let b = s.ticket.now in
-    let end = c.in-Ended in record {
-      read_to_claim = read_to b end.s end.at end.r (sym read-question-call.ensures ∙ ap (reading_of b) c.in-Ended.is);
-      work_numbers_in_bounds = pre;
+    let b = c.args.ticket.now in
+    record {
+      read_to_claim = read_to b _ _ _ (sym c.read_question.ensures ∙ ap (reading_of b) c.in_ok-read_question.was);
+      work_numbers_in_bounds = c.requires;
     }
 
-pub returns-in-Stopped : goal.returns-in-Stopped
+pub returns-in_err-read_question : goal.returns-in_err-read_question
 unfolding reading_of
-returns-in-Stopped c =
-    let s = c.args in
-    let b = s.ticket.now in
-    refused s.answer.now
-    (ap (λ g. outcome_of (read_behind checker b g)) (sym c.read_question.ensures ∙ ap (reading_of b) c.in-Stopped.is))
+returns-in_err-read_question c =
+    let b = c.args.ticket.now in
+    let p = err_from_is_err_and c.from_residual.result c.from_residual.ensures.1 in
+    rw (p.1, p.2) (refused c.args.answer.now
+    (ap (λ g. outcome_of (read_behind checker b g)) (sym c.read_question.ensures ∙ ap (reading_of b) c.in_err-read_question.was)))
 
-pub returns-in-Ended : goal.returns-in-Ended
+pub returns : goal.returns
 unfolding reading_of
-returns-in-Ended c =
-    let read-question-call = c.read_question in
-    let s = c.args in
-    let b = s.ticket.now in
-    decided_by (ap (λ g. outcome_of (read_behind checker b g)) (sym read-question-call.ensures ∙ ap (reading_of b) c.in-Ended.is))
+returns c =
+    let b = c.args.ticket.now in
+    decided_by (ap (λ g. outcome_of (read_behind checker b g)) (sym c.read_question.ensures ∙ ap (reading_of b) c.in_ok-read_question.was))
     c.behind_question.ensures

@@ -22,13 +22,13 @@ put_child-count-requires c =
     puts_next c.requires.0 c.requires.1 c.args.split c.requires.2 rule.result (rule.ensures ∙ ap rule_of u16-at.ensures.0) size.result
     size.ensures.0 in record { ready_by = puts.0; k_value = puts.1 }
 
-pub cut_back-cut-requires : goal.cut_back-cut-requires
-cut_back-cut-requires c =
+pub cut_back-requires : goal.cut_back-requires
+cut_back-requires c =
     (c.requires.1, few_splits c.requires.0)
 
-pub take_next_child-begun-requires : goal.take_next_child-begun-requires
-take_next_child-begun-requires c =
-    let same = cut_depth c.args.b c.cut_back-cut.result c.cut_back-cut.ensures.1 in
+pub take_next_child-requires : goal.take_next_child-requires
+take_next_child-requires c =
+    let same = cut_depth c.args.b c.cut_back.result c.cut_back.ensures.1 in
     (rw same c.requires.1, rw same (few_splits c.requires.0))
 
 pub returns : goal.returns
@@ -38,7 +38,7 @@ returns c =
     let begun =
     next_begins c.requires.0 c.requires.1 c.args.split c.requires.2 w c.extend.result size.result c.put_child-count.result
     size.ensures.0 c.extend.ensures.0 c.put_child-count.ensures.added c.put_child-count.ensures.fine
-    (c.extend.ensures.1 ∙ c.take_next_child-begun.ensures.1 ∙ ap begun_of c.cut_back-cut.ensures.1) in
+    (c.extend.ensures.1 ∙ c.take_next_child.ensures.1 ∙ ap begun_of c.cut_back.ensures.1) in
     let below =
     keeps_below c.requires.0 c.requires.1 c.args.split c.requires.2 w c.extend.result size.result c.put_child-count.result c.extend.ensures.0
     c.put_child-count.ensures.added in

@@ -1,6 +1,5 @@
 use borrow.Author.Tests.{not-true, not-false}
 use mathlib.Core.Path.{refl, sym, ◌∙◌, ap, subst}
-use native.Mathlib.Omega.{arith}
 use Rattle.delimiters.specs.declared.Claim.{Claim}
 use Rattle.rows.specs.Rows.{branch_of}
 use Rattle.question.specs.Posed.{asked}
@@ -30,7 +29,7 @@ returns-then-not-closes c =
     (ap closing_of (sym (not-true _ c.if-not-closes.true-raw)) ∙ c.closes.ensures) in record {
       number = λ pending. eight pending
           ∙ ap (λ (x : Claim). tried_at x b a.s a.«record» w a.count pending) (sym c.in-NoSolution.is);
-      acts = λ pending n. omega arith;
+      acts = λ pending. tt;
     }
 
 pub returns-else-not-closes : goal.returns-else-not-closes
@@ -58,5 +57,5 @@ returns-in-Strings c =
     let sized = c.requires.ready_under.sized in record {
       number = λ pending. none_to_take b a.s a.«record» a.size sized w a.count c.requires.ready_under.ready (its_kind (ready_by c.requires.ready_under c.requires.rule_value.0)) pending
           ∙ ap (λ (x : Claim). tried_at x b a.s a.«record» w a.count pending) (sym c.in-Strings.is);
-      acts = λ pending n. omega arith;
+      acts = λ pending. tt;
     }

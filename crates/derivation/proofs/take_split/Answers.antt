@@ -2,6 +2,7 @@ use Prim.Native.Nat.{◌+◌}
 use lib.ListN.{length}
 use mathlib.Core.Path.{◌≡◌, sym, ◌∙◌, ap, subst}
 use native.Mathlib.Omega.{arith}
+use Rattle.std.proofs.lemmas.Result.{err_from_is_err_and}
 use Rattle.calculus.specs.Steps.{shape}
 use Rattle.format.specs.StepForms.{step_at}
 use Rattle.question.specs.Posed.{asked}
@@ -9,8 +10,8 @@ use Rattle.steps.specs.declared.Conclusions.TheVariants.{Several}
 use Rattle.steps.specs.Offered.{with_child, child_fault}
 use Rattle.steps.specs.Ready.{ReadyBy}
 use Rattle.steps.proofs.Bodies.{four_bytes, form_fits, shape_by}
-use Rattle.derivation.specs.Actions.{number_of, Acts}
-use Rattle.derivation.proofs.Taking.{ready_by, by_size, begun_number, begun_fits, begun_acts}
+use Rattle.derivation.specs.Actions.{Acts}
+use Rattle.derivation.proofs.Taking.{ready_by, by_size, begun_fits, begun_acts}
 use Rattle.derivation.proofs.take_split.Goals as goal
 use Rattle.derivation.proofs.take_split.Goals.{After-child_count-last, Start}
 
@@ -25,22 +26,20 @@ counted : (c : After-child_count-last) → let a = c.args in
 counted c =
     c.child_count-last.ensures c.args.ticket.now (c.args.«record» + 6) ∙ ap length (shape_by (by_rule (goal.at.After-child_count-last c).Start) c.args.s.n)
 
-pub split_fault-fault-requires : goal.split_fault-fault-requires
-split_fault-fault-requires c = record {
-  ready_by = by_rule (goal.at.split_fault-fault-requires c).Start;
+pub split_fault-requires : goal.split_fault-requires
+split_fault-requires c = record {
+  ready_by = by_rule (goal.at.split_fault-requires c).Start;
   size_value = c.requires.0.field;
 }
 
-pub returns-then-fault-ne0 : goal.returns-then-fault-ne0
-unfolding Acts
-returns-then-fault-ne0 c =
+pub returns-in_err-split_fault : goal.returns-in_err-split_fault
+returns-in_err-split_fault c =
     let a = c.args in
-    let b = a.ticket.now in
-    let w = a.work.now in
-    let f = c.split_fault-fault in record {
-      number = by_size b a.s a.«record» a.size c.requires.0.sized w a.count a.claim a.pending f.result f.ensures;
-      acts = c.if-fault-ne0.true;
-    }
+    let p = err_from_is_err_and c.from_residual.result c.from_residual.ensures.1 in
+    rw (p.1, p.2) (record {
+      number = by_size a.ticket.now a.s a.«record» a.size c.requires.0.sized a.work.now a.count a.claim a.pending _ c.in_err-split_fault.ensures;
+      acts = tt;
+    })
 
 pub child_count-last-requires : goal.child_count-last-requires
 child_count-last-requires c = form_fits (by_rule (goal.at.child_count-last-requires c).Start)
@@ -51,34 +50,28 @@ begun_child-child-requires c =
 
 pub put_child-begun-requires : goal.put_child-begun-requires
 put_child-begun-requires c =
-    let if1 = c.if-fault-ne0 in
-    let split_fault = c.split_fault-fault in
     let a = c.args in
     let b = a.ticket.now in
     let w = a.work.now in record {
       ready_by = by_rule (goal.at.put_child-begun-requires c).Start;
       k_value = ap (λ k. child_fault b a.s (a.«record» + 6) a.size w a.count k) c.begun_child-child.ensures
           ∙ begun_fits b a.s a.«record» a.size c.requires.0.sized w a.count a.rule (by_rule (goal.at.put_child-begun-requires c).Start) a.pending a.claim
-          (sym split_fault.ensures ∙ if1.false);
+          (sym c.in_ok-split_fault.ensures);
     }
 
 pub returns : goal.returns
 returns c =
-    let if1 = c.if-fault-ne0 in
-    let split_fault = c.split_fault-fault in
     let a = c.args in
     let b = a.ticket.now in
     let w = a.work.now in
     let last = c.child_count-last.result in
-    let zero = sym split_fault.ensures ∙ if1.false in
+    let zero = c.in_ok-split_fault.ensures in
     let rows =
     c.put_child-begun.ensures.added
     ∙ ap (λ k. with_child b a.s (a.«record» + 6) a.size w a.count k) c.begun_child-child.ensures in
     let acts =
     begun_acts b a.s a.«record» a.size c.requires.0.sized w a.count a.rule (by_rule (goal.at.returns c).Start) a.pending a.claim last c.put_child-begun.result
-    c.put_child-begun.new.work (counted (goal.at.returns c).After-child_count-last) zero rows c.put_child-begun.ensures.fine in record {
-      number = ap number_of c.begun_as.ensures
-          ∙ begun_number a.claim last c.put_child-begun.result
-          ∙ by_size b a.s a.«record» a.size c.requires.0.sized w a.count a.claim a.pending 0 (sym zero);
+    c.put_child-begun.new.work (counted (goal.at.returns c).After-child_count-last) (sym zero) rows c.put_child-begun.ensures.fine in record {
+      number = by_size b a.s a.«record» a.size c.requires.0.sized w a.count a.claim a.pending 0 zero;
       acts = subst (Acts a.claim b (asked b a.s) a.«record» a.pending w a.count c.put_child-begun.new.work) (sym c.begun_as.ensures) acts;
     }

@@ -1,10 +1,10 @@
 use mathlib.Core.Path.{ap}
 use Rattle.cores.specs.declared.Words.{Words}
 use Rattle.claims.specs.declared.Grounds.{Grounds}
-use Rattle.claims.proofs.with_closing.Goals as goal
+use Rattle.claims.proofs.Grounds.with_closing.Goals as goal
 
 pub returns : goal.returns
-returns c = ap (with-core c.args.grounds) c.union_of-core.ensures
+returns c = ap (with-core c.args.self) c.union_of.ensures
   where
     with-core : Grounds → Words → Grounds
     with-core g x = record { unions = g.unions; roots = g.roots; core = x }

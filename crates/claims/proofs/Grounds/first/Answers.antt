@@ -2,7 +2,7 @@ use mathlib.Core.Path.{sym, subst}
 use Rattle.delimiters.specs.declared.Claim.{Claim}
 use Rattle.claims.specs.Steps.{FirstGrounds}
 use Rattle.claims.proofs.Keeping.{first_grounds}
-use Rattle.claims.proofs.first_grounds.Goals as goal
+use Rattle.claims.proofs.Grounds.first.Goals as goal
 
 pub returns-in-NoSolution : goal.returns-in-NoSolution
 returns-in-NoSolution c =
