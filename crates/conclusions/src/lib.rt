@@ -29,7 +29,7 @@ use faults::Fault;
 use limits::{FACT_LIMIT, NODE_COUNT, ROW_LENGTH};
 use question::{Progress, column_of};
 use records::{u16_at, u32_at};
-use steps::{OPERANDS, Rule};
+use steps::{OPERANDS, Rule, Step};
 
 // ---- classes
 
@@ -69,19 +69,17 @@ fn s_conf(literals: usize, work: &[i64], count: usize, labels: [u8; NODE_COUNT])
 pub fn closes(
     ticket: &[u8],
     s: Progress,
-    rule: Rule,
-    body: usize,
-    size: usize,
+    step: Step,
     work: &[i64],
     count: usize,
     labels: [u8; NODE_COUNT],
 ) -> bool
-    requires ready_by { ReadyBy rule Nothing ticket.now s body size work.now count }
-    requires labelled { Labelled rule labels work.now count }
-    ensures { closing_of result ≡ offered_on ticket.now s body size work.now count }
+    requires ready_by { ReadyBy step.rule Nothing ticket.now s step.body step.size work.now count }
+    requires labelled { Labelled step.rule labels work.now count }
+    ensures { closing_of result ≡ offered_on ticket.now s step.body step.size work.now count }
 {
-    match rule {
-        Rule::AConf => a_conf(u16_at(ticket, body + OPERANDS), work, count),
+    match step.rule {
+        Rule::AConf => a_conf(u16_at(ticket, step.body + OPERANDS), work, count),
         Rule::SConf => s_conf(s.literals, work, count, labels),
         _ => false,
     }
@@ -200,30 +198,28 @@ fn join(j: usize, k: usize, work: &mut [i64], count: usize) -> Result<(), Fault>
 pub fn conclude(
     ticket: &[u8],
     s: Progress,
-    rule: Rule,
-    body: usize,
-    size: usize,
+    step: Step,
     work: &mut [i64],
     count: usize,
     labels: [u8; NODE_COUNT],
 ) -> Result<(), Fault>
-    requires ready_by { ReadyBy rule One ticket.now s body size work.old count }
-    requires labelled { Labelled rule labels work.old count }
-    ensures fault { fault_in result ≡ child_fault ticket.now s body size work.old count 1 }
-    ensures added { OnOk result (branch_of work.new (count + 1) ≡ with_child ticket.now s body size work.old count 1) }
+    requires ready_by { ReadyBy step.rule One ticket.now s step.body step.size work.old count }
+    requires labelled { Labelled step.rule labels work.old count }
+    ensures fault { fault_in result ≡ child_fault ticket.now s step.body step.size work.old count 1 }
+    ensures added { OnOk result (branch_of work.new (count + 1) ≡ with_child ticket.now s step.body step.size work.old count 1) }
     ensures fine { OnOk result (Fine work.new (count + 1)) }
 {
-    let first = u16_at(ticket, body + OPERANDS);
-    match rule {
-        Rule::Sum => sum(ticket, body, size, work, count),
+    let first = u16_at(ticket, step.body + OPERANDS);
+    match step.rule {
+        Rule::Sum => sum(ticket, step.body, step.size, work, count),
         Rule::SProp => {
-            let x = u16_at(ticket, body + 6);
-            let y = u16_at(ticket, body + 8);
+            let x = u16_at(ticket, step.body + 6);
+            let y = u16_at(ticket, step.body + 8);
             s_prop(s.p, s.q, first, x, y, work, count, labels)
         }
         Rule::LIntro => of_literal(ticket, s, LEN, first, work, count, labels),
         Rule::CCollapse => of_literal(ticket, s, CODE, first, work, count, labels),
-        Rule::Join => join(first, u16_at(ticket, body + 6), work, count),
+        Rule::Join => join(first, u16_at(ticket, step.body + 6), work, count),
         _ => Err(Fault::DoesNotFit),
     }
 }

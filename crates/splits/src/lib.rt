@@ -26,7 +26,7 @@ use limits::ROW_LENGTH;
 use question::{Progress, column_of};
 use records::{fields_at, u16_at};
 use rows::{CONSTANT, TAG_NE};
-use steps::{OPERANDS, Rule};
+use steps::{OPERANDS, Rule, Step};
 
 // ---- whether a step fits
 
@@ -99,24 +99,22 @@ fn card_fits(b: &[u8], s: Progress, at: usize, m: usize, work: &[i64], count: us
 pub fn fits(
     ticket: &[u8],
     s: Progress,
-    rule: Rule,
-    body: usize,
-    size: usize,
+    step: Step,
     work: &[i64],
     count: usize,
 ) -> bool
-    requires { ReadyBy rule Several ticket.now s body size work.now count }
-    ensures { result ≡ fitting (offered_on ticket.now s body size work.now count) }
+    requires { ReadyBy step.rule Several ticket.now s step.body step.size work.now count }
+    ensures { result ≡ fitting (offered_on ticket.now s step.body step.size work.now count) }
 {
-    match rule {
+    match step.rule {
         Rule::Branch | Rule::LValid | Rule::CValid => true,
-        Rule::Apart => parts(work, count, u16_at(ticket, body + OPERANDS)),
-        Rule::CInj => u16_at(ticket, body + OPERANDS) != u16_at(ticket, body + 6),
+        Rule::Apart => parts(work, count, u16_at(ticket, step.body + OPERANDS)),
+        Rule::CInj => u16_at(ticket, step.body + OPERANDS) != u16_at(ticket, step.body + 6),
         Rule::Card => card_fits(
             ticket,
             s,
-            body + OPERANDS,
-            (size - OPERANDS) / 2,
+            step.body + OPERANDS,
+            (step.size - OPERANDS) / 2,
             work,
             count,
         ),
@@ -226,21 +224,19 @@ fn put_card(work: &mut [i64], count: usize, b: &[u8], s: Progress, at: usize, m:
 fn put_fact(
     ticket: &[u8],
     s: Progress,
-    rule: Rule,
-    body: usize,
-    size: usize,
+    step: Step,
     work: &mut [i64],
     count: usize,
     k: usize,
 )
-    requires ready_by { ReadyBy rule Several ticket.now s body size work.old count }
-    requires rule_value { (one_each (rule_named rule) ≡ true) × (count < fact_limit) }
-    requires k_value { fitting (child_of ticket.now s body size work.old count k) ≡ true }
-    ensures { branch_of work.new (count + 1) ≡ with_child ticket.now s body size work.old count k }
+    requires ready_by { ReadyBy step.rule Several ticket.now s step.body step.size work.old count }
+    requires rule_value { (one_each (rule_named step.rule) ≡ true) × (count < fact_limit) }
+    requires k_value { fitting (child_of ticket.now s step.body step.size work.old count k) ≡ true }
+    ensures { branch_of work.new (count + 1) ≡ with_child ticket.now s step.body step.size work.old count k }
 {
-    let at = body + OPERANDS;
-    match rule {
-        Rule::Branch => put_branch(work, count, ticket, at, (size - 8) / 6, k),
+    let at = step.body + OPERANDS;
+    match step.rule {
+        Rule::Branch => put_branch(work, count, ticket, at, (step.size - 8) / 6, k),
         Rule::Apart => put_apart(work, count, u16_at(ticket, at), k),
         Rule::LValid => put_l_valid(work, count, s, u16_at(ticket, at), k),
         Rule::CInj => put_c_inj(
@@ -248,10 +244,10 @@ fn put_fact(
             count,
             s,
             u16_at(ticket, at),
-            u16_at(ticket, body + 6),
+            u16_at(ticket, step.body + 6),
             k,
         ),
-        Rule::Card => put_card(work, count, ticket, s, at, (size - OPERANDS) / 2, k),
+        Rule::Card => put_card(work, count, ticket, s, at, (step.size - OPERANDS) / 2, k),
         _ => {}
     }
 }
@@ -299,22 +295,20 @@ fn put_c_valid(work: &mut [i64], count: usize, s: Progress, x: usize, k: usize) 
 pub fn put_child(
     ticket: &[u8],
     s: Progress,
-    rule: Rule,
-    body: usize,
-    size: usize,
+    step: Step,
     work: &mut [i64],
     count: usize,
     k: usize,
 ) -> usize
-    requires ready_by { ReadyBy rule Several ticket.now s body size work.old count }
-    requires k_value { child_fault ticket.now s body size work.old count k ≡ 0 }
-    ensures added { branch_of work.new result ≡ with_child ticket.now s body size work.old count k }
+    requires ready_by { ReadyBy step.rule Several ticket.now s step.body step.size work.old count }
+    requires k_value { child_fault ticket.now s step.body step.size work.old count k ≡ 0 }
+    ensures added { branch_of work.new result ≡ with_child ticket.now s step.body step.size work.old count k }
     ensures fine { Fine work.new result }
 {
-    match rule {
-        Rule::CValid => put_c_valid(work, count, s, u16_at(ticket, body + OPERANDS), k),
+    match step.rule {
+        Rule::CValid => put_c_valid(work, count, s, u16_at(ticket, step.body + OPERANDS), k),
         _ => {
-            put_fact(ticket, s, rule, body, size, work, count, k);
+            put_fact(ticket, s, step, work, count, k);
             count + 1
         }
     }
@@ -349,20 +343,18 @@ fn branch_within(b: &[u8], at: usize, pairs: usize, k: usize) -> bool
 pub fn child_within(
     ticket: &[u8],
     s: Progress,
-    rule: Rule,
-    body: usize,
-    size: usize,
+    step: Step,
     work: &[i64],
     count: usize,
     k: usize,
 ) -> bool
-    requires ready_by { ReadyBy rule Several ticket.now s body size work.now count }
-    requires k_value { fitting (child_of ticket.now s body size work.now count k) ≡ true }
-    ensures { result ≡ facts_within (or_none (child_of ticket.now s body size work.now count k)) }
+    requires ready_by { ReadyBy step.rule Several ticket.now s step.body step.size work.now count }
+    requires k_value { fitting (child_of ticket.now s step.body step.size work.now count k) ≡ true }
+    ensures { result ≡ facts_within (or_none (child_of ticket.now s step.body step.size work.now count k)) }
 {
-    match rule {
-        Rule::Branch => branch_within(ticket, body + OPERANDS, (size - 8) / 6, k),
-        Rule::Apart => apart_within(work, u16_at(ticket, body + OPERANDS), k),
+    match step.rule {
+        Rule::Branch => branch_within(ticket, step.body + OPERANDS, (step.size - 8) / 6, k),
+        Rule::Apart => apart_within(work, u16_at(ticket, step.body + OPERANDS), k),
         _ => true,
     }
 }
@@ -371,20 +363,18 @@ pub fn child_within(
 pub fn children_within(
     ticket: &[u8],
     s: Progress,
-    rule: Rule,
-    body: usize,
-    size: usize,
+    step: Step,
     work: &[i64],
     count: usize,
 ) -> bool
-    requires ready_by { ReadyBy rule Several ticket.now s body size work.now count }
-    requires count_value { fitting (offered_on ticket.now s body size work.now count) ≡ true }
-    ensures { result ≡ children_within (or_none (offered_on ticket.now s body size work.now count)) }
+    requires ready_by { ReadyBy step.rule Several ticket.now s step.body step.size work.now count }
+    requires count_value { fitting (offered_on ticket.now s step.body step.size work.now count) ≡ true }
+    ensures { result ≡ children_within (or_none (offered_on ticket.now s step.body step.size work.now count)) }
 {
-    match rule {
+    match step.rule {
         Rule::Branch | Rule::Apart => {
-            child_within(ticket, s, rule, body, size, work, count, 1)
-                && child_within(ticket, s, rule, body, size, work, count, 2)
+            child_within(ticket, s, step, work, count, 1)
+                && child_within(ticket, s, step, work, count, 2)
         }
         _ => true,
     }

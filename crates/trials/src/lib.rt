@@ -22,7 +22,7 @@ use faults::Fault;
 use limits::{FACT_LIMIT, PENDING_LIMIT};
 use question::Progress;
 use records::u16_at;
-use steps::{CHILD_FIELD, Rule};
+use steps::{CHILD_FIELD, Rule, Step};
 
 // ---- a split under claim 1
 
@@ -49,21 +49,19 @@ fn room_to_pend(rule: Rule, n: usize, size: usize, pending: usize) -> bool
 fn all_fault(
     ticket: &[u8],
     s: Progress,
-    rule: Rule,
-    body: usize,
-    size: usize,
+    step: Step,
     work: &[i64],
     count: usize,
     pending: usize,
 ) -> Result<(), Fault>
-    requires ready_by { ReadyBy rule Several ticket.now s body size work.now count }
-    requires count_value { fits (offered_on ticket.now s body size work.now count) ≡ true }
-    ensures { fault_in result ≡ all_fault ticket.now s body size work.now count pending }
+    requires ready_by { ReadyBy step.rule Several ticket.now s step.body step.size work.now count }
+    requires count_value { fits (offered_on ticket.now s step.body step.size work.now count) ≡ true }
+    ensures { fault_in result ≡ all_fault ticket.now s step.body step.size work.now count pending }
 {
-    if !splits::children_within(ticket, s, rule, body, size, work, count) {
+    if !splits::children_within(ticket, s, step, work, count) {
         return Err(Fault::PassesLimit);
     }
-    if !room_for_all(rule, count) || !room_to_pend(rule, s.n, size, pending) {
+    if !room_for_all(step.rule, count) || !room_to_pend(step.rule, s.n, step.size, pending) {
         return Err(Fault::NoRoom);
     }
     Ok(())
@@ -75,22 +73,20 @@ fn all_fault(
 fn taken_fault(
     ticket: &[u8],
     s: Progress,
-    rule: Rule,
-    body: usize,
-    size: usize,
+    step: Step,
     work: &[i64],
     count: usize,
     k: usize,
 ) -> Result<(), Fault>
-    requires ready_by { ReadyBy rule Several ticket.now s body size work.now count }
-    requires count_value { fits (offered_on ticket.now s body size work.now count) ≡ true }
-    requires k_value { child_in_range s.n (step_at ticket.now body size) k ≡ true }
-    ensures { fault_in result ≡ child_fault ticket.now s body size work.now count k }
+    requires ready_by { ReadyBy step.rule Several ticket.now s step.body step.size work.now count }
+    requires count_value { fits (offered_on ticket.now s step.body step.size work.now count) ≡ true }
+    requires k_value { child_in_range s.n (step_at ticket.now step.body step.size) k ≡ true }
+    ensures { fault_in result ≡ child_fault ticket.now s step.body step.size work.now count k }
 {
-    if !splits::child_within(ticket, s, rule, body, size, work, count, k) {
+    if !splits::child_within(ticket, s, step, work, count, k) {
         return Err(Fault::PassesLimit);
     }
-    if FACT_LIMIT - count < steps::child_facts(rule, k) {
+    if FACT_LIMIT - count < steps::child_facts(step.rule, k) {
         return Err(Fault::NoRoom);
     }
     Ok(())
@@ -103,25 +99,23 @@ pub fn split_fault(
     ticket: &[u8],
     s: Progress,
     claim: Claim,
-    rule: Rule,
-    body: usize,
-    size: usize,
+    step: Step,
     work: &[i64],
     count: usize,
     pending: usize,
 ) -> Result<(), Fault>
-    requires ready_by { ReadyBy rule Several ticket.now s body size work.now count }
-    requires size_value { field_fits claim ticket.now s.n body size ≡ true }
-    ensures { fault_in result ≡ tried_under claim ticket.now s body size work.now count pending }
+    requires ready_by { ReadyBy step.rule Several ticket.now s step.body step.size work.now count }
+    requires size_value { field_fits claim ticket.now s.n step.body step.size ≡ true }
+    ensures { fault_in result ≡ tried_under claim ticket.now s step.body step.size work.now count pending }
 {
-    if !splits::fits(ticket, s, rule, body, size, work, count) {
+    if !splits::fits(ticket, s, step, work, count) {
         return Err(Fault::DoesNotFit);
     }
     match claim {
-        Claim::NoSolution => all_fault(ticket, s, rule, body, size, work, count, pending),
+        Claim::NoSolution => all_fault(ticket, s, step, work, count, pending),
         Claim::Strings => {
-            let k = u16_at(ticket, body + CHILD_FIELD);
-            taken_fault(ticket, s, rule, body, size, work, count, k)
+            let k = u16_at(ticket, step.body + CHILD_FIELD);
+            taken_fault(ticket, s, step, work, count, k)
         }
     }
 }

@@ -14,7 +14,7 @@ use Rattle.conclusions.proofs.closes.Goals as goal
 
 pub u16_at-requires : goal.u16_at-requires
 u16_at-requires c =
-    let long : 6 ≤ c.args.size = long c.requires.ready_by.ready a_conf (is_rule c.requires.ready_by _ c.in-AConf.is) in
+    let long : 6 ≤ c.args.step.size = long c.requires.ready_by.ready a_conf (is_rule c.requires.ready_by _ c.in-AConf.is) in
     omega (arith, c.requires.ready_by.ready.formed.within)
 
 pub returns-in-AConf : goal.returns-in-AConf
@@ -26,7 +26,7 @@ returns-in-AConf c =
     let br = branch_of a.work.now a.count in
     c.a_conf.ensures u
     ∙ ap (λ (k : ℕ). children u br (AConf k)) c.u16_at.ensures.0
-    ∙ sym (offered_by b u br a.body a.size a_conf (is_rule c.requires.ready_by _ c.in-AConf.is))
+    ∙ sym (offered_by b u br a.step.body a.step.size a_conf (is_rule c.requires.ready_by _ c.in-AConf.is))
 
 pub returns-in-SConf : goal.returns-in-SConf
 unfolding step_of
@@ -35,7 +35,7 @@ returns-in-SConf c =
     let b = a.ticket.now in
     let u = asked b a.s in
     c.s_conf.ensures u (literal_count b a.s)
-    ∙ sym (offered_by b u (branch_of a.work.now a.count) a.body a.size s_conf (is_rule c.requires.ready_by _ c.in-SConf.is))
+    ∙ sym (offered_by b u (branch_of a.work.now a.count) a.step.body a.step.size s_conf (is_rule c.requires.ready_by _ c.in-SConf.is))
 
 pub returns-in_default : goal.returns-in_default
 returns-in_default c =

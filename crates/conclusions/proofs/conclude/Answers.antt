@@ -19,7 +19,7 @@ use Rattle.conclusions.proofs.conclude.Goals as goal
 pub u16_at-first-requires : goal.u16_at-first-requires
 u16_at-first-requires c =
     let h = c.requires.ready_by in
-    let r = rule_named c.args.rule in
+    let r = rule_named c.args.step.rule in
     omega (arith, h.ready.formed.within, six_bytes r h.concludes, long h.ready r h.named)
 
 pub sum-requires : goal.sum-requires
@@ -34,12 +34,12 @@ sum-requires c =
 
 pub u16_at-x-requires : goal.u16_at-x-requires
 u16_at-x-requires c =
-    let long : 10 ≤ c.args.size = long c.requires.ready_by.ready s_prop (is_rule c.requires.ready_by _ c.in-SProp.is) in
+    let long : 10 ≤ c.args.step.size = long c.requires.ready_by.ready s_prop (is_rule c.requires.ready_by _ c.in-SProp.is) in
     omega (arith, c.requires.ready_by.ready.formed.within)
 
 pub u16_at-y-requires : goal.u16_at-y-requires
 u16_at-y-requires c =
-    let long : 10 ≤ c.args.size = long c.requires.ready_by.ready s_prop (is_rule c.requires.ready_by _ c.in-SProp.is) in
+    let long : 10 ≤ c.args.step.size = long c.requires.ready_by.ready s_prop (is_rule c.requires.ready_by _ c.in-SProp.is) in
     omega (arith, c.requires.ready_by.ready.formed.within)
 
 pub s_prop-requires : goal.s_prop-requires
@@ -75,7 +75,7 @@ of_literal-requires-in-CCollapse c =
 
 pub u16_at-requires : goal.u16_at-requires
 u16_at-requires c =
-    let long : 8 ≤ c.args.size = long c.requires.ready_by.ready join (is_rule c.requires.ready_by _ c.in-Join.is) in
+    let long : 8 ≤ c.args.step.size = long c.requires.ready_by.ready join (is_rule c.requires.ready_by _ c.in-Join.is) in
     omega (arith, c.requires.ready_by.ready.formed.within)
 
 pub returns-in-Sum : goal.returns-in-Sum
@@ -86,7 +86,7 @@ returns-in-Sum c =
     let u = asked b a.s in
     let h = concludes_as _ _
     (sym
-    (offered_by b u (branch_of a.work.now a.count) a.body a.size sum (is_rule c.requires.ready_by _ c.in-Sum.is)))
+    (offered_by b u (branch_of a.work.now a.count) a.step.body a.step.size sum (is_rule c.requires.ready_by _ c.in-Sum.is)))
     (c.sum.ensures u) in
     record { fault = h.fault; added = h.added; fine = h.fine }
 
@@ -101,9 +101,9 @@ returns-in-SProp c =
     let h = concludes_as _ _
     (ap (λ (f : ℕ). children u br (SProp (function_of f) c.u16_at-x.result c.u16_at-y.result))
     u16-at.ensures.0
-    ∙ ap₂ (λ (x y : ℕ). children u br (SProp (function_of (u16 b (a.body + 4))) x y)) c.u16_at-x.ensures.0
+    ∙ ap₂ (λ (x y : ℕ). children u br (SProp (function_of (u16 b (a.step.body + 4))) x y)) c.u16_at-x.ensures.0
     c.u16_at-y.ensures.0
-    ∙ sym (offered_by b u br a.body a.size s_prop (is_rule c.requires.ready_by _ c.in-SProp.is)))
+    ∙ sym (offered_by b u br a.step.body a.step.size s_prop (is_rule c.requires.ready_by _ c.in-SProp.is)))
     (c.s_prop.ensures u refl refl) in
     record { fault = h.fault; added = h.added; fine = h.fine }
 
@@ -117,7 +117,7 @@ returns-in-LIntro c =
     let br = branch_of a.work.now a.count in
     let h = concludes_as _ _
     (ap (λ (x : ℕ). literal_children u br (function_of 0) x) u16-at.ensures.0
-    ∙ sym (offered_by b u br a.body a.size l_intro (is_rule c.requires.ready_by _ c.in-LIntro.is)))
+    ∙ sym (offered_by b u br a.step.body a.step.size l_intro (is_rule c.requires.ready_by _ c.in-LIntro.is)))
     c.of_literal.ensures in
     record { fault = h.fault; added = h.added; fine = h.fine }
 
@@ -131,7 +131,7 @@ returns-in-CCollapse c =
     let br = branch_of a.work.now a.count in
     let h = concludes_as _ _
     (ap (λ (x : ℕ). literal_children u br (function_of 1) x) u16-at.ensures.0
-    ∙ sym (offered_by b u br a.body a.size c_collapse (is_rule c.requires.ready_by _ c.in-CCollapse.is)))
+    ∙ sym (offered_by b u br a.step.body a.step.size c_collapse (is_rule c.requires.ready_by _ c.in-CCollapse.is)))
     c.of_literal-in-CCollapse.ensures in
     record { fault = h.fault; added = h.added; fine = h.fine }
 
@@ -145,6 +145,6 @@ returns-in-Join c =
     let br = branch_of a.work.now a.count in
     let h = concludes_as _ _
     (ap₂ (λ (j k : ℕ). children u br (Join j k)) u16-at.ensures.0 c.u16_at.ensures.0
-    ∙ sym (offered_by b u br a.body a.size join (is_rule c.requires.ready_by _ c.in-Join.is)))
+    ∙ sym (offered_by b u br a.step.body a.step.size join (is_rule c.requires.ready_by _ c.in-Join.is)))
     (c.join.ensures u) in
     record { fault = h.fault; added = h.added; fine = h.fine }

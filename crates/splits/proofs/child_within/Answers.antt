@@ -23,8 +23,8 @@ use Rattle.splits.proofs.child_within.Goals.{Start}
 fit : (s : Start) → fits (given s.requires.ready_by.ready) ≡ true
 fit s = step_fits (given s.requires.ready_by.ready) s.args.k s.requires.k_value
 
-pub overflow_sub-size : goal.overflow_sub-size
-overflow_sub-size c = (branch_operands c.requires.ready_by.ready (is_rule c.requires.ready_by _ c.in-Branch.is)).0
+pub overflow_sub-step : goal.overflow_sub-step
+overflow_sub-step c = (branch_operands c.requires.ready_by.ready (is_rule c.requires.ready_by _ c.in-Branch.is)).0
 
 pub branch_within-requires : goal.branch_within-requires
 branch_within-requires c =
@@ -45,9 +45,9 @@ apart_within-requires c =
     let b = c.args.ticket.now in
     let h = c.requires.ready_by.ready in
     let e = is_rule c.requires.ready_by _ c.in-Apart.is in
-    let x : c.u16_at.result ≡ u16 b (c.args.body + 4) = c.u16_at.ensures.0 in
+    let x : c.u16_at.result ≡ u16 b (c.args.step.body + 4) = c.u16_at.ensures.0 in
     let a = apart_fact h (fit (goal.at.apart_within-requires c).Start) e in
-    let l : u16 b (c.args.body + 4) < c.args.count = a.0 in
+    let l : u16 b (c.args.step.body + 4) < c.args.count = a.0 in
     let few = h.fine.few in
     let n = number_of (given h) c.args.k c.requires.k_value _ (apart_child h (fit (goal.at.apart_within-requires c).Start) e) in record {
       fact_lt_fact_limit = (omega arith, h.fine.room, n.0, n.1);
@@ -74,5 +74,5 @@ returns-in-Apart c =
 pub returns-in_default : goal.returns-in_default
 returns-in_default c =
     let h = c.requires.ready_by in
-    sym (child_in_within (given h.ready) c.args.k (others_within h.ready (fit (goal.at.returns-in_default c).Start) c.args.rule h.named h.concludes
+    sym (child_in_within (given h.ready) c.args.k (others_within h.ready (fit (goal.at.returns-in_default c).Start) c.args.step.rule h.named h.concludes
     c.in_default.not-Branch c.in_default.not-Apart))

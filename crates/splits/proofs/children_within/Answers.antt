@@ -11,7 +11,7 @@ use Rattle.splits.proofs.children_within.Goals.{In-Branch}
 
 -- Branch and Apart have two children
 two : (c : In-Branch) → (x : List Fact) × (y : List Fact) × (given c.requires.ready_by.ready ≡ some (x ∷ y ∷ []))
-two c = limits.two_children c.requires.ready_by.ready c.requires.count_value c.args.rule c.requires.ready_by.named c.in-Branch.is
+two c = limits.two_children c.requires.ready_by.ready c.requires.count_value c.args.step.rule c.requires.ready_by.named c.in-Branch.is
 
 pub child_within-requires : goal.child_within-requires
 child_within-requires c =
@@ -48,4 +48,4 @@ returns-then-child_within c =
 pub returns-in_default : goal.returns-in_default
 returns-in_default c =
     let h = c.requires.ready_by in
-    sym (limits.others_within h.ready c.requires.count_value c.args.rule h.named h.concludes c.in_default.not-Branch c.in_default.not-Apart)
+    sym (limits.others_within h.ready c.requires.count_value c.args.step.rule h.named h.concludes c.in_default.not-Branch c.in_default.not-Apart)

@@ -34,8 +34,8 @@ u16_at-requires-in-CInj c =
 pub u16_at-requires-in-CInj-2 : goal.u16_at-requires-in-CInj-2
 u16_at-requires-in-CInj-2 c = (c_inj_operands c.requires.ready (is_rule c.requires _ c.in-CInj.is)).0
 
-pub overflow_sub-size : goal.overflow_sub-size
-overflow_sub-size c = (card_operands c.requires.ready (is_rule c.requires _ c.in-Card.is)).4
+pub overflow_sub-step : goal.overflow_sub-step
+overflow_sub-step c = (card_operands c.requires.ready (is_rule c.requires _ c.in-Card.is)).4
 
 pub card_fits-requires : goal.card_fits-requires
 card_fits-requires c =
@@ -52,9 +52,9 @@ unfolding step_of
 returns-in-Branch c =
     let a = c.args in
     let b = a.ticket.now in
-    let always : (r : format.Rule) → r ≡ rule b a.body → fits (children (asked b a.s) (branch_of a.work.now a.count) (step_of b r a.body a.size)) ≡ true
-    → true ≡ fits (offered b (asked b a.s) (branch_of a.work.now a.count) a.body a.size) =
-    λ r e t. sym (ap fits (offered_by b (asked b a.s) (branch_of a.work.now a.count) a.body a.size r e) ∙ t) in
+    let always : (r : format.Rule) → r ≡ rule b a.step.body → fits (children (asked b a.s) (branch_of a.work.now a.count) (step_of b r a.step.body a.step.size)) ≡ true
+    → true ≡ fits (offered b (asked b a.s) (branch_of a.work.now a.count) a.step.body a.step.size) =
+    λ r e t. sym (ap fits (offered_by b (asked b a.s) (branch_of a.work.now a.count) a.step.body a.step.size r e) ∙ t) in
     elim c.in-Branch.is [
       | inl e ↦ always branch (is_rule c.requires _ e) refl
       | inr (inl e) ↦ always l_valid (is_rule c.requires _ e) refl
@@ -68,18 +68,18 @@ returns-in-Apart c =
     let b = a.ticket.now in
     let br = branch_of a.work.now a.count in
     c.parts.ensures ∙ ap (λ (n : ℕ). fits (then (get_elem? br n) apart_of)) c.u16_at.ensures.0
-    ∙ sym (ap fits (offered_by b (asked b a.s) br a.body a.size apart (is_rule c.requires _ c.in-Apart.is)))
+    ∙ sym (ap fits (offered_by b (asked b a.s) br a.step.body a.step.size apart (is_rule c.requires _ c.in-Apart.is)))
 
 pub returns-in-CInj : goal.returns-in-CInj
 unfolding step_of asked
 returns-in-CInj c =
     let a = c.args in
     let b = a.ticket.now in
-    let x = u16 b (a.body + 4) in
-    let y = u16 b (a.body + 6) in
+    let x = u16 b (a.step.body + 4) in
+    let y = u16 b (a.step.body + 6) in
     ap₂ (λ (x y : ℕ). not (eqb x y)) c.u16_at-in-CInj.ensures.0 c.u16_at-in-CInj-2.ensures.0
     ∙ sym (guard_fits (not (eqb x y)) (c_inj_children (numbered a.s) x y))
-    ∙ sym (ap fits (offered_by b (asked b a.s) (branch_of a.work.now a.count) a.body a.size c_inj
+    ∙ sym (ap fits (offered_by b (asked b a.s) (branch_of a.work.now a.count) a.step.body a.step.size c_inj
     (is_rule c.requires _ c.in-CInj.is)))
 
 pub returns-in-Card : goal.returns-in-Card
@@ -88,5 +88,5 @@ returns-in-Card c =
     let a = c.args in
     let b = a.ticket.now in
     let br = branch_of a.work.now a.count in
-    c.card_fits.ensures ∙ ap fits (card_same b a.s br (u16s b (a.body + 4) ((a.size - 4) / 2)))
-    ∙ sym (ap fits (offered_by b (asked b a.s) br a.body a.size card (is_rule c.requires _ c.in-Card.is)))
+    c.card_fits.ensures ∙ ap fits (card_same b a.s br (u16s b (a.step.body + 4) ((a.step.size - 4) / 2)))
+    ∙ sym (ap fits (offered_by b (asked b a.s) br a.step.body a.step.size card (is_rule c.requires _ c.in-Card.is)))

@@ -54,16 +54,16 @@ put_c_valid-requires c =
     let b = c.args.ticket.now in
     let h = c.requires.ready_by.ready in
     let e = is_rule c.requires.ready_by _ c.in-CValid.is in
-    let x : c.u16_at.result ≡ u16 b (c.args.body + 4) = c.u16_at.ensures.0 in
-    let l : u16 b (c.args.body + 4) < c.args.s.p = (c_valid_variable h e).1 in
+    let x : c.u16_at.result ≡ u16 b (c.args.step.body + 4) = c.u16_at.ensures.0 in
+    let l : u16 b (c.args.step.body + 4) < c.args.s.p = (c_valid_variable h e).1 in
     let stands = h.posed.stands in
     let few = stands.few_strings in
     let o = c_valid_child h e in
     let n = number_of (given h) c.args.k (there (goal.at.put_c_valid-requires c).Start) _ o in
-    let two : c.args.k ≤ 2 = omega (arith, n.1, c_valid_count c.args.s (u16 b (c.args.body + 4))) in
+    let two : c.args.k ≤ 2 = omega (arith, n.1, c_valid_count c.args.s (u16 b (c.args.step.body + 4))) in
     let size =
     ap (λ (p : Option (List (List Fact))). length (or_none (child_in p c.args.k))) o
-    ∙ c_valid_size c.args.s (u16 b (c.args.body + 4)) c.args.k n.0 two in
+    ∙ c_valid_size c.args.s (u16 b (c.args.step.body + 4)) c.args.k n.0 two in
     record {
       k_bound = (omega (arith, size, roomy (goal.at.put_c_valid-requires c).Start), h.fine.room, n.0, two, omega arith);
       p_le_variable_limit = (few, stands.few_integers, some_character h.posed, stands.few_characters);
@@ -77,9 +77,9 @@ put_fact-requires c =
     let fit = step_fits (given h) a.k (there here) in
     let shaped = its_shape h fit ∙ sym (shape_by c.requires.ready_by a.s.n) in
     let (l, g) = in_shape (given h) a.k (there here) _ shaped in
-    let each = one_fact a.rule c.in_default.not-CValid c.requires.ready_by.concludes in
+    let each = one_fact a.step.rule c.in_default.not-CValid c.requires.ready_by.concludes in
     let one =
-    adds_one a.ticket.now a.s.n a.body a.size (rule_named a.rule) a.k each l g
+    adds_one a.ticket.now a.s.n a.step.body a.step.size (rule_named a.step.rule) a.k each l g
     ∙ child_size (given h) a.k (there here) _ shaped in
     record {
       ready_by = c.requires.ready_by;

@@ -32,8 +32,8 @@ fit s = step_fits (given s.requires.ready_by.ready) s.args.k (there s)
 pub overflow_add-at : goal.overflow_add-at
 overflow_add-at c = omega (arith, four_bytes c.requires.ready_by.ready)
 
-pub overflow_sub-size : goal.overflow_sub-size
-overflow_sub-size c = (branch_operands c.requires.ready_by.ready (is_rule c.requires.ready_by _ c.in-Branch.is)).0
+pub overflow_sub-step : goal.overflow_sub-step
+overflow_sub-step c = (branch_operands c.requires.ready_by.ready (is_rule c.requires.ready_by _ c.in-Branch.is)).0
 
 pub put_branch-requires : goal.put_branch-requires
 put_branch-requires c =
@@ -55,9 +55,9 @@ put_apart-requires c =
     let b = c.args.ticket.now in
     let h = c.requires.ready_by.ready in
     let e = is_rule c.requires.ready_by _ c.in-Apart.is in
-    let x : c.u16_at.result ≡ u16 b (c.args.body + 4) = c.u16_at.ensures.0 in
+    let x : c.u16_at.result ≡ u16 b (c.args.step.body + 4) = c.u16_at.ensures.0 in
     let a = apart_fact h (fit here) e in
-    let l : u16 b (c.args.body + 4) < c.args.count = a.0 in
+    let l : u16 b (c.args.step.body + 4) < c.args.count = a.0 in
     let few = h.fine.few in
     let n = number_of (given h) c.args.k (there here) _ (apart_child h (fit here) e) in record {
       fact_lt_count = (omega arith, c.requires.rule_value.1, h.fine.room, n.0, n.1);
@@ -76,8 +76,8 @@ put_l_valid-requires c =
     let b = c.args.ticket.now in
     let h = c.requires.ready_by.ready in
     let e = is_rule c.requires.ready_by _ c.in-LValid.is in
-    let x : c.u16_at-in-LValid.result ≡ u16 b (c.args.body + 4) = c.u16_at-in-LValid.ensures.0 in
-    let l : u16 b (c.args.body + 4) < c.args.s.p = (l_valid_variable h e).1 in
+    let x : c.u16_at-in-LValid.result ≡ u16 b (c.args.step.body + 4) = c.u16_at-in-LValid.ensures.0 in
+    let l : u16 b (c.args.step.body + 4) < c.args.s.p = (l_valid_variable h e).1 in
     let few = h.posed.stands.few_strings in
     let n = number_of (given h) c.args.k (there (goal.at.put_l_valid-requires c).Start) _ (l_valid_child h e) in
     record {
@@ -100,18 +100,18 @@ put_c_inj-requires c =
     let h = c.requires.ready_by.ready in
     let e = is_rule c.requires.ready_by _ c.in-CInj.is in
     let o = c_inj_operands h e in
-    let x : c.u16_at-in-CInj.result ≡ u16 b (c.args.body + 4) = c.u16_at-in-CInj.ensures.0 in
-    let y : c.u16_at-in-CInj-2.result ≡ u16 b (c.args.body + 6) = c.u16_at-in-CInj-2.ensures.0 in
-    let l : u16 b (c.args.body + 4) < c.args.s.p = o.1 in
-    let g : u16 b (c.args.body + 6) < c.args.s.p = o.2 in
+    let x : c.u16_at-in-CInj.result ≡ u16 b (c.args.step.body + 4) = c.u16_at-in-CInj.ensures.0 in
+    let y : c.u16_at-in-CInj-2.result ≡ u16 b (c.args.step.body + 6) = c.u16_at-in-CInj-2.ensures.0 in
+    let l : u16 b (c.args.step.body + 4) < c.args.s.p = o.1 in
+    let g : u16 b (c.args.step.body + 6) < c.args.s.p = o.2 in
     let few = h.posed.stands.few_strings in
     let n = number_of (given h) c.args.k (there here) _ (c_inj_child h (fit here) e) in record {
       count_lt_fact_limit = (c.requires.rule_value.1, h.fine.room);
       x_lt_variable_limit = (omega arith, omega arith, λ q. c_inj_differ h (fit here) e (sym x ∙ q ∙ y), few, h.posed.stands.few_integers, n.0, n.1);
     }
 
-pub overflow_sub-size-in-Card : goal.overflow_sub-size-in-Card
-overflow_sub-size-in-Card c = (card_operands c.requires.ready_by.ready (is_rule c.requires.ready_by _ c.in-Card.is)).4
+pub overflow_sub-step-in-Card : goal.overflow_sub-step-in-Card
+overflow_sub-step-in-Card c = (card_operands c.requires.ready_by.ready (is_rule c.requires.ready_by _ c.in-Card.is)).4
 
 pub put_card-requires : goal.put_card-requires
 put_card-requires c =

@@ -29,16 +29,16 @@ within : (c : Else-not-children_within) → children_within (or_none (given c.re
 within c = small (goal.at.Else-not-children_within c).After-children_within true (not-false _ c.if-not-children_within.false-raw)
 
 shaped : (s : Start)
-    → map length (or_none (given s.requires.ready_by.ready)) ≡ shape s.args.s.n (step_at s.args.ticket.now s.args.body s.args.size)
+    → map length (or_none (given s.requires.ready_by.ready)) ≡ shape s.args.s.n (step_at s.args.ticket.now s.args.step.body s.args.step.size)
 shaped s = its_shape s.requires.ready_by.ready s.requires.count_value
 
-offered-by-rule : (s : Start) → ChildrenBy s.args.rule (or_none (given s.requires.ready_by.ready))
+offered-by-rule : (s : Start) → ChildrenBy s.args.step.rule (or_none (given s.requires.ready_by.ready))
 offered-by-rule s =
     record {
       n = s.args.s.n;
       b = s.args.ticket.now;
-      body = s.args.body;
-      m = s.args.size;
+      body = s.args.step.body;
+      m = s.args.step.size;
       named = s.requires.ready_by.named;
       fits = s.requires.ready_by.ready.formed.fits;
       shaped = shaped s;
@@ -53,12 +53,12 @@ roomy c t e =
     ∙ e
 
 pends : (s : Start) {r : Bool} (t : Bool)
-    → ((b : List ℕ) (body : ℕ) (cs : List (List Fact)) → map length cs ≡ shape_of s.args.rule s.args.s.n b body s.args.size
+    → ((b : List ℕ) (body : ℕ) (cs : List (List Fact)) → map length cs ≡ shape_of s.args.step.rule s.args.s.n b body s.args.step.size
     → r ≡ room_to_pend s.args.pending cs)
     → r ≡ t
     → room_to_pend s.args.pending (or_none (given s.requires.ready_by.ready)) ≡ t
 pends s t h e =
-    sym (h s.args.ticket.now s.args.body (or_none (given s.requires.ready_by.ready)) (shaped s ∙ sym (shape_by s.requires.ready_by s.args.s.n))) ∙ e
+    sym (h s.args.ticket.now s.args.step.body (or_none (given s.requires.ready_by.ready)) (shaped s ∙ sym (shape_by s.requires.ready_by s.args.s.n))) ∙ e
 
 -- ---- the needs
 pub children_within-requires : goal.children_within-requires

@@ -39,8 +39,8 @@ taken_fault-requires c =
     let a = c.args in
     let b = a.ticket.now in
     let is_in_range =
-    ap (λ (k : ℕ). child_in_range a.s.n (step_at b a.body a.size) k) c.u16_at-k.ensures.0
-    ∙ subst (λ (x : Claim). field_fits x b a.s.n a.body a.size ≡ true) c.in-Strings.is c.requires.size_value in
+    ap (λ (k : ℕ). child_in_range a.s.n (step_at b a.step.body a.step.size) k) c.u16_at-k.ensures.0
+    ∙ subst (λ (x : Claim). field_fits x b a.s.n a.step.body a.step.size ≡ true) c.in-Strings.is c.requires.size_value in
     record {
       ready_by = c.requires.ready_by;
       count_value = fitting (goal.at.taken_fault-requires c).Else-not-fits;
@@ -51,7 +51,7 @@ pub returns-in-NoSolution : goal.returns-in-NoSolution
 returns-in-NoSolution c =
     let a = c.args in
     c.all_fault.ensures
-    ∙ ap (λ (x : Claim). tried_under x a.ticket.now a.s a.body a.size a.work.now a.count a.pending)
+    ∙ ap (λ (x : Claim). tried_under x a.ticket.now a.s a.step.body a.step.size a.work.now a.count a.pending)
     (sym c.in-NoSolution.is)
 
 pub returns-in-Strings : goal.returns-in-Strings
@@ -59,5 +59,5 @@ returns-in-Strings c =
     let a = c.args in
     let b = a.ticket.now in
     c.taken_fault.ensures
-    ∙ ap (λ (k : ℕ). child_fault b a.s a.body a.size a.work.now a.count k) c.u16_at-k.ensures.0
-    ∙ ap (λ (x : Claim). tried_under x b a.s a.body a.size a.work.now a.count a.pending) (sym c.in-Strings.is)
+    ∙ ap (λ (k : ℕ). child_fault b a.s a.step.body a.step.size a.work.now a.count k) c.u16_at-k.ensures.0
+    ∙ ap (λ (x : Claim). tried_under x b a.s a.step.body a.step.size a.work.now a.count a.pending) (sym c.in-Strings.is)

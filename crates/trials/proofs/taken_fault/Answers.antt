@@ -28,7 +28,7 @@ adds : (c : After-child_facts) → c.child_facts.result ≡ length (or_none (tak
 adds c =
     let shaped = its_shape c.requires.ready_by.ready c.requires.count_value ∙ sym (shape_by c.requires.ready_by c.args.s.n) in
     let (l, h) = in_shape (given c.requires.ready_by.ready) c.args.k (there (goal.at.After-child_facts c).Start) _ shaped in
-    c.child_facts.ensures c.args.ticket.now c.args.s.n c.args.body c.args.size l h
+    c.child_facts.ensures c.args.ticket.now c.args.s.n c.args.step.body c.args.step.size l h
     ∙ child_size (given c.requires.ready_by.ready) c.args.k (there (goal.at.After-child_facts c).Start) _ shaped
 
 pub child_within-requires : goal.child_within-requires
