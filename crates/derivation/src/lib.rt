@@ -22,7 +22,7 @@ use limits::NODE_COUNT;
 use question::Progress;
 use records::{u16_at, u32_at};
 use splits::put_child;
-use steps::{CHILD_FIELD, Conclusions, Rule};
+use steps::{CHILD_FIELD, Conclusions, Rule, Step};
 use trials::split_fault;
 
 // What a step that fits comes to. Closes: the branch is closed. Extends: the number of facts on the branch then. Splits: the number of facts on the branch of its
@@ -56,7 +56,8 @@ fn take_closing(
     match claim {
         Claim::NoSolution => {
             let body = record + RECORD_HEAD;
-            if !conclusions::closes(ticket, s, rule, body, size, work, count, labels) {
+            let step = Step { rule, body, size };
+            if !conclusions::closes(ticket, s, step, work, count, labels) {
                 return Err(Fault::DoesNotFit);
             }
             Ok(Action::Closes)
@@ -81,7 +82,8 @@ fn take_conclusion(
     ensures { ConcludesUnder ticket.now s «record» size work.old count work.new result }
 {
     let body = record + RECORD_HEAD;
-    conclusions::conclude(ticket, s, rule, body, size, work, count, labels)?;
+    let step = Step { rule, body, size };
+    conclusions::conclude(ticket, s, step, work, count, labels)?;
     Ok(Action::Extends(count + 1))
 }
 
@@ -129,10 +131,11 @@ fn take_split(
     ensures acts { IfOk result (λ a. ActsOn claim ticket.now s «record» pending work.old count work.new a) }
 {
     let body = record + RECORD_HEAD;
-    split_fault(ticket, s, claim, rule, body, size, work, count, pending)?;
+    let step = Step { rule, body, size };
+    split_fault(ticket, s, claim, step, work, count, pending)?;
     let last = steps::child_count(rule, s.n, size);
     let child = begun_child(ticket, claim, body);
-    let begun = put_child(ticket, s, rule, body, size, work, count, child);
+    let begun = put_child(ticket, s, step, work, count, child);
     Ok(begun_as(claim, last, begun))
 }
 
@@ -175,13 +178,13 @@ pub fn next_child(ticket: &[u8], s: Progress, work: &mut [i64], b: Branch, split
 {
     let record = split.at as usize;
     let size = u32_at(ticket, record);
-    let rule = steps::rule_of(u16_at(ticket, record + RECORD_HEAD));
+    let body = record + RECORD_HEAD;
+    let rule = steps::rule_of(u16_at(ticket, body));
+    let step = Step { rule, body, size };
     let count = put_child(
         ticket,
         s,
-        rule,
-        record + RECORD_HEAD,
-        size,
+        step,
         work,
         split.mark as usize,
         split.child as usize,

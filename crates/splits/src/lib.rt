@@ -96,13 +96,7 @@ fn card_fits(b: &[u8], s: Progress, at: usize, m: usize, work: &[i64], count: us
 }
 
 // Whether a step fits.
-pub fn fits(
-    ticket: &[u8],
-    s: Progress,
-    step: Step,
-    work: &[i64],
-    count: usize,
-) -> bool
+pub fn fits(ticket: &[u8], s: Progress, step: Step, work: &[i64], count: usize) -> bool
     requires { ReadyBy step.rule Several ticket.now s step.body step.size work.now count }
     ensures { result ≡ fitting (offered_on ticket.now s step.body step.size work.now count) }
 {
@@ -221,14 +215,7 @@ fn put_card(work: &mut [i64], count: usize, b: &[u8], s: Progress, at: usize, m:
 }
 
 // The only fact of child k, for every rule but C-Valid.
-fn put_fact(
-    ticket: &[u8],
-    s: Progress,
-    step: Step,
-    work: &mut [i64],
-    count: usize,
-    k: usize,
-)
+fn put_fact(ticket: &[u8], s: Progress, step: Step, work: &mut [i64], count: usize, k: usize)
     requires ready_by { ReadyBy step.rule Several ticket.now s step.body step.size work.old count }
     requires rule_value { (one_each (rule_named step.rule) ≡ true) × (count < fact_limit) }
     requires k_value { fitting (child_of ticket.now s step.body step.size work.old count k) ≡ true }
@@ -360,13 +347,7 @@ pub fn child_within(
 }
 
 // "Under claim 1 all children of a split are tried for 9".
-pub fn children_within(
-    ticket: &[u8],
-    s: Progress,
-    step: Step,
-    work: &[i64],
-    count: usize,
-) -> bool
+pub fn children_within(ticket: &[u8], s: Progress, step: Step, work: &[i64], count: usize) -> bool
     requires ready_by { ReadyBy step.rule Several ticket.now s step.body step.size work.now count }
     requires count_value { fitting (offered_on ticket.now s step.body step.size work.now count) ≡ true }
     ensures { result ≡ children_within (or_none (offered_on ticket.now s step.body step.size work.now count)) }
