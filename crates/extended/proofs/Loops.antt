@@ -1,7 +1,7 @@
 -- Texts by std's words for a chain of iterators: cased characters, digits, the order.
 use mathlib.Core.Path.{◌≡◌, refl, ◌∙◌, ap}
-use mathlib.Core.Bool.{Bool, true, false, cond, ◌&&◌, ◌||◌}
-use mathlib.Core.List.{List, [], ◌∷◌}
+use mathlib.Core.Bool.{Bool, true, false, ◌&&◌, ◌||◌}
+use mathlib.Core.List.{List, [], ◌∷◌, map}
 use Prim.Native.Nat.{ℕ, ◌≤◌, ◌<◌}
 use native.Mathlib.Omega.{arith}
 use lib.Dec.{ltb, leb, eqb}
@@ -17,38 +17,25 @@ use Rattle.lists.specs.Lists.{all}
 use Rattle.lists.proofs.Tests.{and_both}
 use Rattle.lists.proofs.Lists.{eq_list_lengths}
 use Rattle.calculus.specs.Strings.{eq_string}
-use Rattle.calculus.specs.Extended.{upper_character, lower_character, upper, lower, zero_digit, is_digit, precedes}
+use Rattle.calculus.specs.Extended.{zero_digit, is_digit, precedes}
 
 -- ---- case
 
-abbrev pub cased_character : Bool → ℕ → ℕ
-cased_character t c = cond t (upper_character c) (lower_character c)
+module _ (f : ℕ → ℕ) where
+  -- texts of different lengths differ
+  pub cased_lengths : (s r : List ℕ) → (length s ≡ length r → ⊥) → eq_string s (map f r) ≡ false
+  cased_lengths s r h = eq_list_lengths eqb s (map f r) (λ e. h (e ∙ length-map r f))
 
-abbrev pub cased_text : Bool → List ℕ → List ℕ
-cased_text t s = cond t (upper s) (lower s)
+  -- a character beside one that is changed
+  abbrev pub same_cased : ℕ × ℕ → Bool
+  same_cased p = eqb p.0 (f p.1)
 
-length_cased : (t : Bool) (s : List ℕ) → length (cased_text t s) ≡ length s
-unfolding upper lower
-length_cased true s = length-map s upper_character
-length_cased false s = length-map s lower_character
-
--- texts of different lengths differ
-pub cased_lengths : (t : Bool) (s r : List ℕ) → (length s ≡ length r → ⊥) → eq_string s (cased_text t r) ≡ false
-cased_lengths t s r h = eq_list_lengths eqb s (cased_text t r) (λ e. h (e ∙ length_cased t r))
-
--- a character beside one that is cased
-abbrev pub same_cased : Bool → ℕ × ℕ → Bool
-same_cased t p = eqb p.0 (cased_character t p.1)
-
--- texts of one length, character beside character
-pub cased_is : (t : Bool) (s r : List ℕ) → length s ≡ length r → list_all (same_cased t) (zip s r) ≡ eq_string s (cased_text t r)
-unfolding upper lower
-cased_is true [] [] h = refl
-cased_is false [] [] h = refl
-cased_is t [] (d ∷ r) h = absurd (omega arith)
-cased_is t (c ∷ s) [] h = absurd (omega arith)
-cased_is true (c ∷ s) (d ∷ r) h = ap (λ a. same_cased true (c, d) && a) (cased_is true s r (omega arith))
-cased_is false (c ∷ s) (d ∷ r) h = ap (λ a. same_cased false (c, d) && a) (cased_is false s r (omega arith))
+  -- texts of one length, character beside character
+  pub cased_is : (s r : List ℕ) → length s ≡ length r → list_all same_cased (zip s r) ≡ eq_string s (map f r)
+  cased_is [] [] h = refl
+  cased_is [] (d ∷ r) h = absurd (omega arith)
+  cased_is (c ∷ s) [] h = absurd (omega arith)
+  cased_is (c ∷ s) (d ∷ r) h = ap (λ a. same_cased (c, d) && a) (cased_is s r (omega arith))
 
 -- ---- digits
 

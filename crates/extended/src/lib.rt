@@ -2,7 +2,7 @@
 // its characters are u32 each.
 #![tactic(auto)]
 
-ghost use Rattle.std.specs.Prelude.{◌≡◌, true, cond, ◌&&◌, ◌+◌, ◌*◌, ◌<◌, ◌≤◌, length, eqb, nat_abs};
+ghost use Rattle.std.specs.Prelude.{◌≡◌, true, ◌&&◌, ℕ, ◌+◌, ◌*◌, ◌<◌, ◌≤◌, length, map, eqb, nat_abs};
 ghost use Rattle.lists.specs.Lists.{all};
 ghost use Rattle.calculus.specs.Limits.{value_limit};
 ghost use Rattle.calculus.specs.LinearForms.{eqℤ};
@@ -38,17 +38,6 @@ fn lower_character(c: u32) -> u32
     }
 }
 
-// A character in upper case where capitals are asked for, else in lower case.
-fn cased_character(c: u32, capitals: bool) -> u32
-    ensures { result ≡ cond capitals (upper_character c) (lower_character c) }
-{
-    if capitals {
-        upper_character(c)
-    } else {
-        lower_character(c)
-    }
-}
-
 // The characters of the string whose record stands at a position.
 fn characters<'a>(v: &'a [u8], at: usize) -> FieldRun<'a, u32>
     requires { next v.now at ≤ length v.now }
@@ -57,16 +46,32 @@ fn characters<'a>(v: &'a [u8], at: usize) -> FieldRun<'a, u32>
     fields_at(v, at + RECORD_HEAD, u32_at(v, at) / 4)
 }
 
-// "string a is b in upper case", "string a is b in lower case"
-pub fn cased(v: &[u8], x: usize, y: usize, capitals: bool) -> bool
-    requires { (next v.now x ≤ length v.now) × (next v.now y ≤ length v.now) }
-    ensures { result ≡ eq_string (text_at v.now x)
-        (cond capitals (upper (text_at v.now y)) (lower (text_at v.now y))) }
+// Whether one string is another with each character changed.
+fn cased<F: Fn(u32) -> u32>(v: &[u8], x: usize, y: usize, change: F) -> bool
+    requires { (next v.now x ≤ length v.now) × (next v.now y ≤ length v.now) × F.IsAlwaysCallable change }
+    ensures { (f : ℕ → ℕ) → ((c d : ℕ) → F.post change c d → d ≡ f c)
+        → result ≡ eq_string (text_at v.now x) (map f (text_at v.now y)) }
 {
     u32_at(v, x) / 4 == u32_at(v, y) / 4
         && characters(v, x)
             .zip(characters(v, y))
-            .all(|(c, d)| c == cased_character(d, capitals))
+            .all(|(c, d)| c == change(d))
+}
+
+// "string a is b in upper case"
+pub fn is_upper(v: &[u8], x: usize, y: usize) -> bool
+    requires { (next v.now x ≤ length v.now) × (next v.now y ≤ length v.now) }
+    ensures { result ≡ eq_string (text_at v.now x) (upper (text_at v.now y)) }
+{
+    cased(v, x, y, upper_character)
+}
+
+// "string a is b in lower case"
+pub fn is_lower(v: &[u8], x: usize, y: usize) -> bool
+    requires { (next v.now x ≤ length v.now) × (next v.now y ≤ length v.now) }
+    ensures { result ≡ eq_string (text_at v.now x) (lower (text_at v.now y)) }
+{
+    cased(v, x, y, lower_character)
 }
 
 // ---- numerals

@@ -25,7 +25,7 @@ use encoding::{
     IS_DECIMAL, IS_LITERAL, IS_LOWER, IS_UPPER, IS_VALUE, KIND_ARITHMETIC, KIND_EXTENDED,
     KIND_STRING, RECORD_HEAD, SAME,
 };
-use extended::{cased, precedes, reads_as, written_as};
+use extended::{is_lower, is_upper, precedes, reads_as, written_as};
 use faults::{Fault, Refusal};
 use limits::COLUMN_LIMIT;
 use question::{
@@ -112,8 +112,8 @@ fn extended_met(
     let x = u16_at(b, at + 2);
     let y = u16_at(b, at + 4);
     match function {
-        IS_UPPER => cased(v, places[x], places[y], true),
-        IS_LOWER => cased(v, places[x], places[y], false),
+        IS_UPPER => is_upper(v, places[x], places[y]),
+        IS_LOWER => is_lower(v, places[x], places[y]),
         IS_VALUE => reads_as(v, places[y], values[x]),
         IS_DECIMAL => written_as(v, places[x], values[y]),
         _ => precedes(v, places[x], places[y]),

@@ -99,9 +99,9 @@ bounds-places-y c =
     place-there here (y here)
     (second_string here (λ e. omega (arith, e, c.in-0.is)))
 
-pub cased-requires : goal.cased-requires
-cased-requires c =
-    let here = (goal.at.cased-requires c).After-u16_at-y in
+pub is_upper-requires : goal.is_upper-requires
+is_upper-requires c =
+    let here = (goal.at.is_upper-requires c).After-u16_at-y in
     let is = c.in-0.is in (
       text_there here (x here)
           (first_string here (λ e. omega (arith, e, is))),
@@ -113,7 +113,7 @@ pub returns-in-0 : goal.returns-in-0
 returns-in-0 c =
     let here = (goal.at.returns-in-0 c).After-u16_at-y in
     let is = tested here c.in-0.is in
-    c.cased.ensures
+    c.is_upper.ensures
     ∙ ap₂ (λ i j. eq_string (text_at (v here) (get_or (places here) i 0))
     (upper (text_at (v here) (get_or (places here) j 0))))
     (x-is here) (y-is here)
@@ -134,9 +134,9 @@ bounds-places-y-in-1 c =
     place-there here (y here)
     (second_string here (λ e. omega (arith, e, c.in-1.is)))
 
-pub cased-requires-in-1 : goal.cased-requires-in-1
-cased-requires-in-1 c =
-    let here = (goal.at.cased-requires-in-1 c).After-u16_at-y in
+pub is_lower-requires : goal.is_lower-requires
+is_lower-requires c =
+    let here = (goal.at.is_lower-requires c).After-u16_at-y in
     let is = c.in-1.is in (
       text_there here (x here)
           (first_string here (λ e. omega (arith, e, is))),
@@ -148,7 +148,7 @@ pub returns-in-1 : goal.returns-in-1
 returns-in-1 c =
     let here = (goal.at.returns-in-1 c).After-u16_at-y in
     let is = tested here c.in-1.is in
-    c.cased-in-1.ensures
+    c.is_lower.ensures
     ∙ ap₂ (λ i j. eq_string (text_at (v here) (get_or (places here) i 0))
     (lower (text_at (v here) (get_or (places here) j 0))))
     (x-is here) (y-is here)
