@@ -20,6 +20,7 @@ use limits::FACT_LIMIT;
 use question::{Progress, column_of};
 use records::{fields_at, u16_at};
 use rows::{TAG_NE, TAG_NOT_SAME, lowest_difference, row_at, tag_of};
+use std::ops::{BitOr, BitOrAssign};
 use steps::{OPERANDS, Rule};
 
 // How many numbers hold the sets of a branch's facts, two for each.
@@ -66,12 +67,25 @@ fn only_constraint(k: usize) -> Words
     }
 }
 
-pub fn union_of(a: Words, b: Words) -> Words
-    ensures { result ≡ union_of a b }
-{
-    Words {
-        low: a.low | b.low,
-        high: a.high | b.high,
+// The union of two sets.
+impl BitOr for Words {
+    type Output = Words;
+
+    ghost bitor_gives = { λ a b r. r ≡ union_of a b };
+
+    fn bitor(self, other: Words) -> Words {
+        Words {
+            low: self.low | other.low,
+            high: self.high | other.high,
+        }
+    }
+}
+
+impl BitOrAssign for Words {
+    ghost bitor_assign_gives = { λ a b r. r ≡ union_of a b };
+
+    fn bitor_assign(&mut self, other: Words) {
+        *self = *self | other;
     }
 }
 
@@ -140,12 +154,12 @@ fn with_fact(unions: Unions, row: &[i64], set: Words) -> Unions
     }
     if tag == TAG_NOT_SAME {
         return Unions {
-            separates: union_of(unions.separates, set),
+            separates: unions.separates | set,
             ..unions
         };
     }
     Unions {
-        equates: union_of(unions.equates, set),
+        equates: unions.equates | set,
         ..unions
     }
 }
@@ -183,7 +197,7 @@ fn named_sets(b: &[u8], at: usize, pairs: usize, sets: &[u64], count: usize) -> 
 {
     let mut set = no_constraint();
     for (fact, _) in fields_at::<(u16, i32)>(b, at, pairs) {
-        set = union_of(set, fact_set(sets, count, usize::from(fact)));
+        set |= fact_set(sets, count, usize::from(fact));
     }
     set
 }
@@ -224,10 +238,7 @@ fn neighbour_sets(
     let mut set = no_constraint();
     for k in 0..others {
         let i = at + 2 * k;
-        set = union_of(
-            set,
-            lengths_set(s, u16_at(b, i), u16_at(b, i + 2), work, count, sets),
-        );
+        set |= lengths_set(s, u16_at(b, i), u16_at(b, i + 2), work, count, sets);
     }
     set
 }
@@ -251,13 +262,13 @@ pub fn step_set(
     match rule {
         Rule::Sum => named_sets(ticket, body + 8, (size - 8) / 6, sets, count),
         Rule::Apart | Rule::AConf => fact_set(sets, count, u16_at(ticket, at)),
-        Rule::SConf => union_of(unions.equates, unions.separates),
+        Rule::SConf => unions.equates | unions.separates,
         Rule::SProp | Rule::LIntro | Rule::CCollapse => unions.equates,
         Rule::Card => neighbour_sets(ticket, s, at, (size - OPERANDS) / 2 - 1, work, count, sets),
         Rule::Join => {
             let first = fact_set(sets, count, u16_at(ticket, at));
             let second = fact_set(sets, count, u16_at(ticket, at + 2));
-            union_of(first, second)
+            first | second
         }
         Rule::Branch | Rule::LValid | Rule::CValid | Rule::CInj | Rule::Unknown => no_constraint(),
     }

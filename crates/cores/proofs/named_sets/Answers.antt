@@ -18,9 +18,9 @@ loop-fact-preserved c =
     let l = c.loop-fact in
     let e = c.in-Some.ensures.steps in
     λ r h.
-    gathers_more l.set c.fact_set.result c.union_of-set.result _ _ _ _ (ap (named_sets r) e)
+    gathers_more l.set c.fact_set.result c.bitor_assign.new.self _ _ _ _ (ap (named_sets r) e)
     (c.fact_set.ensures r h ∙ ap (λ (k : ℕ). words_of (set_at r k)) c.from.ensures)
-    c.union_of-set.ensures (l.invariant r h)
+    c.bitor_assign.ensures.after (l.invariant r h)
 
 pub returns : goal.returns
 unfolding named_sets

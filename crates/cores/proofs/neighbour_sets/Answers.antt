@@ -44,18 +44,18 @@ loop-k-preserved c =
     let more : 0 < left = omega arith in
     let next : i + 2 ≡ a.at + 2 * (l.k + 1) = omega arith in
     let fewer : left - 1 ≡ a.others - (l.k + 1) = omega arith in
-    subst (λ j. Onward b a.s (Stands a.work.now a.sets.now a.count) a.at a.others c.union_of-set.result j (a.others - (l.k + 1))) next
-    (subst (Onward b a.s (Stands a.work.now a.sets.now a.count) a.at a.others c.union_of-set.result (i + 2)) fewer
+    subst (λ j. Onward b a.s (Stands a.work.now a.sets.now a.count) a.at a.others c.bitor_assign.new.self j (a.others - (l.k + 1))) next
+    (subst (Onward b a.s (Stands a.work.now a.sets.now a.count) a.at a.others c.bitor_assign.new.self (i + 2)) fewer
     (record {
       variables = below_rest b a.s.p i left more l.invariant.variables;
       gathered = λ r h d.
           let (e, g) = l.invariant.gathered r h d in (
             distinct_rest b i left more e,
-            gathers_more l.set c.lengths_set.result c.union_of-set.result _ (lengths_set u r (u16 b i) (u16 b (i + 2))) _ _
+            gathers_more l.set c.lengths_set.result c.bitor_assign.new.self _ (lengths_set u r (u16 b i) (u16 b (i + 2))) _ _
                 (neighbours_next u r b i left more)
                 (c.lengths_set.ensures r h (λ q. neighbours_differ b i left more e (sym c.u16_at.ensures.0 ∙ q ∙ c.u16_at-in-loop-k.ensures.0))
                 ∙ ap₂ (λ (x y : ℕ). words_of (lengths_set u r x y)) c.u16_at.ensures.0 c.u16_at-in-loop-k.ensures.0)
-                c.union_of-set.ensures g,
+                c.bitor_assign.ensures.after g,
           );
     }))
 

@@ -98,7 +98,7 @@ returns-in-SConf c = λ r h n f.
     let a = c.args in
     let b = a.ticket.now in
     let told = c.in-SConf.is in
-    c.union_of.ensures
+    c.bitor.ensures
     ∙ ap (λ (x : Unions). union_of x.equates x.separates) (n (asks _ _ told refl))
     ∙ sym (words_union (sets_of equates r) (sets_of separates r))
     ∙ ap words_of (rests_by b (asked b a.s) r a.body a.size s_conf (is_rule (goal.at.returns-in-SConf c).Start _ told))
@@ -127,7 +127,7 @@ returns-in-Join c = λ r h n f.
     let a = c.args in
     let b = a.ticket.now in
     let e : a.body + 4 + 2 ≡ a.body + 6 = omega arith in
-    c.union_of-in-Join.ensures
+    c.bitor-in-Join.ensures
     ∙ ap₂ union_of (c.fact_set-first.ensures r h.carried) (c.fact_set-second.ensures r h.carried)
     ∙ ap₂ (λ (j k : ℕ). union_of (words_of (set_at r j)) (words_of (set_at r k))) c.u16_at-in-Join.ensures.0
     (c.u16_at-in-Join-2.ensures.0 ∙ ap (u16 b) e)
