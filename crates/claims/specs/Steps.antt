@@ -54,7 +54,7 @@ with_closing g set = record { unions = g.unions; roots = g.roots; core = union_o
 
 -- the step in the record of m bytes at a position, by a rule under its name, rests on what the words say
 unfoldable pub SetOf : Claim → Rule → List ℕ → Progress → ℕ → ℕ → List ℤ → ℕ → List ℕ → Unions → Words → Type 0
-SetOf NoSolution rule b s at m w count v unions x = RestsOn rule b s (at + 6) m w count v unions x
+SetOf NoSolution rule b s at m w count v unions x = RestsOn (record { rule = rule; body = at + 6; size = m }) b s w count v unions x
 SetOf Strings rule b s at m w count v unions x = Unit {0}
 
 -- one to three facts came after the first from, with which there are to: a child's

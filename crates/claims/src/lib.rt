@@ -16,16 +16,14 @@ ghost use Rattle.derivation.specs.Actions.{ReadyUnder};
 use branch::Branch;
 use classes::{Known, bring_up, nothing_known, set_back};
 use conclusions::classes_for;
-use cores::{
-    Unions, Words, fill_sets, no_constraint, no_unions, root_sets, set_at, step_set, union_of,
-};
+use cores::{Unions, Words, fill_sets, no_constraint, no_unions, root_sets, set_at, step_set};
 use delimiters::{Claim, ends_steps};
 use derivation::{Action, next_child, take_step};
 use encoding::RECORD_HEAD;
 use faults::{Fault, Refusal};
 use question::Progress;
 use records::{Found, read_at, u16_at};
-use steps::{Rule, record_fault, rule_of};
+use steps::{Rule, Step, record_fault, rule_of};
 
 // ---- what is kept along the walk
 
@@ -118,7 +116,7 @@ impl Grounds {
         ensures { result ≡ with_closing self set }
     {
         Grounds {
-            core: union_of(self.core, set),
+            core: self.core | set,
             ..self
         }
     }
@@ -142,8 +140,12 @@ fn set_of(
 {
     match claim {
         Claim::NoSolution => {
-            let body = at + RECORD_HEAD;
-            step_set(ticket, s, rule, body, size, work, count, sets, unions)
+            let step = Step {
+                rule,
+                body: at + RECORD_HEAD,
+                size,
+            };
+            step_set(ticket, s, step, work, count, sets, unions)
         }
         Claim::Strings => no_constraint(),
     }

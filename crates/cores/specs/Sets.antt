@@ -7,7 +7,7 @@ use Rattle.format.specs.Checking.{fits}
 use Rattle.question.specs.declared.Progress.{Progress}
 use Rattle.question.specs.Posed.{asked}
 use Rattle.rows.specs.Rows.{branch_of}
-use Rattle.steps.specs.declared.Rule.{Rule}
+use Rattle.steps.specs.declared.Step.{Step}
 use Rattle.steps.specs.Rules.{rule_named}
 use Rattle.steps.specs.Offered.{offered_on}
 use Rattle.conclusions.specs.Labels.{asks_classes}
@@ -44,9 +44,8 @@ pub record Filled (v : List ℕ) (from to : ℕ) (set : Words) (v' : List ℕ) :
   pub set_there : (k : ℕ) → from ≤ k → k < to → words_at v' k ≡ set
   pub behind : (k : ℕ) → to ≤ k → words_at v' k ≡ words_at v k
 
--- the step's body of m bytes, by a rule under its name, rests on what the words say, where it fits; a rule that asks for classes is given the unions over the
--- whole branch
-abbrev pub RestsOn : Rule → List ℕ → Progress → ℕ → ℕ → List ℤ → ℕ → List ℕ → Unions → Words → Type 0
-RestsOn rule b s body m w count v unions x =
-    (r : Rested) → Stands w v count r → (asks_classes (rule_named rule) ≡ true → unions ≡ unions_of r) → fits (offered_on b s body m w count) ≡ true
-    → x ≡ words_of (rests_on (asked b s) r (step_at b body m))
+-- the step, by a rule under its name, rests on what the words say, where it fits; a rule that asks for classes is given the unions over the whole branch
+abbrev pub RestsOn : Step → List ℕ → Progress → List ℤ → ℕ → List ℕ → Unions → Words → Type 0
+RestsOn t b s w count v unions x =
+    (r : Rested) → Stands w v count r → (asks_classes (rule_named t.rule) ≡ true → unions ≡ unions_of r) → fits (offered_on b s t.body t.size w count) ≡ true
+    → x ≡ words_of (rests_on (asked b s) r (step_at b t.body t.size))

@@ -21,7 +21,7 @@ use question::{Progress, column_of};
 use records::{fields_at, u16_at};
 use rows::{TAG_NE, TAG_NOT_SAME, lowest_difference, row_at, tag_of};
 use std::ops::{BitOr, BitOrAssign};
-use steps::{OPERANDS, Rule};
+use steps::{OPERANDS, Rule, Step};
 
 // How many numbers hold the sets of a branch's facts, two for each.
 pub const SET_NUMBERS: usize = 2 * FACT_LIMIT;
@@ -243,21 +243,20 @@ fn neighbour_sets(
     set
 }
 
-// What the step in a body of so many bytes rests on. The unions are those of the whole branch where its rule asks for classes.
+// What a step rests on. The unions are those of the whole branch where its rule asks for classes.
 pub fn step_set(
     ticket: &[u8],
     s: Progress,
-    rule: Rule,
-    body: usize,
-    size: usize,
+    step: Step,
     work: &[i64],
     count: usize,
     sets: &[u64],
     unions: Unions,
 ) -> Words
-    requires { Ready ticket.now s body size work.now count × (rule_named rule ≡ rule_at ticket.now body) × Roomy sets.now }
-    ensures { RestsOn rule ticket.now s body size work.now count sets.now unions result }
+    requires { Ready ticket.now s step.body step.size work.now count × (rule_named step.rule ≡ rule_at ticket.now step.body) × Roomy sets.now }
+    ensures { RestsOn step ticket.now s work.now count sets.now unions result }
 {
+    let Step { rule, body, size } = step;
     let at = body + OPERANDS;
     match rule {
         Rule::Sum => named_sets(ticket, body + 8, (size - 8) / 6, sets, count),
