@@ -6,7 +6,8 @@ use Rattle.calculus.specs.Model.{model_value}
 use Rattle.format.specs.Places.{literals_from}
 use Rattle.records.specs.Placed.{Placed}
 use Rattle.question.specs.declared.Progress.{Progress}
-use Rattle.question.specs.Posed.{numbered, Posed}
+use Rattle.question.specs.Posed.{asked, numbered, Posed}
+use Rattle.leaf.specs.declared.Leaf.{Leaf}
 
 -- m has a number for each column of a question with few variables
 pub record Modelled (m : List ℤ) (s : Progress) : Type 0 where
@@ -24,6 +25,14 @@ pub record LeafReady (b places : List ℕ) (m : List ℤ) (s : Progress) : Type 
   pub posed : Posed b s
   pub literals : LiteralsAt b places s
   pub columns : column_count (numbered s) ≤ length m
+
+-- the same of a leaf
+abbrev pub Ready : Leaf → Type 0
+Ready l = LeafReady l.ticket.now l.places.now l.model.now l.s
+
+-- its question
+abbrev pub posed_of : Leaf → Question
+posed_of l = asked l.ticket.now l.s
 
 -- every length is the size of a string of at most 64 characters
 abbrev pub ShortSizes : Question → List ℤ → Type 0

@@ -12,13 +12,13 @@ ghost use Rattle.calculus.specs.Strings.{word, eq_string, given, fresh_from, one
 ghost use Rattle.format.specs.Fields.{u32s};
 ghost use Rattle.rows.specs.Work.{Within};
 ghost use Rattle.answer.specs.Table.{row, table_strings, Table};
-ghost use Rattle.question.specs.Posed.{asked, numbered};
-ghost use Rattle.leaf.specs.Leaf.{Modelled, LeafReady, ShortSizes};
+ghost use Rattle.question.specs.Posed.{numbered};
+ghost use Rattle.leaf.specs.Leaf.{Modelled, Ready, ShortSizes, posed_of};
 ghost use Rattle.strings.specs.Filling.{sized, string_in, given_strings, is_it, fixed_at, completed_by};
 
 use encoding::{CODE, LEN};
-use limits::{LENGTH_LIMIT, NODE_COUNT, VARIABLE_LIMIT};
-use question::Progress;
+use leaf::{Leaf, magnitude};
+use limits::{LENGTH_LIMIT, VARIABLE_LIMIT};
 
 // The size of a variable that has no string yet. Sizes are plain numbers and not options: those of the filled table are handed on as they stand, and the definitions
 // of the table read a size past 64 as none.
@@ -61,16 +61,22 @@ fn is_row(characters: &[u32], y: usize, size: usize, w: &[u32]) -> bool
 }
 
 // Is w a string of the table?
-fn is_given(characters: &[u32], sizes: &[usize], p: usize, w: &[u32]) -> bool
-    requires { (length sizes.now ≡ variable_limit) × (p ≤ variable_limit) × (length_limit * p ≤ length characters.now) }
+fn is_given(characters: &[u32], sizes: &[usize; VARIABLE_LIMIT], p: usize, w: &[u32]) -> bool
+    requires { (p ≤ variable_limit) × (length_limit * p ≤ length characters.now) }
     ensures { result ≡ given w.now (given_strings characters.now sizes.now p) }
 {
     (0..p).any(|y| is_row(characters, y, sizes[y], w))
 }
 
 // "the smallest string of its length, by code points, not yet given".
-fn fresh(characters: &[u32], sizes: &[usize], p: usize, n: usize, m: usize) -> [u32; LENGTH_LIMIT]
-    requires { (length sizes.now ≡ variable_limit) × (p ≤ variable_limit) × (m ≤ length_limit) × (length_limit * p ≤ length characters.now) × (1 ≤ n)
+fn fresh(
+    characters: &[u32],
+    sizes: &[usize; VARIABLE_LIMIT],
+    p: usize,
+    n: usize,
+    m: usize,
+) -> [u32; LENGTH_LIMIT]
+    requires { (p ≤ variable_limit) × (m ≤ length_limit) × (length_limit * p ≤ length characters.now) × (1 ≤ n)
         × (n ≤ alphabet_limit) }
     ensures { take m result ≡ fresh_from p n m (given_strings characters.now sizes.now p) 0 }
 {
@@ -124,121 +130,88 @@ fn fill_character(row: &mut [u32], len: i64, code: i64) -> usize
     ensures { sized result row.new ≡ one_char (eqℤ len (pos 1)) code }
 {
     if len == 1 {
-        row[0] = leaf::magnitude(code) as u32;
+        row[0] = magnitude(code) as u32;
         return 1;
     }
     NOT_GIVEN
 }
 
 // What the first two rounds give to variable x: "a class with a literal gets it; a class of length 1 gets the character of its code".
-fn fill_fixed(
-    ticket: &[u8],
-    places: &[usize],
-    model: &[i64],
-    s: Progress,
-    labels: &[u8; NODE_COUNT],
-    x: usize,
-    row: &mut [u32],
-) -> usize
-    requires leaf_ready { LeafReady ticket.now places.now model.now s × (x < s.p) × (length row.old ≡ length_limit) }
-    requires within { Within value_limit model.now }
-    ensures { sized result row.new ≡ fixed_at (asked ticket.now s) labels.now model.now x }
+fn fill_fixed(leaf: &Leaf, x: usize, row: &mut [u32]) -> usize
+    requires leaf_ready { Ready leaf.now × (x < leaf.now.s.p) × (length row.old ≡ length_limit) }
+    requires within { Within value_limit leaf.now.model.now }
+    ensures { sized result row.new ≡ fixed_at (posed_of leaf.now) leaf.now.labels.now leaf.now.model.now x }
 {
-    match classes::class_literal(labels, s.literals + 1, x) {
+    match classes::class_literal(leaf.labels, leaf.s.literals + 1, x) {
         Some(l) => {
-            let literal = question::placed_text(ticket, places, l);
-            fill_text(row, ticket, literal.at, literal.count);
+            let literal = question::placed_text(leaf.ticket, leaf.places, l);
+            fill_text(row, leaf.ticket, literal.at, literal.count);
             literal.count
         }
-        None => {
-            let len = leaf::value_of(model, s, LEN, x);
-            let code = leaf::value_of(model, s, CODE, x);
-            fill_character(row, len, code)
-        }
+        None => fill_character(row, leaf.value_of(LEN, x), leaf.value_of(CODE, x)),
     }
 }
 
 // The first two rounds for every variable; answers the sizes.
-fn give_fixed(
-    ticket: &[u8],
-    places: &[usize],
-    model: &[i64],
-    s: Progress,
-    labels: &[u8; NODE_COUNT],
-    characters: &mut [u32],
-) -> [usize; VARIABLE_LIMIT]
-    requires leaf_ready { LeafReady ticket.now places.now model.now s × (length_limit * s.p ≤ length characters.old) }
-    requires within { Within value_limit model.now }
-    ensures { (y : ℕ) → y < s.p
-        → string_in characters.new result y ≡ fixed_at (asked ticket.now s) labels.now model.now y }
+fn give_fixed(leaf: &Leaf, characters: &mut [u32]) -> [usize; VARIABLE_LIMIT]
+    requires leaf_ready { Ready leaf.now × (length_limit * leaf.now.s.p ≤ length characters.old) }
+    requires within { Within value_limit leaf.now.model.now }
+    ensures { (y : ℕ) → y < leaf.now.s.p
+        → string_in characters.new result y ≡ fixed_at (posed_of leaf.now) leaf.now.labels.now leaf.now.model.now y }
 {
     let mut sizes = [NOT_GIVEN; VARIABLE_LIMIT];
-    for x in 0..s.p {
+    for x in 0..leaf.s.p {
         let from = LENGTH_LIMIT * x;
         let row = &mut characters[from..from + LENGTH_LIMIT];
-        let size = fill_fixed(ticket, places, model, s, labels, x, row);
+        let size = fill_fixed(leaf, x, row);
         sizes[x] = size;
     }
     sizes
 }
 
 // The third round for variable x: it keeps its string from the first two, or gets that of the lowest variable of its class, or the first that is not given.
-fn complete(
-    model: &[i64],
-    s: Progress,
-    labels: &[u8; NODE_COUNT],
-    characters: &mut [u32],
-    sizes: &[usize],
-    x: usize,
-) -> usize
-    requires modelled { Modelled model.now s × (1 ≤ s.n) × (s.n ≤ alphabet_limit) × (x < s.p)
-        × (length_limit * s.p ≤ length characters.old) × (length sizes.now ≡ variable_limit) }
-    requires x_in_bounds { nat_abs (model_value (numbered s) model.now len x) ≤ length_limit }
+fn complete(leaf: &Leaf, characters: &mut [u32], sizes: &[usize; VARIABLE_LIMIT], x: usize) -> usize
+    requires modelled { Modelled leaf.now.model.now leaf.now.s × (1 ≤ leaf.now.s.n) × (leaf.now.s.n ≤ alphabet_limit) × (x < leaf.now.s.p)
+        × (length_limit * leaf.now.s.p ≤ length characters.old) }
+    requires x_in_bounds { nat_abs (model_value (numbered leaf.now.s) leaf.now.model.now len x) ≤ length_limit }
     requires by_index { (y : ℕ) → y < x → get_or sizes.now y 0 ≤ length_limit }
     ensures characters_after { characters.new
         ≡ sets characters.old (length_limit * x)
-        (completed_by s labels.now model.now characters.old sizes.now x) }
-    ensures value { result ≡ length (completed_by s labels.now model.now characters.old sizes.now x) }
+        (completed_by leaf.now.s leaf.now.labels.now leaf.now.model.now characters.old sizes.now x) }
+    ensures value { result ≡ length (completed_by leaf.now.s leaf.now.labels.now leaf.now.model.now characters.old sizes.now x) }
     ensures upper_bound { result ≤ length_limit }
 {
     let own = sizes[x];
     if own <= LENGTH_LIMIT {
         return own;
     }
-    let first = classes::lowest_variable(labels, x);
+    let first = classes::lowest_variable(leaf.labels, x);
     if first < x {
         let size = sizes[first];
         let w = row_of(characters, first, size);
         store(characters, x, &w[..size]);
         return size;
     }
-    let len = leaf::value_of(model, s, LEN, x);
-    let m = leaf::magnitude(len);
-    let w = fresh(characters, sizes, s.p, s.n, m);
+    let len = leaf.value_of(LEN, x);
+    let m = magnitude(len);
+    let w = fresh(characters, sizes, leaf.s.p, leaf.s.n, m);
     store(characters, x, &w[..m]);
     m
 }
 
 // "a class with a literal gets it; a class of length 1 gets the character of its code; then each other class, by lowest variable, gets the smallest string of
 // its length, by code points, not yet given". Fills the table with the strings and answers their sizes.
-pub fn give_strings(
-    ticket: &[u8],
-    places: &[usize],
-    model: &[i64],
-    s: Progress,
-    labels: &[u8; NODE_COUNT],
-    characters: &mut [u32],
-) -> [usize; VARIABLE_LIMIT]
-    requires leaf_ready { LeafReady ticket.now places.now model.now s × (length_limit * s.p ≤ length characters.old) }
-    requires within { Within value_limit model.now }
-    requires short_sizes { ShortSizes (asked ticket.now s) model.now }
-    ensures p_after { (b : Branch) → labels.now ≡ calculus.labels b
-        → table_strings characters.new result s.p ≡ strings (asked ticket.now s) b model.now }
-    ensures table { Table characters.new result s.p }
+pub fn give_strings(leaf: &Leaf, characters: &mut [u32]) -> [usize; VARIABLE_LIMIT]
+    requires leaf_ready { Ready leaf.now × (length_limit * leaf.now.s.p ≤ length characters.old) }
+    requires within { Within value_limit leaf.now.model.now }
+    requires short_sizes { ShortSizes (posed_of leaf.now) leaf.now.model.now }
+    ensures p_after { (b : Branch) → leaf.now.labels.now ≡ calculus.labels b
+        → table_strings characters.new result leaf.now.s.p ≡ strings (posed_of leaf.now) b leaf.now.model.now }
+    ensures table { Table characters.new result leaf.now.s.p }
 {
-    let mut sizes = give_fixed(ticket, places, model, s, labels, characters);
-    for x in 0..s.p {
-        let size = complete(model, s, labels, characters, &sizes, x);
+    let mut sizes = give_fixed(leaf, characters);
+    for x in 0..leaf.s.p {
+        let size = complete(leaf, characters, &sizes, x);
         sizes[x] = size;
     }
     sizes

@@ -1,6 +1,5 @@
 use mir.Syntax.{w64}
 use Prim.Native.Nat.{◌*◌, ◌<◌, ◌≤◌, ℕ}
-use borrow.Author.Rules.{rules}
 use lib.IntN.{nat_abs}
 use lib.ListN.{drop, get_or, length, take}
 use lib.Seq.{length-take-le, sets}
@@ -24,7 +23,7 @@ use Rattle.strings.proofs.complete.Goals.{After-fresh-w, After-magnitude-m, Afte
 -- the length of x without its sign
 size_is : (c : After-magnitude-m) →
     let args = c.args in
-    c.magnitude-m.result ≡ nat_abs (model_value (numbered args.s) args.model.now len args.x)
+    c.magnitude-m.result ≡ nat_abs (model_value (numbered args.leaf.now.s) args.leaf.now.model.now len args.x)
 size_is c = c.magnitude-m.ensures ∙ ap nat_abs (to_z-of_z {w = w64} (record { sfits = c.value_of-len.type_inv }) ∙ c.value_of-len.ensures)
 
 -- and is at most 64
@@ -36,18 +35,18 @@ size-short c =
 copied : (c : After-row_of-w) →
     let args = c.args in
     take (get_or args.sizes.now c.lowest_variable-first.result 0) c.row_of-w.result
-    ≡ completed args.s.n args.s.p args.labels.now (nat_abs (model_value (numbered args.s) args.model.now len args.x))
+    ≡ completed args.leaf.now.s.n args.leaf.now.s.p args.leaf.now.labels.now (nat_abs (model_value (numbered args.leaf.now.s) args.leaf.now.model.now len args.x))
     args.characters.now args.sizes.now args.x
 copied c =
     let if1 = c.if-own-le-LENGTH_LIMIT in
     let s = c.args in
     let cs = s.characters.now in
-    let low = lowest_variable s.labels.now s.x in
+    let low = lowest_variable s.leaf.now.labels.now s.x in
     let first = c.lowest_variable-first.result in
     let e : first ≡ low = c.lowest_variable-first.ensures in
     let k : first < s.x = c.if-first-x.true in
     c.row_of-w.ensures ∙ ap (λ (y : ℕ). row cs y (get_or s.sizes.now y 0)) e
-    ∙ sym (completed_copied s.s.n s.s.p s.labels.now _ cs s.sizes.now s.x (sized_none _ _ if1.false) (omega arith))
+    ∙ sym (completed_copied s.leaf.now.s.n s.leaf.now.s.p s.leaf.now.labels.now _ cs s.sizes.now s.x (sized_none _ _ if1.false) (omega arith))
 
 -- and has at most 64 characters
 copied-short : (c : After-row_of-w) →
@@ -71,18 +70,18 @@ copied-length c =
 new : (c : After-fresh-w) →
     let args = c.args in
     take c.magnitude-m.result c.fresh-w.result
-    ≡ completed args.s.n args.s.p args.labels.now (nat_abs (model_value (numbered args.s) args.model.now len args.x))
+    ≡ completed args.leaf.now.s.n args.leaf.now.s.p args.leaf.now.labels.now (nat_abs (model_value (numbered args.leaf.now.s) args.leaf.now.model.now len args.x))
     args.characters.now args.sizes.now args.x
 new c =
     let lowest-variable = c.lowest_variable-first in
     let if1 = c.if-own-le-LENGTH_LIMIT in
     let s = c.args in
     let cs = s.characters.now in
-    let e : lowest-variable.result ≡ lowest_variable s.labels.now s.x = lowest-variable.ensures in
+    let e : lowest-variable.result ≡ lowest_variable s.leaf.now.labels.now s.x = lowest-variable.ensures in
     let k : s.x ≤ lowest-variable.result = c.if-first-x.false in
     c.fresh-w.ensures
-    ∙ ap (λ (m : ℕ). fresh_from s.s.p s.s.n m (given_strings cs s.sizes.now s.s.p) 0) (size_is (goal.at.After-fresh-w c).After-magnitude-m)
-    ∙ sym (completed_fresh s.s.n s.s.p s.labels.now _ cs s.sizes.now s.x (sized_none _ _ if1.false) (omega arith))
+    ∙ ap (λ (m : ℕ). fresh_from s.leaf.now.s.p s.leaf.now.s.n m (given_strings cs s.sizes.now s.leaf.now.s.p) 0) (size_is (goal.at.After-fresh-w c).After-magnitude-m)
+    ∙ sym (completed_fresh s.leaf.now.s.n s.leaf.now.s.p s.leaf.now.labels.now _ cs s.sizes.now s.x (sized_none _ _ if1.false) (omega arith))
 
 -- and has as many characters as the length says
 new-length : (c : After-fresh-w) → length (take c.magnitude-m.result c.fresh-w.result) ≡ c.magnitude-m.result
@@ -97,8 +96,8 @@ returns-then-own-le-LENGTH_LIMIT c =
     let own = get_or s.sizes.now s.x 0 in
     let h : own ≤ 64 = c.if-own-le-LENGTH_LIMIT.true in
     let r : row cs s.x own
-    ≡ completed s.s.n s.s.p s.labels.now (nat_abs (model_value (numbered s.s) s.model.now len s.x)) cs s.sizes.now s.x =
-    sym (completed_own s.s.n s.s.p s.labels.now _ cs s.sizes.now s.x (row cs s.x own)
+    ≡ completed s.leaf.now.s.n s.leaf.now.s.p s.leaf.now.labels.now (nat_abs (model_value (numbered s.leaf.now.s) s.leaf.now.model.now len s.x)) cs s.sizes.now s.x =
+    sym (completed_own s.leaf.now.s.n s.leaf.now.s.p s.leaf.now.labels.now _ cs s.sizes.now s.x (row cs s.x own)
     (sized_some own (drop (length_limit * s.x) cs) h)) in record {
       characters_after = sym (ap (λ (w : List ℕ). sets cs (length_limit * s.x) w) (sym r) ∙ row_again cs s.x own h (omega arith));
       value = sym (length_row cs s.x own h (omega arith)) ∙ ap length r;
@@ -136,7 +135,7 @@ returns-then-first-x c =
     }
 
 pub fresh-w-requires : goal.fresh-w-requires
-fresh-w-requires c = (search rules, omega arith, size-short (goal.at.fresh-w-requires c).After-magnitude-m, omega arith, omega arith, omega arith)
+fresh-w-requires c = (omega arith, size-short (goal.at.fresh-w-requires c).After-magnitude-m, omega arith, omega arith, omega arith)
 
 pub slice_bounds-w-end-2 : goal.slice_bounds-w-end-2
 slice_bounds-w-end-2 c =

@@ -40,7 +40,7 @@ loop-x-preserved c =
       simp length-set l.invariant.1,
       λ y h. ap (λ (cs : List ℕ). string_in cs (set l.sizes l.x r.result) y) p
           ∙ stored_passed l.characters l.sizes l.x r.result v (omega arith) (λ q. omega arith) (omega arith) (omega arith)
-          (fixed_at (asked s.ticket.now s.s) s.labels.now s.model.now) l.invariant.2 r.ensures y h,
+          (fixed_at (asked s.leaf.now.ticket.now s.leaf.now.s) s.leaf.now.labels.now s.leaf.now.model.now) l.invariant.2 r.ensures y h,
     )
 
 pub shape_of-characters : goal.shape_of-characters

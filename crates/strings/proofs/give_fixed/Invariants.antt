@@ -9,4 +9,4 @@ abbrev pub invariant-loop-x : goal.invariant-loop-x
 invariant-loop-x l =
     (length l.characters ≡ length l.initial.characters)
     × (length l.sizes ≡ 16)
-    × ((y : ℕ) → y < l.x → string_in l.characters l.sizes y ≡ fixed_at (asked l.ticket l.s) l.labels l.model y)
+    × ((y : ℕ) → y < l.x → string_in l.characters l.sizes y ≡ fixed_at (asked l.leaf.ticket.now l.leaf.s) l.leaf.labels.now l.leaf.model.now y)

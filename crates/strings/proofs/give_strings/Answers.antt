@@ -31,7 +31,7 @@ loop-x-init c =
       refl,
       c.give_fixed-sizes.type_inv.1.0.1,
       (λ y h. omega arith),
-      λ b e. round_start (asked c.args.ticket.now c.args.s) b c.args.model.now c.args.labels.now _ _ e
+      λ b e. round_start (asked c.args.leaf.now.ticket.now c.args.leaf.now.s) b c.args.leaf.now.model.now c.args.leaf.now.labels.now _ _ e
           c.give_fixed-sizes.ensures,
     )
 
@@ -45,7 +45,6 @@ complete-size-requires c =
         c.requires.leaf_ready.0.posed.stands.few_characters,
         c.loop-x-test.true,
         l.invariant.1,
-        l.invariant.3,
       );
       x_in_bounds = c.requires.short_sizes l.x c.loop-x-test.true;
       by_index = l.invariant.4;
@@ -55,7 +54,7 @@ pub bounds-sizes-x : goal.bounds-sizes-x
 bounds-sizes-x c =
     let args = c.args in
     let l = c.loop-x in
-    let h : l.x < args.s.p = c.loop-x-test.true in
+    let h : l.x < args.leaf.now.s.p = c.loop-x-test.true in
     omega (arith, l.invariant.0)
 
 pub loop-x-preserved : goal.loop-x-preserved
@@ -63,11 +62,11 @@ unfolding asked
 loop-x-preserved c =
     let l = c.loop-x in
     let s = c.args in
-    let u = asked s.ticket.now s.s in
-    let m = s.model.now in
-    let h : l.x < s.s.p = c.loop-x-test.true in
-    let few : s.s.p ≤ 16 = l.invariant.0 in
-    let room : 64 * s.s.p ≤ length l.characters = l.invariant.1 in
+    let u = asked s.leaf.now.ticket.now s.leaf.now.s in
+    let m = s.leaf.now.model.now in
+    let h : l.x < s.leaf.now.s.p = c.loop-x-test.true in
+    let few : s.leaf.now.s.p ≤ 16 = l.invariant.0 in
+    let room : 64 * s.leaf.now.s.p ≤ length l.characters = l.invariant.1 in
     let all : length l.sizes ≡ 16 = l.invariant.3 in (
       few,
       omega (arith, c.complete-size.auto.characters),
@@ -76,7 +75,7 @@ loop-x-preserved c =
       sizes_more l.sizes l.x c.complete-size.result (omega arith) l.invariant.4 c.complete-size.ensures.upper_bound,
       λ b e. subst (λ (cs : List ℕ). Filled u b m cs (set l.sizes l.x c.complete-size.result) (l.x + 1)) (sym c.complete-size.ensures.characters_after)
           (round_more u b m l.characters l.sizes l.x h (l.invariant.5 b e) c.complete-size.result _ c.complete-size.ensures.value c.complete-size.ensures.upper_bound (omega arith) room
-          (ap (λ (ls : List ℕ). completed s.s.n s.s.p ls (nat_abs (model_value u m len l.x)) l.characters l.sizes l.x) e
+          (ap (λ (ls : List ℕ). completed s.leaf.now.s.n s.leaf.now.s.p ls (nat_abs (model_value u m len l.x)) l.characters l.sizes l.x) e
           ∙ completed_is u b m l.characters l.sizes l.x h (l.invariant.5 b e))),
     )
 
@@ -89,9 +88,9 @@ pub returns : goal.returns
 unfolding asked
 returns c =
     let l = c.loop-x in
-    let u = asked c.args.ticket.now c.args.s in
-    let m = c.args.model.now in
-    let x : l.x ≡ c.args.s.p = omega arith in record {
+    let u = asked c.args.leaf.now.ticket.now c.args.leaf.now.s in
+    let m = c.args.leaf.now.model.now in
+    let x : l.x ≡ c.args.leaf.now.s.p = omega arith in record {
       p_after = (λ b e. round_done u b m l.characters l.sizes (subst (λ (k : ℕ). Filled u b m l.characters l.sizes k) x (l.invariant.5 b e)));
       table = record { few = l.invariant.0; room = l.invariant.1; sized = omega (arith, l.invariant.0, l.invariant.3); short = λ y h. l.invariant.4 y (omega (arith, h, x)) };
     }

@@ -5,12 +5,12 @@ use mir.Val.{of_z, to_z}
 use Rattle.calculus.specs.Facts.{code, len}
 use Rattle.calculus.specs.Model.{model_value}
 use Rattle.question.specs.Posed.{numbered}
-use Rattle.leaf.proofs.pair_fits.Goals as goal
+use Rattle.leaf.proofs.Leaf.pair_fits.Goals as goal
 
 pub returns : goal.returns
 returns c =
-    let u = numbered c.args.s in
-    let m = c.args.model.now in
+    let u = numbered c.args.self.now.s in
+    let m = c.args.self.now.model.now in
     let w : to_z w64 (of_z w64 c.value_of-w.result) ≡ model_value u m len c.args.y =
     to_z-of_z {w = w64} (record { sfits = c.value_of-w.type_inv }) ∙ c.value_of-w.ensures in
     let d : to_z w64 (of_z w64 c.value_of-d.result) ≡ model_value u m code c.args.y =

@@ -11,11 +11,11 @@ use Rattle.calculus.specs.Facts.{len}
 use Rattle.calculus.specs.Limits.{length_limit}
 use Rattle.calculus.specs.Model.{model_value}
 use Rattle.question.specs.Posed.{numbered}
-use Rattle.leaf.proofs.short_lengths.Goals as goal
+use Rattle.leaf.proofs.Leaf.short_lengths.Goals as goal
 
 pub returns : goal.returns
 returns c =
     let s = c.args in
-    all_from_yields_List (λ (x : ℕ). le_z (model_value (numbered s.s) s.model.now len x) (pos length_limit)) _ _ _ c.all.ensures.ran
-    (YieldsList-from_range 0 s.s.p s.s.p (search rules) (search rules)) (λ x b q k. search (rules, tests))
-    ∙ all_below_is _ s.s.p
+    all_from_yields_List (λ (x : ℕ). le_z (model_value (numbered s.self.now.s) s.self.now.model.now len x) (pos length_limit)) _ _ _ c.all.ensures.ran
+    (YieldsList-from_range 0 s.self.now.s.p s.self.now.s.p (search rules) (search rules)) (λ x b q k. search (rules, tests))
+    ∙ all_below_is _ s.self.now.s.p
