@@ -19,6 +19,7 @@ ghost use Rattle.model.specs.Settled.{values, model_of, fault_of, Filled, Writab
 use answer::write_answer;
 use delimiters::model_fault;
 use faults::Fault;
+use leaf::Leaf;
 use limits::{LENGTH_LIMIT, NODE_COUNT, VARIABLE_LIMIT};
 use question::Progress;
 use records::i32_at;
@@ -56,10 +57,17 @@ fn leaf_fault(
     }
     let columns = s.q + (s.p + s.p);
     let values = &model[..columns];
-    if !leaf::settled(ticket, places, work, count, values, s, &labels) {
+    let leaf = Leaf {
+        ticket,
+        places,
+        s,
+        model: values,
+        labels: &labels,
+    };
+    if !leaf.settled(work, count) {
         return Err(Fault::NotSettled);
     }
-    if !leaf::short_lengths(values, s) {
+    if !leaf.short_lengths() {
         return Err(Fault::LongString);
     }
     Ok(())
@@ -105,7 +113,14 @@ pub fn write(
 {
     let columns = s.q + (s.p + s.p);
     let values = &model[..columns];
+    let leaf = Leaf {
+        ticket,
+        places,
+        s,
+        model: values,
+        labels,
+    };
     let mut characters = [0u32; TABLE_CHARACTERS];
-    let sizes = give_strings(ticket, places, values, s, labels, &mut characters);
+    let sizes = give_strings(&leaf, &mut characters);
     write_answer(answer, &characters, &sizes, s.p, values, s.q);
 }
