@@ -133,10 +133,10 @@ fn set_of(
     work: &[i64],
     count: usize,
     sets: &[u64],
-    unions: Unions,
+    grounds: Grounds,
 ) -> Words
     requires { ReadyUnder claim rule ticket.now s at size work.now count × Roomy sets.now }
-    ensures { SetOf claim rule ticket.now s at size work.now count sets.now unions result }
+    ensures { SetOf claim rule ticket.now s at size work.now count sets.now grounds.unions result }
 {
     match claim {
         Claim::NoSolution => {
@@ -145,7 +145,7 @@ fn set_of(
                 body: at + RECORD_HEAD,
                 size,
             };
-            step_set(ticket, s, step, work, count, sets, unions)
+            step_set(ticket, s, step, work, count, sets, grounds.unions)
         }
         Claim::Strings => no_constraint(),
     }
@@ -214,8 +214,7 @@ pub fn walk(
     let mut known = first;
     let mut grounds = Grounds::first(claim, work, sets, s.constraints);
     let mut b = Branch::new(s.constraints);
-    let mut i = record;
-    let mut k = r;
+    let (mut i, mut k) = (record, r);
     loop {
         let mut count = b.count as usize;
         let found = next_record(ticket, s, claim, i).map_err(|fault| fault.at(k))?;
@@ -226,23 +225,11 @@ pub fn walk(
         let upto = known.upto;
         known = classes_for(rule, known, work, count);
         grounds = grounds.brought_up(claim, upto, work, sets, known.upto);
-        let mut set = set_of(
-            claim,
-            ticket,
-            s,
-            rule,
-            i,
-            size,
-            work,
-            count,
-            sets,
-            grounds.unions,
-        );
+        let mut set = set_of(claim, ticket, s, rule, i, size, work, count, sets, grounds);
         let depth = b.depth as usize;
         let labels = known.labels;
-        let taken = take_step(ticket, s, claim, rule, i, size, work, count, depth, labels).map_err(
-            |fault| fault.at(k),
-        )?;
+        let step = take_step(ticket, s, claim, rule, i, size, work, count, depth, labels);
+        let taken = step.map_err(|fault| fault.at(k))?;
         match taken {
             Action::Closes => {
                 grounds = grounds.with_closing(set);

@@ -8,7 +8,7 @@ unfolding SetOf
 returns-in-NoSolution c =
     let a = c.args in
     subst
-    (λ (x : Claim). SetOf x a.rule a.ticket.now a.s a.«at» a.size a.work.now a.count a.sets.now a.unions c.step_set.result)
+    (λ (x : Claim). SetOf x a.rule a.ticket.now a.s a.«at» a.size a.work.now a.count a.sets.now a.grounds.unions c.step_set.result)
     (sym c.in-NoSolution.is) c.step_set.ensures
 
 pub returns-in-Strings : goal.returns-in-Strings
@@ -16,5 +16,5 @@ unfolding SetOf
 returns-in-Strings c =
     let a = c.args in
     subst
-    (λ (x : Claim). SetOf x a.rule a.ticket.now a.s a.«at» a.size a.work.now a.count a.sets.now a.unions c.no_constraint.result)
+    (λ (x : Claim). SetOf x a.rule a.ticket.now a.s a.«at» a.size a.work.now a.count a.sets.now a.grounds.unions c.no_constraint.result)
     (sym c.in-Strings.is) tt

@@ -210,9 +210,9 @@ brought_up-grounds-requires c = (
 pub set_of-set-requires : goal.set_of-set-requires
 set_of-set-requires c = (ready (goal.at.set_of-set-requires c).In-Step, roomy (goal.at.set_of-set-requires c).At-loop-found)
 
-pub take_step-requires : goal.take_step-requires
-take_step-requires c =
-    (ready (goal.at.take_step-requires c).In-Step, (known_for c.loop-found.invariant.0.knows c.classes_for-known.ensures).1)
+pub take_step-step-requires : goal.take_step-step-requires
+take_step-step-requires c =
+    (ready (goal.at.take_step-step-requires c).In-Step, (known_for c.loop-found.invariant.0.knows c.classes_for-known.ensures).1)
 
 -- ---- the step is taken
 abbrev Taken : Type 0
@@ -229,14 +229,14 @@ setOf t = t.set_of-set.result
 
 -- the work area after it
 abbrev workOf : Taken → List ℤ
-workOf t = t.take_step.new.work
+workOf t = t.take_step-step.new.work
 
 same-work : (t : Taken) → length (workOf t) ≡ length t.loop-found.work
-same-work t = t.take_step.auto.work
+same-work t = t.take_step-step.auto.work
 
 -- what the step comes to
-result_of : (t : Taken) → t.take_step.result ≡ Ok t.in_ok-taken.taken
-result_of t = value_before _ t.take_step.result t.map_err-in-loop-found.ensures.cases t.in_ok-taken.was
+result_of : (t : Taken) → t.take_step-step.result ≡ Ok t.in_ok-taken.taken
+result_of t = value_before _ t.take_step-step.result t.map_err-in-loop-found.ensures.cases t.in_ok-taken.was
 
 -- where the loop stands, with what is kept for the rule
 going : (t : Taken) →
@@ -277,10 +277,10 @@ stepped t =
       sized = step.sized;
       whole = step.whole;
       step = step.step;
-      number = sym (ap fault_in (result_of t)) ∙ t.take_step.ensures.number
+      number = sym (ap fault_in (result_of t)) ∙ t.take_step-step.ensures.number
           ∙ as_pending b a.s a.claim o.work o.b o.i o.invariant.0.holds
           ∙ step.tried o.work o.b.count (pending_on b a.s o.work o.b);
-      acts = IfOk-at_ok _ (result_of t) t.take_step.ensures.acts;
+      acts = IfOk-at_ok _ (result_of t) t.take_step-step.ensures.acts;
     }
 
 resting : (t : Taken) →
@@ -297,12 +297,12 @@ returns-in_err-taken-clause-walked c =
     let o = c.loop-found in
     let step = step-here (goal.at.returns-in_err-taken-clause-walked c).In-Step in
     let p = err_from_is_err_and c.from_residual-in_err-taken.result c.from_residual-in_err-taken.ensures.1 in
-    let (f, q, h) = error_before _ c.take_step.result c.map_err-in-loop-found.ensures.cases c.in_err-taken.was in
+    let (f, q, h) = error_before _ c.take_step-step.result c.map_err-in-loop-found.ensures.cases c.in_err-taken.was in
     let at : (c.in_err-taken.field-0.0.fault ≡ f) × (c.in_err-taken.field-0.0.«record» ≡ o.k) = search rules in
     let number =
-    sym (ap fault_in q) ∙ c.take_step.ensures.number ∙ as_pending b a.s a.claim o.work o.b o.i o.invariant.0.holds
+    sym (ap fault_in q) ∙ c.take_step-step.ensures.number ∙ as_pending b a.s a.claim o.work o.b o.i o.invariant.0.holds
     ∙ step.tried o.work o.b.count (pending_on b a.s o.work o.b) in
-    rw (p.1, p.2) (going_refused b a.s o.invariant.0 c.take_step.new.work step.whole f _ number at)
+    rw (p.1, p.2) (going_refused b a.s o.invariant.0 c.take_step-step.new.work step.whole f _ number at)
 
 pub overflow_add-result : goal.overflow_add-result
 overflow_add-result c =
