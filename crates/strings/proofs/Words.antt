@@ -92,9 +92,6 @@ digits_done n m k (suc zero) rest out g h l r e =
     ∙ e
 digits_done n m k (suc (suc i)) rest out g h l r e = absurd (omega arith)
 
-pub none_taken : (l : List ℕ) → take 0 l ≡ []
-none_taken l = take_zero l
-
 -- the front is zeros
 pub zeros : (i k : ℕ) → i ≤ k → take {A = ℕ} i (replicate k 0) ≡ replicate i 0
 zeros zero k h = take_zero (replicate k 0)

@@ -19,6 +19,7 @@ ghost use Rattle.strings.specs.Filling.{sized, string_in, given_strings, is_it, 
 use encoding::{CODE, LEN};
 use leaf::{Leaf, magnitude};
 use limits::{LENGTH_LIMIT, VARIABLE_LIMIT};
+use records::fields_at;
 
 // The size of a variable that has no string yet. Sizes are plain numbers and not options: those of the filled table are handed on as they stand, and the definitions
 // of the table read a size past 64 as none.
@@ -97,8 +98,8 @@ fn fill_text(row: &mut [u32], ticket: &[u8], at: usize, count: usize)
     requires { (at + 4 * count ≤ length ticket.now) × (count ≤ length row.old) × (count ≤ length_limit) }
     ensures { take count row.new ≡ u32s ticket.now at count }
 {
-    for i in 0..count {
-        row[i] = records::u32_at(ticket, at + 4 * i) as u32;
+    for (i, character) in fields_at::<u32>(ticket, at, count).enumerate() {
+        row[i] = character;
     }
 }
 
