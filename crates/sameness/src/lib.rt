@@ -69,6 +69,7 @@ fn rows_alike(b: &[u8], row: &[i64], c: &[u8], other: &[i64]) -> bool
 }
 
 // How many facts of a question are like one.
+// A `for`: in a chain the closure would have to ask in a clause of its own that k is below the count and the question ready. The same in `rows_agree`.
 fn count_rows(b: &[u8], row: &[i64], c: &[u8], t: Progress, work: &[i64]) -> usize
     requires { (length row.now ≡ row_length) × LiteralIn b.now (fact_of row.now) × Ready c.now t work.now }
     ensures { (s : Progress) → literal_named (fact_of row.now) ≤ s.literals
@@ -129,6 +130,7 @@ fn extended_from(b: &[u8], s: Progress) -> usize
 }
 
 // How many extended constraints of a question are like the one with its body at a position.
+// Rows are found by their numbers, records only one behind another: so this shares no loop with `count_rows`, and `records_agree` none with `rows_agree`.
 fn count_records(b: &[u8], x: usize, c: &[u8], t: Progress) -> usize
     requires { (x + 6 ≤ length b.now) × (u16 b.now x ≤ 4) × Posed c.now t }
     ensures { (u v : Question) → result ≡ occurrences u v (extended (extended_of b.now x)) (extended_in c.now t) }

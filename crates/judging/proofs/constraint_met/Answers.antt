@@ -91,4 +91,4 @@ returns-in_default c =
     let a = c.args in
     let is = kind-is (goal.at.returns-in_default c).After-u16_at in
     absurd (none_else a.b.now a.v.now a.s a.places.now a.values.now c.requires.0 a.at c.requires.1
-    (λ e. c.in_default.in_default-own.rest.0.0.1 (is ∙ e)) (λ e. c.in_default.in_default-own.rest.0.1 (is ∙ e)) (λ e. c.in_default.in_default-own.rest.1 (is ∙ e)))
+    (λ e. omega (arith, is, e)) (λ e. omega (arith, is, e)) (λ e. omega (arith, is, e)))

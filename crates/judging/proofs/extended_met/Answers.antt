@@ -229,28 +229,26 @@ pub bounds-places-x-in_default : goal.bounds-places-x-in_default
 bounds-places-x-in_default c =
     let here = (goal.at.bounds-places-x-in_default c).After-u16_at-y in
     place-there here (x here)
-    (first_string here c.in_default.in_default-own.rest.0.1)
+    (first_string here (λ e. omega arith))
 
 pub bounds-places-y-in_default : goal.bounds-places-y-in_default
 bounds-places-y-in_default c =
     let here = (goal.at.bounds-places-y-in_default c).After-u16_at-y in
     place-there here (y here)
-    (second_string here c.in_default.in_default-own.rest.1)
+    (second_string here (λ e. omega arith))
 
 pub precedes-requires : goal.precedes-requires
 precedes-requires c =
-    let here = (goal.at.precedes-requires c).After-u16_at-y in
-    let others = c.in_default.in_default-own.rest in (
+    let here = (goal.at.precedes-requires c).After-u16_at-y in (
       text_there here (x here)
-          (first_string here others.0.1),
+          (first_string here (λ e. omega arith)),
       text_there here (y here)
-          (second_string here others.1),
+          (second_string here (λ e. omega arith)),
     )
 
 pub returns-in_default : goal.returns-in_default
 returns-in_default c =
     let here = (goal.at.returns-in_default c).After-u16_at-y in
-    let others = c.in_default.in_default-own.rest in
     c.precedes.ensures
     ∙ ap₂ (λ i j. precedes (text_at (v here) (get_or (places here) i 0))
     (text_at (v here) (get_or (places here) j 0)))
@@ -258,5 +256,5 @@ returns-in_default c =
     ∙ functions.order_met (b here) (v here)
     (s here) (places here)
     (values here) c.requires.0 (at here) c.requires.2
-    (not_tested here others.0.1) (not_tested here others.1)
-    (not_tested here others.0.0.0.1) (not_tested here others.0.0.1)
+    (not_tested here (λ e. omega arith)) (not_tested here (λ e. omega arith))
+    (not_tested here (λ e. omega arith)) (not_tested here (λ e. omega arith))

@@ -23,7 +23,8 @@ loop-column-init c =
 
 -- the pair in turn and those after it
 module _ (c : After-from-in-loop-column) where
-  here : Summing c.args.b.now c.args.at c.args.count c.args.values.now (to_z w64 c.loop-column.sum-bits) ((c.in-Some.column, c.in-Some.coefficient) ∷ c.next.new.self)
+  here : Summing c.args.b.now c.args.at c.args.count c.args.values.now (to_z w64 c.loop-column.sum-bits)
+      ((c.in-Some.column, c.in-Some.coefficient) ∷ c.next.new.self)
   here = rw c.in-Some.ensures.steps at c.loop-column.invariant
 
   abbrev added : ℤ
@@ -35,13 +36,15 @@ module _ (c : After-from-in-loop-column) where
       product_is c.from.result (get_or c.args.values.now c.from-in-loop-column.result (pos 0)) (record { sfits = c.from.type_inv })
       (sfits_abs _ (omega (arith, c.requires.small c.from-in-loop-column.result)))
       (c.from.ensures
-      ∙ to_z-of_z (coefficient_fits c.args.b.now c.args.at c.args.count c.args.values.now c.requires (to_z w64 c.loop-column.sum-bits) (c.in-Some.column, c.in-Some.coefficient) c.next.new.self here))
+      ∙ to_z-of_z (coefficient_fits c.args.b.now c.args.at c.args.count c.args.values.now c.requires (to_z w64 c.loop-column.sum-bits)
+      (c.in-Some.column, c.in-Some.coefficient) c.next.new.self here))
       (ap (λ (j : ℕ). get_or c.args.values.now j (pos 0)) c.from-in-loop-column.ensures)
 
   product_fits : SFits w64 (to_z w64 (of_z w64 c.from.result) *ℤ to_z w64 (of_z w64 (get_or c.args.values.now c.from-in-loop-column.result (pos 0))))
   product_fits =
       subst (λ (z : ℤ). SFits w64 z) (sym term)
-      (term_fits c.args.b.now c.args.at c.args.count c.args.values.now c.requires (to_z w64 c.loop-column.sum-bits) (c.in-Some.column, c.in-Some.coefficient) c.next.new.self here)
+      (term_fits c.args.b.now c.args.at c.args.count c.args.values.now c.requires (to_z w64 c.loop-column.sum-bits)
+      (c.in-Some.column, c.in-Some.coefficient) c.next.new.self here)
 
   -- and the sum with it
   total : to_z w64 c.loop-column.sum-bits
@@ -53,11 +56,13 @@ module _ (c : After-from-in-loop-column) where
       +ℤ to_z w64 (of_z w64 (to_z w64 (of_z w64 c.from.result) *ℤ to_z w64 (of_z w64 (get_or c.args.values.now c.from-in-loop-column.result (pos 0))))))
   total_fits =
       subst (λ (z : ℤ). SFits w64 z) (sym total)
-      (sum_fits c.args.b.now c.args.at c.args.count c.args.values.now c.requires (to_z w64 c.loop-column.sum-bits) (c.in-Some.column, c.in-Some.coefficient) c.next.new.self here)
+      (sum_fits c.args.b.now c.args.at c.args.count c.args.values.now c.requires (to_z w64 c.loop-column.sum-bits) (c.in-Some.column, c.in-Some.coefficient)
+      c.next.new.self here)
 
 pub bounds-values-from : goal.bounds-values-from
 bounds-values-from c =
-    rw c.from-in-loop-column.ensures (column_there c.args.b.now c.args.at c.args.count c.args.values.now c.requires (to_z w64 c.loop-column.sum-bits) (c.in-Some.column, c.in-Some.coefficient) c.next.new.self (here c))
+    rw c.from-in-loop-column.ensures (column_there c.args.b.now c.args.at c.args.count c.args.values.now c.requires (to_z w64 c.loop-column.sum-bits)
+    (c.in-Some.column, c.in-Some.coefficient) c.next.new.self (here c))
 
 pub overflow_mul-sum : goal.overflow_mul-sum
 overflow_mul-sum c = product_fits (goal.at.overflow_mul-sum c).After-from-in-loop-column
@@ -68,8 +73,10 @@ overflow_add-sum c = total_fits (goal.at.overflow_add-sum c).After-from-in-loop-
 pub loop-column-preserved : goal.loop-column-preserved
 loop-column-preserved c =
     subst (λ (z : ℤ). Summing c.args.b.now c.args.at c.args.count c.args.values.now z c.next.new.self)
-    (sym (to_z-of_z (total_fits (goal.at.loop-column-preserved c).After-from-in-loop-column) ∙ total (goal.at.loop-column-preserved c).After-from-in-loop-column))
-    (one_more c.args.b.now c.args.at c.args.count c.args.values.now c.requires (to_z w64 c.loop-column.sum-bits) (c.in-Some.column, c.in-Some.coefficient) c.next.new.self (here (goal.at.loop-column-preserved c).After-from-in-loop-column))
+    (sym
+    (to_z-of_z (total_fits (goal.at.loop-column-preserved c).After-from-in-loop-column) ∙ total (goal.at.loop-column-preserved c).After-from-in-loop-column))
+    (one_more c.args.b.now c.args.at c.args.count c.args.values.now c.requires (to_z w64 c.loop-column.sum-bits) (c.in-Some.column, c.in-Some.coefficient)
+    c.next.new.self (here (goal.at.loop-column-preserved c).After-from-in-loop-column))
 
 pub returns : goal.returns
 returns c =
