@@ -25,24 +25,25 @@ use records::fields_at;
 // of the table read a size past 64 as none.
 const NOT_GIVEN: usize = LENGTH_LIMIT + 1;
 
-// The k-th string of m of n characters goes to the front of a row of zeros, from the right as far as k reaches.
-fn fill_word(row: &mut [u32; LENGTH_LIMIT], n: usize, m: usize, k: usize)
-    requires { (row.old ≡ replicate length_limit 0) × (1 ≤ n) × (n ≤ alphabet_limit) × (m ≤ length_limit) × (k ≤ variable_limit) }
-    ensures row_after { take m row.new ≡ word n m k }
-    ensures row_len { length row.new ≡ length_limit }
+// The k-th string of m of n characters, at the front of a row of zeros: written from the right as far as k reaches.
+fn nth_word(n: usize, m: usize, k: usize) -> [u32; LENGTH_LIMIT]
+    requires { (1 ≤ n) × (n ≤ alphabet_limit) × (m ≤ length_limit) × (k ≤ variable_limit) }
+    ensures { take m result ≡ word n m k }
 {
+    let mut row = [0; LENGTH_LIMIT];
     if m == 0 {
-        return;
+        return row;
     }
     let mut rest = k;
     for i in (1..m).rev() {
         if rest == 0 {
-            return;
+            return row;
         }
         row[i] = (rest % n) as u32;
         rest /= n;
     }
     row[0] = rest as u32;
+    row
 }
 
 // Are two strings the same? The last characters are compared first, since words in a row differ there.
@@ -82,15 +83,12 @@ fn fresh(
     ensures { take m result ≡ fresh_from p n m (given_strings characters.now sizes.now p) 0 }
 {
     for k in 0..p {
-        let mut w = [0u32; LENGTH_LIMIT];
-        fill_word(&mut w, n, m, k);
+        let w = nth_word(n, m, k);
         if !is_given(characters, sizes, p, &w[..m]) {
             return w;
         }
     }
-    let mut w = [0u32; LENGTH_LIMIT];
-    fill_word(&mut w, n, m, p);
-    w
+    nth_word(n, m, p)
 }
 
 // A text of the ticket goes to the front of a row.

@@ -1,9 +1,7 @@
 use Prim.Native.Nat.{◌+◌, ◌-◌, ℕ}
-use lib.ListN.{length}
-use lib.Seq.{length-take-le}
 use mathlib.Core.Bool.{false, true}
 use mathlib.Core.List.{List}
-use mathlib.Core.Path.{◌∙◌, ◌≡◌, ap, refl, sym}
+use mathlib.Core.Path.{◌∙◌, ◌≡◌, ap, sym}
 use native.Mathlib.Omega.{arith}
 use Rattle.calculus.specs.Strings.{fresh_from, given, word}
 use Rattle.strings.proofs.Words.{fresh_done, fresh_no, fresh_yes}
@@ -16,28 +14,16 @@ loop-k-init c =
     let e : s.p - 0 ≡ s.p = omega arith in
     ap (λ (d : ℕ). fresh_from d s.n s.m (given_strings s.characters.now s.sizes.now s.p) 0) e
 
-pub fill_word-requires : goal.fill_word-requires
-fill_word-requires c = (refl, omega arith, omega arith, omega arith, omega arith)
-
-pub slice_bounds-w-end : goal.slice_bounds-w-end
-slice_bounds-w-end c = let n : length c.fill_word.new.row ≡ 64 = c.fill_word.ensures.row_len in omega arith
-
-pub slice_bounds-is_given-end : goal.slice_bounds-is_given-end
-slice_bounds-is_given-end c =
-    let args = c.args in
-    let n : length c.fill_word.new.row ≡ 64 = c.fill_word.ensures.row_len in
-    sym (length-take-le args.m c.fill_word.new.row (omega arith))
-
 pub returns-then-not-is_given : goal.returns-then-not-is_given
 returns-then-not-is_given c =
     let l = c.loop-k in
     let s = c.args in
     let g = given_strings s.characters.now s.sizes.now s.p in
     let e : given (word s.n s.m l.k) g ≡ false =
-    ap (λ (w : List ℕ). given w g) (sym c.fill_word.ensures.row_after)
+    ap (λ (w : List ℕ). given w g) (sym c.nth_word-w.ensures)
     ∙ sym c.is_given.ensures
     ∙ c.if-not-is_given.true in
-    c.fill_word.ensures.row_after ∙ sym (fresh_yes s.n s.m g l.k (s.p - l.k) e) ∙ l.invariant
+    c.nth_word-w.ensures ∙ sym (fresh_yes s.n s.m g l.k (s.p - l.k) e) ∙ l.invariant
 
 pub loop-k-preserved : goal.loop-k-preserved
 loop-k-preserved c =
@@ -45,14 +31,11 @@ loop-k-preserved c =
     let s = c.args in
     let g = given_strings s.characters.now s.sizes.now s.p in
     let e : given (word s.n s.m l.k) g ≡ true =
-    ap (λ (w : List ℕ). given w g) (sym c.fill_word.ensures.row_after)
+    ap (λ (w : List ℕ). given w g) (sym c.nth_word-w.ensures)
     ∙ sym c.is_given.ensures
     ∙ c.if-not-is_given.false in
     let less : s.p - (l.k + 1) ≡ s.p - l.k - 1 = omega arith in
     ap (λ (d : ℕ). fresh_from d s.n s.m g (l.k + 1)) less ∙ sym (fresh_no s.n s.m g l.k (s.p - l.k) (omega arith) e) ∙ l.invariant
-
-pub fill_word-requires-2 : goal.fill_word-requires-2
-fill_word-requires-2 c = (refl, omega arith, omega arith, omega arith, omega arith)
 
 pub returns : goal.returns
 returns c =
@@ -60,4 +43,4 @@ returns c =
     let s = c.args in
     let g = given_strings s.characters.now s.sizes.now s.p in
     let e : s.p ≡ l.k = omega arith in
-    c.fill_word-2.ensures.row_after ∙ ap (λ (k : ℕ). word s.n s.m k) e ∙ sym (fresh_done s.n s.m g l.k (s.p - l.k) (omega arith)) ∙ l.invariant
+    c.nth_word.ensures ∙ ap (λ (k : ℕ). word s.n s.m k) e ∙ sym (fresh_done s.n s.m g l.k (s.p - l.k) (omega arith)) ∙ l.invariant

@@ -3,7 +3,7 @@ use lib.ListN.{drop, length, replicate, take}
 use mathlib.Core.List.{◌++◌}
 use mathlib.Core.Path.{◌≡◌}
 use Rattle.calculus.specs.Strings.{word}
-use Rattle.strings.proofs.fill_word.Given as goal
+use Rattle.strings.proofs.nth_word.Given as goal
 
 abbrev pub invariant-loop-i : goal.invariant-loop-i
 invariant-loop-i l =
