@@ -68,7 +68,7 @@ fn bits_of(z: i64) -> usize
     (z as i32).cast_unsigned() as usize
 }
 
-// The first q numbers of a model, 4 bytes each.
+// The first q numbers of a model, 4 bytes each. A character has 32 bits by its type, a number of the model by the limit: one loop for both would be no shorter.
 fn put_integers(buffer: &mut [u8], at: usize, model: &[i64], q: usize)
     requires { Integers model.now q × (at + 4 * q ≤ length buffer.old) }
     ensures { buffer.new ≡ sets buffer.old at (integer_bytes (take q model.now)) }

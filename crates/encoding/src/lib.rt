@@ -1,11 +1,11 @@
-// The numbers by which documents 01 and 02 write kinds, claims, relations and functions, each under its name. Rules are named in `steps`, tags of rows in `rows`,
-// nodes in `classes`.
+// The numbers by which documents 01 and 02 write kinds, claims, relations and functions, each under its name. Rules are named in `steps`, tags of rows in
+// `rows`, nodes in `classes`.
 #![tactic(auto)]
 
 // "A record is a u32 body length, a u16 kind, a body": so many bytes stand before the body.
 pub const RECORD_HEAD: usize = 6;
 
-// ---- kinds of records
+// ---- kinds of records. A ticket's record may have any of 65,536 kinds, and the definitions of the format take its number: so a kind is a number, and no enum.
 
 // "1 head"
 pub const KIND_HEAD: usize = 1;

@@ -244,6 +244,7 @@ fn walk(ticket: &[u8], s: Progress, claim: Claim, from: usize, r: usize) -> Resu
     let mut facts = s.constraints;
     let mut at = from;
     let mut record = r;
+    // The bytes say where the steps end: no count is known before.
     loop {
         report = report.with_state(facts, pending.len());
         let Found::Whole(kind, size) = read_at(ticket, at) else {

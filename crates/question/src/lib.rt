@@ -479,6 +479,7 @@ pub fn read_question(m: Manner, b: &[u8]) -> Result<Read, Refusal>
     };
     let mut at = 0;
     let mut record = 0;
+    // The bytes say where the question ends: no count is known before.
     loop {
         let found = read_at(b, at);
         if ends_question(found) {

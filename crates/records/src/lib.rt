@@ -3,7 +3,7 @@
 
 ghost use Rattle.std.specs.Prelude.{◌≡◌, ◌+◌, ◌*◌, ◌<◌, ◌≤◌, length, nat_abs};
 ghost use Rattle.calculus.specs.Limits.{variable_limit, value_limit};
-ghost use Rattle.format.specs.Fields.{u16, u32, i32, u16s, u32s, i32s, pairs_at, pair_at, fields, signed, within, all_within};
+ghost use Rattle.format.specs.Fields.{u16, u32, i32, i32s, pair_at, fields, signed, within, all_within};
 ghost use Rattle.std.specs.Iterator.{YieldsFirst, item_count};
 ghost use Rattle.std.specs.Prelude.{List, ℕ};
 ghost use Rattle.format.specs.Places.{skip};

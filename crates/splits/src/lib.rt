@@ -46,7 +46,7 @@ fn occurs(b: &[u8], x: usize, at: usize, count: usize) -> bool
     fields_at(b, at, count).any(|y: u16| x == usize::from(y))
 }
 
-// Are the count variables from a position different?
+// Are the count variables from a position different? A chain over the fields would not know what stands after each of them.
 fn all_differ(b: &[u8], at: usize, count: usize) -> bool
     requires { at + 2 * count ≤ length b.now }
     ensures { result ≡ distinct (u16s b.now at count) }
@@ -61,6 +61,7 @@ fn all_differ(b: &[u8], at: usize, count: usize) -> bool
 }
 
 // Card: "for each neighbouring pair a fact states their lengths' difference = 0", of the variable at a position and the others after it.
+// That the two of a pair differ and are below p is known in a loop, and not in a closure.
 fn lengths_agree(
     b: &[u8],
     s: Progress,
@@ -192,6 +193,7 @@ fn put_bound(work: &mut [i64], count: usize, s: Progress, x: usize, m: usize)
 }
 
 // Card: "Children, for each pair i < j in lexicographic order, x_i ≈ x_j; last, len(x_1) ≥ L", of the m variables from a position.
+// The loop counts off the pairs of one variable after another.
 fn put_card(work: &mut [i64], count: usize, b: &[u8], s: Progress, at: usize, m: usize, k: usize)
     requires count_lt_fact_limit { (count < fact_limit) × (work_numbers ≤ length work.old) }
     requires le_m { (2 ≤ m) × (m ≤ variable_limit) × (at + 2 * m ≤ length b.now) × (are_variables s.p (u16s b.now at m) ≡ true) }
