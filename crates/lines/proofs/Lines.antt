@@ -6,6 +6,11 @@ use mathlib.Core.Path.{◌≡◌, refl, sym, ◌∙◌, ap, ap₂}
 use mathlib.Core.Bool.{Bool, true, false}
 use mathlib.Core.List.{List, [], ◌∷◌, ◌++◌, append-nil, append_assoc}
 use lib.ListN.{length}
+use lib.IntN.{ℤ, pos, nat_abs}
+use lib.Signed.{lt_z}
+use mir.Syntax.{w64}
+use mir.Val.{SFits, of_z, to_z}
+use Rattle.integers.proofs.Machine.{negative, not_negative}
 use lib.Dec.{leb, eqb}
 use borrow.Author.Tests.{lt-ltb, le-ltb, le-leb, lt-leb, leb-true, leb-false, eq-eqb, ne_eqb}
 use Rattle.lists.proofs.Lists.{down}
@@ -37,16 +42,13 @@ unfolding digits
 digits_more zero n h l = absurd (omega arith)
 digits_more (suc k) n h l = ap (by_digit k n) (le-ltb n 10 l) ∙ ap (λ j. digits j (n / 10) ++ ((48 + n % 10) ∷ [])) (sym (down k))
 
-pub integer_positive : (v : ℕ) → v < 2147483648 → decimal v ≡ integer (signed v)
-unfolding signed
-integer_positive v h = rw (lt-ltb v 2147483648 h)
+-- an integer by the test for its sign, as the machine holds it
+module _ (z : ℤ) (f : SFits w64 z) where
+  pub integer_positive : lt_z (to_z w64 (of_z w64 z)) (pos 0) ≡ false → decimal (nat_abs (to_z w64 (of_z w64 z))) ≡ integer z
+  integer_positive e = let (_, _, held, is) = not_negative z f e in ap (λ h. decimal (nat_abs h)) held ∙ sym (ap integer is)
 
-pub integer_negative : (v : ℕ) → 2147483648 ≤ v → v < 4294967296 → 45 ∷ decimal (4294967296 - v) ≡ integer (signed v)
-unfolding signed
-integer_negative v h l = rw (le-ltb v 2147483648 h) (ap (λ n. 45 ∷ decimal n) same)
-  where
-    same : 4294967296 - v ≡ suc (4294967295 - v)
-    same = omega arith
+  pub integer_negative : lt_z (to_z w64 (of_z w64 z)) (pos 0) ≡ true → 45 ∷ decimal (nat_abs (to_z w64 (of_z w64 z))) ≡ integer z
+  integer_negative e = let (_, _, held, is) = negative z f e in ap (λ h. 45 ∷ decimal (nat_abs h)) held ∙ sym (ap integer is)
 
 -- ---- one character or integer more
 

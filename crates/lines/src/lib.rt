@@ -3,7 +3,7 @@
 
 ghost use Rattle.std.specs.Prelude.{◌≡◌, [], ◌∷◌, ◌++◌, ◌+◌, ◌*◌, ◌≤◌, ◌<◌, length};
 ghost use Rattle.faults.specs.Numbers.{number};
-ghost use Rattle.format.specs.Fields.{u32s, i32s, signed};
+ghost use Rattle.format.specs.Fields.{u32s, i32s};
 ghost use Rattle.format.specs.Records.{records};
 ghost use Rattle.deciding.specs.Outcomes.{told_by};
 ghost use Rattle.lines.specs.Lines.{digits, decimal, integer, spaced, refused_line, string_line, integer_line, integer_lines, end_line};
@@ -16,7 +16,7 @@ use deciding::Verdict;
 use encoding::{KIND_VALUE, RECORD_HEAD};
 use faults::Refusal;
 use limits::{ANSWER_BYTES, REPORT_BYTES, WORK_NUMBERS};
-use records::{Found, read_at, u32_at};
+use records::{Found, i32_at, read_at, u32_at};
 
 // The lines so far: the buffer that they are put into, and the position after them.
 #[derive(Drop)]
@@ -68,17 +68,14 @@ impl Page<'_> {
         self.digits(n, 20);
     }
 
-    // The number whose two's complement at 32 bits is v.
-    fn integer(&mut self, v: usize)
-        requires { (v < 4294967296) × Room self.old 21 }
-        ensures { Puts self.old (integer (signed v)) 21 self.new }
+    fn integer(&mut self, z: i64)
+        requires { Room self.old 21 }
+        ensures { Puts self.old (integer z) 21 self.new }
     {
-        if v < 2147483648 {
-            self.decimal(v);
-        } else {
+        if z < 0 {
             self.byte(b'-');
-            self.decimal(4294967296 - v);
         }
+        self.decimal(z.unsigned_abs() as usize);
     }
 
     // A number after a space.
@@ -127,14 +124,14 @@ impl Page<'_> {
     }
 
     // "Integers follow strings as `i0 -5`"
-    fn integer_line(&mut self, variable: usize, v: usize)
-        requires { (v < 4294967296) × Room self.old 44 }
-        ensures { Puts self.old (integer_line variable (signed v)) 44 self.new }
+    fn integer_line(&mut self, variable: usize, z: i64)
+        requires { Room self.old 44 }
+        ensures { Puts self.old (integer_line variable z) 44 self.new }
     {
         self.byte(b'i');
         self.decimal(variable);
         self.byte(b' ');
-        self.integer(v);
+        self.integer(z);
         self.byte(b'\n');
     }
 
@@ -144,7 +141,7 @@ impl Page<'_> {
         ensures { Puts self.old (integer_lines 0 (i32s answer.now from count)) (44 * count) self.new }
     {
         for variable in 0..count {
-            self.integer_line(variable, u32_at(answer, from + 4 * variable));
+            self.integer_line(variable, i32_at(answer, from + 4 * variable));
         }
     }
 

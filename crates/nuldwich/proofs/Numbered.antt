@@ -9,9 +9,10 @@ use Rattle.format.specs.Checking as format
 use Rattle.format.specs.Checking.{verdict}
 use Rattle.format.specs.Cores.{word, core_of}
 use Rattle.format.specs.Demands.{answer_written}
-use Rattle.deciding.specs.declared.Outcome.{Outcome}
-use Rattle.deciding.specs.declared.Outcome.TheVariants.{Refused, NoSolution, Strings}
-use Rattle.deciding.specs.Outcomes.{told}
+use Rattle.std.specs.Prelude.{Result}
+use Rattle.faults.specs.declared.Refusal.{Refusal}
+use Rattle.deciding.specs.declared.Verdict.{Verdict}
+use Rattle.deciding.specs.Outcomes.{Told, Refused, NoSolution, Strings, told, told_by}
 use Rattle.checking.specs.Outcomes.{Promised}
 use Rattle.format.specs.Judging.{Submission, said, shown_by, by_side}
 use Rattle.judging.specs.declared.Finding.{Finding}
@@ -32,7 +33,7 @@ judge_reply_law h en es el = rw (en, es, el) (ap₂ judge_reply h.says h.shows)
 
 -- ---- checking
 
-abbrev pub reply_to : Outcome → Reply
+abbrev pub reply_to : Told → Reply
 reply_to (Refused c r) = record { number = c; «record» = r; core_low = 0; core_high = 0 }
 reply_to (NoSolution x y) = record { number = 0; «record» = 1; core_low = x; core_high = y }
 reply_to Strings = record { number = 0; «record» = 2; core_low = 0; core_high = 0 }
@@ -43,13 +44,14 @@ outcome_numbered (format.Refused c r) ticket = refl
 outcome_numbered format.NoSolution ticket = refl
 outcome_numbered (format.Strings s) ticket = refl
 
-pub replied : {o p : Outcome} → o ≡ p → (x : format.Outcome) (ticket : List ℕ) → o ≡ told x (core_of x ticket) → reply_to p ≡ check_reply x (core_of x ticket)
-replied e x ticket f = ap reply_to (sym e ∙ f) ∙ outcome_numbered x ticket
+pub replied : {o p : Result Verdict Refusal} → o ≡ p → (x : format.Outcome) (ticket : List ℕ) → told_by o ≡ told x (core_of x ticket)
+    → reply_to (told_by p) ≡ check_reply x (core_of x ticket)
+replied e x ticket f = ap reply_to (sym (ap told_by e) ∙ f) ∙ outcome_numbered x ticket
 
 -- a reply that numbers the outcome that was promised, with its set
-module _ {ticket : List ℕ} {work work' : List ℤ} {answer answer' : List ℕ} {o : Outcome} {reply : Reply}
+module _ {ticket : List ℕ} {work work' : List ℤ} {answer answer' : List ℕ} {o : Result Verdict Refusal} {reply : Reply}
     (k : Promised ticket work work' answer answer' o)
-    (r : (x : format.Outcome) (t : List ℕ) → o ≡ told x (core_of x t) → reply ≡ check_reply x (core_of x t)) where
+    (r : (x : format.Outcome) (t : List ℕ) → told_by o ≡ told x (core_of x t) → reply ≡ check_reply x (core_of x t)) where
   with_set : reply ≡ check_reply k.outcome (core_of k.outcome ticket)
   with_set = r k.outcome ticket (k.tells ∙ ap (told k.outcome) k.checked.took_part)
 

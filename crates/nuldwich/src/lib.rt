@@ -5,7 +5,7 @@
 ghost use Rattle.std.specs.Prelude.{◌≡◌, List, ℕ};
 ghost use Rattle.format.specs.Checking as format;
 ghost use Rattle.format.specs.Cores.{core_of};
-ghost use Rattle.deciding.specs.Outcomes.{told};
+ghost use Rattle.deciding.specs.Outcomes.{told, told_by};
 ghost use Rattle.format.specs.Judging.{by_side};
 ghost use Rattle.judging.specs.Judgements.{judgement_of, side_of};
 ghost use Rattle.format.specs.Needs.{needed};
@@ -16,11 +16,12 @@ ghost use Rattle.nuldwich.specs.Replies.{numbered, JudgeReplies, check_reply, Ch
 ghost use Rattle.nuldwich.specs.Version.{major, version};
 
 use checking::check_ticket;
-use deciding::Outcome;
-use judging::{Judgement, Side, judge_answer, show};
+use deciding::Verdict;
+use faults::Refusal;
+use judging::{Side, judge_answer, show};
 use limits::WORK_NUMBERS;
-use needs::{Need, need_ticket};
-use sameness::{Sameness, Which, same_questions};
+use needs::{Report, need_ticket};
+use sameness::{Refused, Which, same_questions};
 
 // ---- judging
 
@@ -41,25 +42,28 @@ struct JudgementNumbers {
     record: u64,
 }
 
-fn number_judgement(j: Judgement) -> JudgementNumbers
-    ensures { result ≡ numbered (judgement_of j) }
-{
-    match j {
-        Judgement::Refused(c, r) => JudgementNumbers {
-            number: c as u64,
-            record: r as u64,
-        },
-        Judgement::AllMet => JudgementNumbers {
-            number: 0,
-            record: 0,
-        },
-        Judgement::Unmet(k) => JudgementNumbers {
-            number: 255,
-            record: k as u64,
-        },
+impl From<Result<judging::Verdict, Refusal>> for JudgementNumbers {
+    ghost from_gives = { λ said numbers. numbers ≡ numbered (judgement_of said) };
+
+    fn from(said: Result<judging::Verdict, Refusal>) -> JudgementNumbers {
+        match said {
+            Err(refusal) => JudgementNumbers {
+                number: refusal.fault.number() as u64,
+                record: refusal.record as u64,
+            },
+            Ok(judging::Verdict::AllMet) => JudgementNumbers {
+                number: 0,
+                record: 0,
+            },
+            Ok(judging::Verdict::Unmet(k)) => JudgementNumbers {
+                number: 255,
+                record: k as u64,
+            },
+        }
     }
 }
 
+// No `From`: both types are of other crates.
 fn number_side(side: Side) -> u64
     ensures { result ≡ by_side (side_of side) 0 1 }
 {
@@ -74,15 +78,13 @@ pub fn nuldwich_judge<'a>(question: &'a [u8], answer: &'a [u8]) -> JudgeReply
     ensures { JudgeReplies question.now answer.now result }
 {
     let finding = judge_answer(question, answer);
-    let said = finding.said;
     let shown = finding.shown;
-    let side = shown.side;
     let part = show(question, answer, shown);
-    let numbers = number_judgement(said);
+    let numbers = JudgementNumbers::from(finding.said);
     JudgeReply {
         number: numbers.number,
         record: numbers.record,
-        shown: number_side(side),
+        shown: number_side(shown.side),
         offset: shown.from as u64,
         length: part.len() as u64,
     }
@@ -108,28 +110,31 @@ pub struct Reply {
     pub core_high: u64,
 }
 
-fn reply_outcome(o: Outcome) -> Reply
-    ensures { (x : format.Outcome) (ticket : List ℕ) → o ≡ told x (core_of x ticket) → result ≡ check_reply x (core_of x ticket) }
-{
-    match o {
-        Outcome::Refused(c, r) => Reply {
-            number: c as u64,
-            record: r as u64,
-            core_low: 0,
-            core_high: 0,
-        },
-        Outcome::NoSolution(low, high) => Reply {
-            number: 0,
-            record: 1,
-            core_low: low,
-            core_high: high,
-        },
-        Outcome::Strings => Reply {
-            number: 0,
-            record: 2,
-            core_low: 0,
-            core_high: 0,
-        },
+impl From<Result<Verdict, Refusal>> for Reply {
+    ghost from_gives = { λ said reply. (x : format.Outcome) (ticket : List ℕ) → told_by said ≡ told x (core_of x ticket)
+        → reply ≡ check_reply x (core_of x ticket) };
+
+    fn from(said: Result<Verdict, Refusal>) -> Reply {
+        match said {
+            Err(refusal) => Reply {
+                number: refusal.fault.number() as u64,
+                record: refusal.record as u64,
+                core_low: 0,
+                core_high: 0,
+            },
+            Ok(Verdict::NoSolution(words)) => Reply {
+                number: 0,
+                record: 1,
+                core_low: words.low,
+                core_high: words.high,
+            },
+            Ok(Verdict::Strings) => Reply {
+                number: 0,
+                record: 2,
+                core_low: 0,
+                core_high: 0,
+            },
+        }
     }
 }
 
@@ -137,7 +142,7 @@ fn reply_outcome(o: Outcome) -> Reply
 pub fn nuldwich_check_in(ticket: &[u8], work: &mut [i64], answer: &mut [u8]) -> Reply
     ensures { LentReplies ticket.now work.old work.new answer.old answer.new result }
 {
-    reply_outcome(check_ticket(ticket, work, answer))
+    Reply::from(check_ticket(ticket, work, answer))
 }
 
 // Checks a ticket; "that entry brings its own work area".
@@ -145,8 +150,7 @@ pub fn nuldwich_check(ticket: &[u8], answer: &mut [u8]) -> Reply
     ensures { CheckReplies ticket.now answer.old answer.new result }
 {
     let mut work = [0i64; WORK_NUMBERS];
-    let outcome = check_ticket(ticket, &mut work, answer);
-    reply_outcome(outcome)
+    Reply::from(check_ticket(ticket, &mut work, answer))
 }
 
 // The same under the name of document 01.
@@ -169,24 +173,26 @@ pub struct NeedReply {
     pub pending: u64,
 }
 
-fn reply_need(need: Need) -> NeedReply
-    ensures { result ≡ need_reply (need_of need) }
-{
-    match need {
-        Need::Refused(c, r) => NeedReply {
-            number: c as u64,
-            record: r as u64,
-            steps: 0,
-            facts: 0,
-            pending: 0,
-        },
-        Need::Needs(report) => NeedReply {
-            number: 0,
-            record: 0,
-            steps: report.steps as u64,
-            facts: report.facts as u64,
-            pending: report.pending as u64,
-        },
+impl From<Result<Report, Refusal>> for NeedReply {
+    ghost from_gives = { λ need reply. reply ≡ need_reply (need_of need) };
+
+    fn from(need: Result<Report, Refusal>) -> NeedReply {
+        match need {
+            Err(refusal) => NeedReply {
+                number: refusal.fault.number() as u64,
+                record: refusal.record as u64,
+                steps: 0,
+                facts: 0,
+                pending: 0,
+            },
+            Ok(report) => NeedReply {
+                number: 0,
+                record: 0,
+                steps: report.steps as u64,
+                facts: report.facts as u64,
+                pending: report.pending as u64,
+            },
+        }
     }
 }
 
@@ -194,7 +200,7 @@ fn reply_need(need: Need) -> NeedReply
 pub fn nuldwich_need(ticket: &[u8]) -> NeedReply
     ensures { result ≡ need_reply (needed ticket.now) }
 {
-    reply_need(need_ticket(ticket))
+    NeedReply::from(need_ticket(ticket))
 }
 
 // ---- whether two questions are the same
@@ -209,6 +215,7 @@ pub struct SameReply {
     pub same: u64,
 }
 
+// No `From`: both types are of other crates.
 fn number_which(which: Which) -> u64
     ensures { result ≡ which_number (which_of which) }
 {
@@ -218,28 +225,24 @@ fn number_which(which: Which) -> u64
     }
 }
 
-fn reply_same(s: Sameness) -> SameReply
-    ensures { result ≡ same_reply (sameness_of s) }
-{
-    match s {
-        Sameness::Refused(which, c, r) => SameReply {
-            number: c as u64,
-            record: r as u64,
-            which: number_which(which),
-            same: 0,
-        },
-        Sameness::Same => SameReply {
-            number: 0,
-            record: 0,
-            which: 0,
-            same: 1,
-        },
-        Sameness::Different => SameReply {
-            number: 0,
-            record: 0,
-            which: 0,
-            same: 0,
-        },
+impl From<Result<bool, Refused>> for SameReply {
+    ghost from_gives = { λ said reply. reply ≡ same_reply (sameness_of said) };
+
+    fn from(said: Result<bool, Refused>) -> SameReply {
+        match said {
+            Err(refused) => SameReply {
+                number: refused.refusal.fault.number() as u64,
+                record: refused.refusal.record as u64,
+                which: number_which(refused.which),
+                same: 0,
+            },
+            Ok(same) => SameReply {
+                number: 0,
+                record: 0,
+                which: 0,
+                same: u64::from(same),
+            },
+        }
     }
 }
 
@@ -247,7 +250,7 @@ fn reply_same(s: Sameness) -> SameReply
 pub fn nuldwich_same(first: &[u8], second: &[u8]) -> SameReply
     ensures { result ≡ same_reply (sameness first.now second.now) }
 {
-    reply_same(same_questions(first, second))
+    SameReply::from(same_questions(first, second))
 }
 
 // ---- the version

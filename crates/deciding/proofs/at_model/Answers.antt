@@ -72,7 +72,7 @@ returns-in_err-map_err c =
     u32-at.ensures.0 c.requires.1 c.requires.2 (no_fault (goal.at.returns-in_err-map_err c).In_ok-labels) _ (sym (ap fault_in q) ∙ c.end_fault.ensures) (numbered f))))
 
 pub write-requires : goal.write-requires
-write-requires c = ((answers (goal.at.write-requires c).In_ok-labels).writable, search rules, c.requires.5)
+write-requires c = ((answers (goal.at.write-requires c).In_ok-labels).writable, c.requires.5)
 
 pub returns : goal.returns
 returns c =

@@ -5,4 +5,4 @@ use Rattle.nuldwich.proofs.Numbered.{own}
 use Rattle.nuldwich.proofs.nuldwich_check.Goals as goal
 
 pub returns : goal.returns
-returns c = own c.check_ticket-outcome.ensures c.reply_outcome.ensures (length-replicate work_numbers (pos 0))
+returns c = own c.check_ticket.ensures c.from.ensures (length-replicate work_numbers (pos 0))

@@ -9,5 +9,5 @@ returns c =
     let s = c.args in
     let finding = c.judge_answer-finding in
     let within = (shows s.question s.answer finding.result finding.ensures).lies_within in
-    judge_reply_law finding.ensures c.number_judgement-numbers.ensures c.number_side.ensures
+    judge_reply_law finding.ensures c.from-numbers.ensures c.number_side.ensures
     (part_length s.question s.answer (shown_of finding.result.shown) _ within c.show-part.ensures)

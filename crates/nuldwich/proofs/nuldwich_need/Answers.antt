@@ -3,4 +3,4 @@ use Rattle.nuldwich.specs.Replies.{need_reply}
 use Rattle.nuldwich.proofs.nuldwich_need.Goals as goal
 
 pub returns : goal.returns
-returns c = c.reply_need.ensures ∙ ap need_reply c.need_ticket.ensures
+returns c = c.from.ensures ∙ ap need_reply c.need_ticket.ensures

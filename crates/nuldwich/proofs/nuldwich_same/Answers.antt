@@ -3,4 +3,4 @@ use Rattle.nuldwich.specs.Replies.{same_reply}
 use Rattle.nuldwich.proofs.nuldwich_same.Goals as goal
 
 pub returns : goal.returns
-returns c = c.reply_same.ensures ∙ ap same_reply c.same_questions.ensures
+returns c = c.from.ensures ∙ ap same_reply c.same_questions.ensures

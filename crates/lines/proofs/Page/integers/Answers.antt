@@ -1,8 +1,11 @@
 use Prim.Native.Nat.{ℕ}
+use lib.IntN.{ℤ}
 use mathlib.Core.List.{◌++◌}
 use mathlib.Core.Path.{◌≡◌, ◌∙◌, ap}
+use mir.Facts.{to_z-of_z}
+use mir.Syntax.{w64}
 use native.Mathlib.Omega.{arith}
-use Rattle.format.specs.Fields.{i32s, signed}
+use Rattle.format.specs.Fields.{i32s}
 use Rattle.lines.proofs.Lines.{integers_next}
 use Rattle.lines.proofs.Puts.{then, puts_same, puts_none}
 use Rattle.lines.specs.Lines.{integer_line, integer_lines}
@@ -17,7 +20,7 @@ loop-variable-preserved c =
     let s = c.args in
     let i = c.loop-variable.variable in
     let next =
-    ap (λ (n : ℕ). integer_lines 0 (i32s s.answer.now s.from i) ++ integer_line i (signed n)) c.u32_at.ensures.0
+    ap (λ (z : ℤ). integer_lines 0 (i32s s.answer.now s.from i) ++ integer_line i z) (to_z-of_z {w = w64} (record { sfits = c.i32_at.type_inv }) ∙ c.i32_at.ensures.0)
     ∙ integers_next s.answer.now s.from i in
     puts_same next (omega arith) (then c.loop-variable.invariant c.integer_line.ensures)
 
