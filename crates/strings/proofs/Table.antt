@@ -1,5 +1,5 @@
 -- The table of strings: one is stored and the others stay, and which strings are given.
-use Prim.Native.Nat.{ℕ, zero, suc, ◌+◌, ◌*◌, ◌≤◌, ◌<◌}
+use Prim.Native.Nat.{ℕ, zero, suc, ◌+◌, ◌-◌, ◌*◌, ◌≤◌, ◌<◌}
 use native.Mathlib.Omega.{arith}
 use native.Mathlib.Decide.{dec_lt, ℕ_discrete}
 use mathlib.Core.Path.{◌≡◌, refl, sym, ◌∙◌, ap, ap₂}
@@ -10,7 +10,7 @@ use mathlib.Core.List.{List, [], ◌∷◌, ◌++◌, append_assoc}
 use borrow.Author.Tests.{le-leb, lt-leb, leb-true, leb-false, lt-ltb, le-ltb}
 use lib.Dec.{leb, ltb}
 use lib.ListN.{length, get_or, take, drop, set, length-drop, take-append-drop}
-use lib.Seq.{sets, sets-eq, length-sets, length-take-le, take-append-le, drop_at}
+use lib.Seq.{paste, sets, sets-eq, length-sets, length-take-le, take-append-le, drop_at}
 use lib.Seq.{drop-drop, ext_get_or, get_or-take, get_or-drop, get_or-set_same, get_or-set_other}
 use lib.IntN.{ℤ, pos}
 use Rattle.answer.proofs.Written.{length_row}
@@ -69,6 +69,16 @@ row_put b s x k h r =
     (sets-eq s b (length_limit * x) r ∙ append_assoc (take (length_limit * x) b) s (drop (length_limit * x + length s) b))
     ∙ ap (λ (l : List ℕ). take k l) (drop_at (take (length_limit * x) b) (s ++ drop (length_limit * x + length s) b) (length_limit * x) n)
     ∙ take-append-le k s (drop (length_limit * x + length s) b) h
+
+-- a run that is copied to another place
+pub run_copied : (b : List ℕ) (from n at : ℕ) → from + n ≤ length b → at + n ≤ length b
+    → paste b at (drop from b) (from + n - from) ≡ sets b at (take n (drop from b))
+run_copied b from n at h g =
+    let e : from + n - from ≡ n = omega arith in
+    let m : length (take n (drop from b)) ≡ n = length-take-le n (drop from b) (rw length-drop (omega arith)) in
+    ap (paste b at (drop from b)) e
+    ∙ ap (λ (k : ℕ). (take at b ++ take n (drop from b)) ++ drop (at + k) b) (sym m)
+    ∙ sym (sets-eq (take n (drop from b)) b at (rw m g))
 
 -- the rows of the others
 row_kept : (b s : List ℕ) (x y k : ℕ) → length s ≤ length_limit → x ≢ y → k ≤ length_limit → length_limit * y + length_limit ≤ length b

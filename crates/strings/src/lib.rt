@@ -101,17 +101,6 @@ fn fill_text(row: &mut [u32], ticket: &[u8], at: usize, count: usize)
     }
 }
 
-// The first m characters of variable y's row.
-fn row_of(characters: &[u32], y: usize, m: usize) -> [u32; LENGTH_LIMIT]
-    requires { (y < variable_limit) × (m ≤ length_limit) × (length_limit * y + length_limit ≤ length characters.now) }
-    ensures { take m result ≡ row characters.now y m }
-{
-    let from = LENGTH_LIMIT * y;
-    let mut out = [0u32; LENGTH_LIMIT];
-    out[..m].copy_from_slice(&characters[from..from + m]);
-    out
-}
-
 // The string of variable x becomes w.
 fn store(characters: &mut [u32], x: usize, w: &[u32])
     requires { (x < variable_limit) × (length w.now ≤ length_limit) × (length_limit * x + length_limit ≤ length characters.old) }
@@ -187,8 +176,8 @@ fn complete(leaf: &Leaf, characters: &mut [u32], sizes: &[usize; VARIABLE_LIMIT]
     let first = classes::lowest_variable(leaf.labels, x);
     if first < x {
         let size = sizes[first];
-        let w = row_of(characters, first, size);
-        store(characters, x, &w[..size]);
+        let from = LENGTH_LIMIT * first;
+        characters.copy_within(from..from + size, LENGTH_LIMIT * x);
         return size;
     }
     let len = leaf.value_of(LEN, x);
