@@ -137,7 +137,7 @@ pub fn labels(work: &[i64], count: usize) -> [u8; NODE_COUNT]
     bring_up(nothing_known(), work, count).labels
 }
 
-// ---- classes
+// ---- classes. Labels are lent as an array: in a struct of their own they would be read through its field in each clause here and in the crates above.
 
 // Are two nodes in one class?
 fn same_class(labels: &[u8; NODE_COUNT], i: usize, j: usize) -> bool

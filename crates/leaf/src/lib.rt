@@ -37,6 +37,7 @@ pub fn magnitude(z: i64) -> usize
 // ---- leaves
 
 // A leaf: the ticket and where its literals stand, the question's numbers, the model's number for each column, and the labels of the nodes.
+// What a leaf is asked for, `Ready`, is a clause: a ghost field asks that any two proofs of it are equal, and each holds where its question ends.
 #[derive(Clone, Copy)]
 pub struct Leaf<'a> {
     pub ticket: &'a [u8],

@@ -151,8 +151,7 @@ fn give_fixed(leaf: &Leaf, characters: &mut [u32]) -> [usize; VARIABLE_LIMIT]
     for x in 0..leaf.s.p {
         let from = LENGTH_LIMIT * x;
         let row = &mut characters[from..from + LENGTH_LIMIT];
-        let size = fill_fixed(leaf, x, row);
-        sizes[x] = size;
+        sizes[x] = fill_fixed(leaf, x, row);
     }
     sizes
 }
@@ -199,8 +198,7 @@ pub fn give_strings(leaf: &Leaf, characters: &mut [u32]) -> [usize; VARIABLE_LIM
 {
     let mut sizes = give_fixed(leaf, characters);
     for x in 0..leaf.s.p {
-        let size = complete(leaf, characters, &sizes, x);
-        sizes[x] = size;
+        sizes[x] = complete(leaf, characters, &sizes, x);
     }
     sizes
 }

@@ -16,8 +16,8 @@ no_number y h = absurd (omega arith)
 pub loop-x-init : goal.loop-x-init
 loop-x-init c = (refl, refl, λ y h. no_number y h)
 
-pub fill_fixed-size-requires : goal.fill_fixed-size-requires
-fill_fixed-size-requires c =
+pub fill_fixed-requires : goal.fill_fixed-requires
+fill_fixed-requires c =
     record {
       leaf_ready = (c.requires.leaf_ready.0, search rules, search rules);
       within = c.requires.within;
@@ -27,7 +27,7 @@ pub loop-x-preserved : goal.loop-x-preserved
 loop-x-preserved c =
     let l = c.loop-x in
     let s = c.args in
-    let r = c.fill_fixed-size in
+    let r = c.fill_fixed in
     let v = r.new.row in
     let at = 64 * l.x in
     let room : at + (at + 64 - at) ≤ length l.characters = omega arith in

@@ -35,9 +35,9 @@ loop-x-init c =
           c.give_fixed-sizes.ensures,
     )
 
-pub complete-size-requires : goal.complete-size-requires
+pub complete-requires : goal.complete-requires
 unfolding asked
-complete-size-requires c =
+complete-requires c =
     let l = c.loop-x in record {
       modelled = (
         search rules,
@@ -69,12 +69,12 @@ loop-x-preserved c =
     let room : 64 * s.leaf.now.s.p ≤ length l.characters = l.invariant.1 in
     let all : length l.sizes ≡ 16 = l.invariant.3 in (
       few,
-      omega (arith, c.complete-size.auto.characters),
-      c.complete-size.auto.characters ∙ l.invariant.2,
+      omega (arith, c.complete.auto.characters),
+      c.complete.auto.characters ∙ l.invariant.2,
       simp length-set all,
-      sizes_more l.sizes l.x c.complete-size.result (omega arith) l.invariant.4 c.complete-size.ensures.upper_bound,
-      λ b e. subst (λ (cs : List ℕ). Filled u b m cs (set l.sizes l.x c.complete-size.result) (l.x + 1)) (sym c.complete-size.ensures.characters_after)
-          (round_more u b m l.characters l.sizes l.x h (l.invariant.5 b e) c.complete-size.result _ c.complete-size.ensures.value c.complete-size.ensures.upper_bound (omega arith) room
+      sizes_more l.sizes l.x c.complete.result (omega arith) l.invariant.4 c.complete.ensures.upper_bound,
+      λ b e. subst (λ (cs : List ℕ). Filled u b m cs (set l.sizes l.x c.complete.result) (l.x + 1)) (sym c.complete.ensures.characters_after)
+          (round_more u b m l.characters l.sizes l.x h (l.invariant.5 b e) c.complete.result _ c.complete.ensures.value c.complete.ensures.upper_bound (omega arith) room
           (ap (λ (ls : List ℕ). completed s.leaf.now.s.n s.leaf.now.s.p ls (nat_abs (model_value u m len l.x)) l.characters l.sizes l.x) e
           ∙ completed_is u b m l.characters l.sizes l.x h (l.invariant.5 b e))),
     )
