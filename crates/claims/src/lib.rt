@@ -195,7 +195,7 @@ pub enum Walked {
 }
 
 // The records from the one after the claim, record r at a position, on the question's constraints: until every branch is closed, or up to the model. The sets of
-// the facts stand in a lent slice.
+// the facts stand in a lent slice. The branch's numbers are widened by `as` and not by `from`: what the loop keeps is said of them themselves.
 pub fn walk(
     ticket: &[u8],
     s: Progress,

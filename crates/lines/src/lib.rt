@@ -47,7 +47,7 @@ impl Page<'_> {
 
     // ---- numbers
 
-    // A number in decimal, of at most so many places.
+    // A number in decimal, of at most so many places. By hand: `write!` gives a Result whose error no clause rules out, and all the lines are promised.
     fn digits(&mut self, n: usize, places: usize)
         requires { Room self.old places }
         ensures { Puts self.old (digits places n) places self.new }

@@ -7,17 +7,16 @@ use limits::{REPORT_BYTES, TICKET_BYTES};
 use std::io;
 use std::io::{Read, Write};
 
-// Reads until the buffer is full or the input ends: how many bytes.
+// Reads until the buffer is full or the input ends: how many bytes. The loop counts what each read gave, so no range stands for it.
 fn read_input<R: Read>(input: &mut R, buf: &mut [u8]) -> io::Result<usize>
     ensures { IfOk result (λ n. n ≤ length buf.old) }
 {
     let mut done = 0;
     while done < buf.len() {
-        let more = input.read(&mut buf[done..])?;
-        if more == 0 {
-            return Ok(done);
+        match input.read(&mut buf[done..])? {
+            0 => break,
+            more => done += more,
         }
-        done += more;
     }
     Ok(done)
 }
