@@ -90,7 +90,7 @@ module _ (b : List ℕ) (s : Progress) where
   left_from r w c i = core_from u (rested_walk r (working (br w c) (pending w c))) (steps_from b i)
 
   -- the facts of the branch with their sets, and what was gathered of the core; whole is the core of all steps
-  pub record Gathered (whole : Set) (w : List ℤ) (v : List ℕ) (c : code.Branch) (known : Known) (grounds : Grounds) (i : ℕ) : Type 0 where
+  pub record Gathered (whole : Set) (w : List ℤ) (v : List Words) (c : code.Branch) (known : Known) (grounds : Grounds) (i : ℕ) : Type 0 where
     pub rested : Rested
     pub stands : Stands w v c.count rested
     pub rooted : take s.constraints rested ≡ rooted_from 0 u.constraints
@@ -101,7 +101,7 @@ module _ (b : List ℕ) (s : Progress) where
 
   -- ---- the start
 
-  pub gathered_first : (w : List ℤ) (v : List ℕ) (c : code.Branch) (known : Known) (grounds : Grounds) (at : ℕ)
+  pub gathered_first : (w : List ℤ) (v : List Words) (c : code.Branch) (known : Known) (grounds : Grounds) (at : ℕ)
       → c.count ≡ s.constraints
       → stack c ≡ []
       → branch_of w s.constraints ≡ u.constraints
@@ -144,7 +144,7 @@ module _ (b : List ℕ) (s : Progress) where
 
   -- ---- a step
 
-  module _ {whole : Set} {w : List ℤ} {v : List ℕ} {c : code.Branch} {known : Known} {grounds : Grounds} {i : ℕ} (g : Gathered whole w v c known grounds i)
+  module _ {whole : Set} {w : List ℤ} {v : List Words} {c : code.Branch} {known : Known} {grounds : Grounds} {i : ℕ} (g : Gathered whole w v c known grounds i)
       (there : next b i ≤ length b) (step : kind b i ≡ 6) where
     abbrev its : Step
     its = step_at b (i + 6) (size b i)
@@ -209,7 +209,7 @@ module _ (b : List ℕ) (s : Progress) where
     pub gathered_more : (child : List Fact) (rest : List (List Fact)) → offered_in b u (br w c) i ≡ some (child ∷ rest)
         → (x : List ℤ) (d : code.Branch) → state_of b u x d ≡ enter ◌++◌ (br w c) (child ∷ rest) (pending w c)
         → (set : Words) → set ≡ words_of rest_set
-        → (v' : List ℕ) → Filled v c.count d.count set v'
+        → (v' : List Words) → Filled v c.count d.count set v'
         → known.upto ≤ c.count
         → s.constraints ≤ c.count
         → Gathered whole x v' d known grounds (next b i)
@@ -299,7 +299,7 @@ module _ (b : List ℕ) (s : Progress) where
         added_cut x d state = let n = (cut_there x d state).1 in omega (arith, n, top_grown.2.0, top_grown.2.1)
 
         gathered_cut : (x : List ℤ) (d : code.Branch) → state_of b u x d ≡ enter ◌++◌ (br w c) [] (pending w c)
-            → (v' : List ℕ) → Filled v m d.count (words_at v m) v'
+            → (v' : List Words) → Filled v m d.count (words_at v m) v'
             → (first : Known) → first.upto ≡ s.constraints → s.constraints ≤ m
             → Gathered whole x v' d (set_back known first m) back (next b i)
         gathered_cut x d state v' f first up root =
@@ -330,7 +330,7 @@ module _ (b : List ℕ) (s : Progress) where
 
       pub gathered_next : (o : InOrder b s w c) (deep : 0 < c.depth) (t : Split) (last : t ≡ latest_of (stack c))
           → (x : List ℤ) (d : code.Branch) → state_of b u x d ≡ cut_back ◌++◌ (pending w c)
-          → (v' : List ℕ) → Filled v t.mark d.count (words_at v t.mark) v'
+          → (v' : List Words) → Filled v t.mark d.count (words_at v t.mark) v'
           → (first : Known) → first.upto ≡ s.constraints
           → s.constraints ≡ length u.constraints
           → Gathered whole x v' d (set_back known first t.mark) (grounds_back (with_closing grounds set) known.upto t.mark) (next b i)
@@ -343,7 +343,7 @@ module _ (b : List ℕ) (s : Progress) where
           (subst (λ (k : ℕ). Filled v k d.count (words_at v k) v') (sym m) f) first up (omega (arith, n, m, rooted_mark o deep t last)))
 
   -- facts that are brought in
-  pub gathered_for : {whole : Set} {w : List ℤ} {v : List ℕ} {c : code.Branch} {known more : Known} {grounds brought : Grounds} {i : ℕ}
+  pub gathered_for : {whole : Set} {w : List ℤ} {v : List Words} {c : code.Branch} {known more : Known} {grounds brought : Grounds} {i : ℕ}
       → Gathered whole w v c known grounds i
       → (known.upto ≤ more.upto) × (more.upto ≤ c.count)
       → BroughtUp NoSolution w v known.upto more.upto grounds brought
@@ -361,11 +361,11 @@ module _ (b : List ℕ) (s : Progress) where
 
   -- ---- under each claim: under claim 2 no set is kept
 
-  pub record Gathering (claim : Claim) (whole : Set) (w : List ℤ) (v : List ℕ) (c : code.Branch) (known : Known) (grounds : Grounds) (i : ℕ) : Type 0 where
+  pub record Gathering (claim : Claim) (whole : Set) (w : List ℤ) (v : List Words) (c : code.Branch) (known : Known) (grounds : Grounds) (i : ℕ) : Type 0 where
     pub under : claim ≡ NoSolution → Gathered whole w v c known grounds i
 
   -- a state by other names
-  pub gathering_same : {claim : Claim} {whole : Set} {i : ℕ} {w x : List ℤ} {v y : List ℕ} {c d : code.Branch} {known more : Known} {grounds brought : Grounds}
+  pub gathering_same : {claim : Claim} {whole : Set} {i : ℕ} {w x : List ℤ} {v y : List Words} {c d : code.Branch} {known more : Known} {grounds brought : Grounds}
       → w ≡ x
       → v ≡ y
       → c ≡ d
@@ -375,7 +375,7 @@ module _ (b : List ℕ) (s : Progress) where
       → Gathering claim whole w v c known grounds i
   gathering_same p q r f e g = rw (p, q, r, f, e) g
 
-  pub gathering_first : (claim : Claim) (w : List ℤ) (v : List ℕ) (c : code.Branch) (known : Known) (grounds : Grounds) (at : ℕ)
+  pub gathering_first : (claim : Claim) (w : List ℤ) (v : List Words) (c : code.Branch) (known : Known) (grounds : Grounds) (at : ℕ)
       → c.count ≡ s.constraints
       → stack c ≡ []
       → branch_of w s.constraints ≡ u.constraints
@@ -385,7 +385,7 @@ module _ (b : List ℕ) (s : Progress) where
   gathering_first NoSolution w v c known grounds at n none e up h = record { under = λ _. gathered_first w v c known grounds at n none e up h }
   gathering_first Strings w v c known grounds at n none e up h = record { under = unkept }
 
-  pub gathering_for : (claim : Claim) {whole : Set} {w : List ℤ} {v : List ℕ} {c : code.Branch} {known : Known} {grounds : Grounds} {i : ℕ} (more : Known) (brought : Grounds)
+  pub gathering_for : (claim : Claim) {whole : Set} {w : List ℤ} {v : List Words} {c : code.Branch} {known : Known} {grounds : Grounds} {i : ℕ} (more : Known) (brought : Grounds)
       → Gathering claim whole w v c known grounds i
       → (known.upto ≤ more.upto) × (more.upto ≤ c.count)
       → BroughtUp claim w v known.upto more.upto grounds brought
@@ -395,7 +395,7 @@ module _ (b : List ℕ) (s : Progress) where
 
   -- the step in a record of m bytes, by a rule under its name, on the branch where the loop stands, with the labels and unions for its rule: set is what it
   -- rests on
-  pub record Rests (claim : Claim) (rule : Rule) (w : List ℤ) (v : List ℕ) (c : code.Branch) (known : Known) (grounds : Grounds) (i m : ℕ) (set : Words) : Type 0 where
+  pub record Rests (claim : Claim) (rule : Rule) (w : List ℤ) (v : List Words) (c : code.Branch) (known : Known) (grounds : Grounds) (i m : ℕ) (set : Words) : Type 0 where
     pub brought : asks_classes (rule_named rule) ≡ true → known.upto ≡ c.count
     pub rests : SetOf claim rule b s i m w c.count v grounds.unions set
 
@@ -409,7 +409,7 @@ module _ (b : List ℕ) (s : Progress) where
       by_children [] e l = absurd (omega arith)
       by_children (child ∷ rest) e l = (child, rest, e)
 
-  module _ {all : Set} {w : List ℤ} {v : List ℕ} {c : code.Branch} {known : Known} {grounds : Grounds} {i m : ℕ} {y : List ℤ} {a : Action}
+  module _ {all : Set} {w : List ℤ} {v : List Words} {c : code.Branch} {known : Known} {grounds : Grounds} {i m : ℕ} {y : List ℤ} {a : Action}
       (g : Gathered all w v c known grounds i) (t : Stepped b s NoSolution w c i m y a) where
     set_rests : {rule : Rule} {set : Words} (h : Rests NoSolution rule w v c known grounds i m set) (cs : List (List Fact)) → offered_in b u (br w c) i ≡ some cs
         → set ≡ words_of (rest_set g t.whole t.step)
@@ -436,7 +436,7 @@ module _ (b : List ℕ) (s : Progress) where
           → Knows w c.count known
           → InOrder b s w c
           → s.constraints ≡ length u.constraints
-          → (v' : List ℕ) → Filled v c.count d.count set v'
+          → (v' : List Words) → Filled v c.count d.count set v'
           → Gathered all x v' d known grounds (i + 6 + m)
       gathered_begun {set = set} h k o n v' f =
           subst (λ (q : ℕ). Gathered all x v' d known grounds (i + 6 + q)) (sym t.sized)
@@ -453,7 +453,7 @@ module _ (b : List ℕ) (s : Progress) where
   unfolding Acts
   closing {w} {y} {c} {i} t q = (subst (Acts NoSolution b u i c.depth w c.count y) q t.acts).0
 
-  pub fact_at_mark : (claim : Claim) {all : Set} {n : ℕ} {outcome : Outcome} {w : List ℤ} {v : List ℕ} {c : code.Branch} {known : Known} {grounds : Grounds}
+  pub fact_at_mark : (claim : Claim) {all : Set} {n : ℕ} {outcome : Outcome} {w : List ℤ} {v : List Words} {c : code.Branch} {known : Known} {grounds : Grounds}
       {i k m : ℕ} {y : List ℤ} {a : Action}
       → Gathering claim all w v c known grounds i
       → Going b s claim n outcome w c known i k
@@ -472,7 +472,7 @@ module _ (b : List ℕ) (s : Progress) where
   cut_state {i = i} {y = y} {c = c} {a = a} h p q x d state =
       state ∙ ap (λ (l : Branch). cut_back ◌++◌ (waitings b u l (stack c))) (same_rows (in_order h) i y a p.acts q)
 
-  module _ {all : Set} {n : ℕ} {outcome : Outcome} {w : List ℤ} {v : List ℕ} {c : code.Branch} {known : Known} {grounds : Grounds}
+  module _ {all : Set} {n : ℕ} {outcome : Outcome} {w : List ℤ} {v : List Words} {c : code.Branch} {known : Known} {grounds : Grounds}
       {i k m : ℕ} {y : List ℤ} {a : Action} where
     -- one child begins
     module _ (f : ℕ) (q : a ≡ Extends f) (d : code.Branch) (ed : d.count ≡ f) (es : stack d ≡ stack c) where
@@ -493,7 +493,7 @@ module _ (b : List ℕ) (s : Progress) where
           → Stepped b s claim w c i m y a
           → Rests claim rule w v c known grounds i m set
           → s.constraints ≡ length u.constraints
-          → (v' : List ℕ) → (claim ≡ NoSolution → Filled v c.count d.count set v')
+          → (v' : List Words) → (claim ≡ NoSolution → Filled v c.count d.count set v')
           → Gathering claim all y v' d known grounds (i + 6 + m)
       gathering_one NoSolution g h t r e v' filled =
           let o = in_order h in
@@ -524,7 +524,7 @@ module _ (b : List ℕ) (s : Progress) where
           → Stepped b s claim w c i m y a
           → Rests claim rule w v c known grounds i m set
           → s.constraints ≡ length u.constraints
-          → (v' : List ℕ) → (claim ≡ NoSolution → Filled v c.count d.count set v')
+          → (v' : List Words) → (claim ≡ NoSolution → Filled v c.count d.count set v')
           → Gathering claim all y v' d known grounds (i + 6 + m)
       gathering_several NoSolution g h t r e v' filled =
           let o = in_order h in
@@ -555,7 +555,7 @@ module _ (b : List ℕ) (s : Progress) where
           → Stepped b s claim w c i m y a
           → Rests claim rule w v c known grounds i m set
           → s.constraints ≡ length u.constraints
-          → (v' : List ℕ) → (claim ≡ NoSolution → Filled v t.mark d.count (words_at v t.mark) v')
+          → (v' : List Words) → (claim ≡ NoSolution → Filled v t.mark d.count (words_at v t.mark) v')
           → (first : Known) → first.upto ≡ first_upto claim s.constraints
           → Gathering claim all x v' d (set_back known first t.mark) (grounds_back (with_closing grounds set) known.upto t.mark) (i + 6 + m)
       gathering_next NoSolution {set = set} g h p r e v' filled first up =
@@ -569,7 +569,7 @@ module _ (b : List ℕ) (s : Progress) where
       gathering_next Strings g h p r e v' filled first up = record { under = unkept }
 
   -- or it was the last: all is gathered
-  pub gathering_all : (claim : Claim) {all : Set} {rule : Rule} {w : List ℤ} {v : List ℕ} {c : code.Branch} {known : Known} {grounds : Grounds} {i m : ℕ} {set : Words}
+  pub gathering_all : (claim : Claim) {all : Set} {rule : Rule} {w : List ℤ} {v : List Words} {c : code.Branch} {known : Known} {grounds : Grounds} {i m : ℕ} {set : Words}
       {y : List ℤ} {a : Action}
       → Gathering claim all w v c known grounds i
       → Stepped b s claim w c i m y a

@@ -32,7 +32,7 @@ upto_grown {rule} {known} {k} {w} {count} h f = (go (asks_classes (rule_named ru
     go false a = omega (arith, ap (λ (x : Known). x.upto) (f.kept a))
 
 -- at first each constraint rests on itself: the unions over them all, brought up from those of none; nothing is gathered
-pub first_grounds : (w : List ℤ) (v : List ℕ) (n : ℕ) (u x : Unions) (c : Words)
+pub first_grounds : (w : List ℤ) (v : List Words) (n : ℕ) (u x : Unions) (c : Words)
     → ((k : ℕ) → k < n → words_at v k ≡ words_of (only k))
     → u ≡ unions_of []
     → ((r : Rested) → Stands w v n r → u ≡ unions_of (take 0 r) → x ≡ unions_of r)

@@ -31,15 +31,15 @@ use Rattle.claims.specs.Outcomes.{outcome_from}
 
 -- ---- sets, which are kept under claim 1 alone
 
--- at first each constraint rests on itself, in the first rows of the work area and in the slice v, and nothing is gathered
-unfoldable pub FirstGrounds : Claim → List ℤ → List ℕ → ℕ → Grounds → Type 0
+-- at first each constraint rests on itself, in the first rows of the work area and in the array v, and nothing is gathered
+unfoldable pub FirstGrounds : Claim → List ℤ → List Words → ℕ → Grounds → Type 0
 FirstGrounds NoSolution w v constraints g =
     let r : Rested = rooted_from 0 (branch_of w constraints) in
     Stands w v constraints r × (g.unions ≡ unions_of r) × (g.roots ≡ unions_of r) × (g.core ≡ words_of [])
 FirstGrounds Strings w v constraints g = Unit {0}
 
 -- the unions of the first upto facts become those of the first count
-unfoldable pub BroughtUp : Claim → List ℤ → List ℕ → ℕ → ℕ → Grounds → Grounds → Type 0
+unfoldable pub BroughtUp : Claim → List ℤ → List Words → ℕ → ℕ → Grounds → Grounds → Type 0
 BroughtUp NoSolution w v upto count g more =
     ((r : Rested) → Stands w v count r → g.unions ≡ unions_of (take upto r) → more.unions ≡ unions_of r) × (more.roots ≡ g.roots) × (more.core ≡ g.core)
 BroughtUp Strings w v upto count g more = Unit {0}
@@ -53,7 +53,7 @@ abbrev pub with_closing : Grounds → Words → Grounds
 with_closing g set = record { unions = g.unions; roots = g.roots; core = union_of g.core set }
 
 -- the step in the record of m bytes at a position, by a rule under its name, rests on what the words say
-unfoldable pub SetOf : Claim → Rule → List ℕ → Progress → ℕ → ℕ → List ℤ → ℕ → List ℕ → Unions → Words → Type 0
+unfoldable pub SetOf : Claim → Rule → List ℕ → Progress → ℕ → ℕ → List ℤ → ℕ → List Words → Unions → Words → Type 0
 SetOf NoSolution rule b s at m w count v unions x = RestsOn (record { rule = rule; body = at + 6; size = m }) b s w count v unions x
 SetOf Strings rule b s at m w count v unions x = Unit {0}
 

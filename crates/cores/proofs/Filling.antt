@@ -1,4 +1,4 @@
--- Words as code holds them: of one constraint, and stored in the slice of all facts' words.
+-- Words as code holds them: of one constraint, and stored in the array of all facts' words.
 use Prim.Native.Nat.{ℕ, zero, suc, ◌+◌, ◌*◌, ◌%◌, ◌^◌, ◌<◌, ◌≤◌}
 use native.Mathlib.Nat.{add-zero, add-suc, one-mul, pow-suc}
 use native.Mathlib.Omega.{arith}
@@ -15,7 +15,7 @@ use Rattle.calculus.proofs.Cores.{length_only}
 use Rattle.format.specs.Cores.{word}
 use Rattle.cores.specs.declared.Words.{Words}
 use Rattle.cores.specs.Words.{words_of}
-use Rattle.cores.specs.Sets.{words_at, stored, Filled}
+use Rattle.cores.specs.Sets.{words_at, Filled}
 use Rattle.cores.proofs.Laws.{two_words}
 
 -- ---- one constraint
@@ -58,39 +58,30 @@ one_shifted k h = shl_exact 1 k 64 (omega arith) (omega arith) ∙ one-mul (2 ^ 
 
 -- ---- one fact's words are stored
 
-pub length_stored : (v : List ℕ) (k : ℕ) (x : Words) → length (stored v k x) ≡ length v
-length_stored v k x = length-set (set v (2 * k) x.low) (2 * k + 1) x.high ∙ length-set v (2 * k) x.low
+pub stored_here : (v : List Words) (k : ℕ) (x : Words) → k < length v → words_at (set v k x) k ≡ x
+stored_here v k x h = get_or-set_same v k x (two_words 0 0) h
 
-pub stored_here : (v : List ℕ) (k : ℕ) (x : Words) → 2 * k + 1 < length v → words_at (stored v k x) k ≡ x
-stored_here v k x h =
-    ap₂ two_words
-    (get_or-set_other (set v (2 * k) x.low) (2 * k + 1) (2 * k) x.high 0 (λ e. omega arith) ∙ get_or-set_same v (2 * k) x.low 0 (omega arith))
-    (get_or-set_same (set v (2 * k) x.low) (2 * k + 1) x.high 0 (omega (arith, length-set v (2 * k) x.low)))
-
-pub stored_other : (v : List ℕ) (k : ℕ) (x : Words) (j : ℕ) → j ≢ k → words_at (stored v k x) j ≡ words_at v j
-stored_other v k x j n = ap₂ two_words (kept (2 * j) (λ e. n (omega arith)) (λ e. omega arith)) (kept (2 * j + 1) (λ e. omega arith) (λ e. n (omega arith)))
-  where
-    kept : (i : ℕ) → i ≢ 2 * k → i ≢ 2 * k + 1 → get_or (stored v k x) i 0 ≡ get_or v i 0
-    kept i a b = get_or-set_other (set v (2 * k) x.low) (2 * k + 1) i x.high 0 b ∙ get_or-set_other v (2 * k) i x.low 0 a
+pub stored_other : (v : List Words) (k : ℕ) (x : Words) (j : ℕ) → j ≢ k → words_at (set v k x) j ≡ words_at v j
+stored_other v k x j n = get_or-set_other v k j x (two_words 0 0) n
 
 -- where the places from from up to k have the words that they are to have, and place k is given its own
-pub stored_more : (g : ℕ → Words) (v : List ℕ) (from k : ℕ) (x : Words) → 2 * k + 1 < length v → x ≡ g k → ((j : ℕ) → from ≤ j → j < k → words_at v j ≡ g j)
-    → (j : ℕ) → from ≤ j → j < k + 1 → words_at (stored v k x) j ≡ g j
+pub stored_more : (g : ℕ → Words) (v : List Words) (from k : ℕ) (x : Words) → k < length v → x ≡ g k → ((j : ℕ) → from ≤ j → j < k → words_at v j ≡ g j)
+    → (j : ℕ) → from ≤ j → j < k + 1 → words_at (set v k x) j ≡ g j
 stored_more g v from k x room e h j a b = go (ℕ_discrete j k)
   where
-    go : Dec (j ≡ k) → words_at (stored v k x) j ≡ g j
-    go (yes same) = ap (words_at (stored v k x)) same ∙ stored_here v k x room ∙ e ∙ ap g (sym same)
+    go : Dec (j ≡ k) → words_at (set v k x) j ≡ g j
+    go (yes same) = ap (words_at (set v k x)) same ∙ stored_here v k x room ∙ e ∙ ap g (sym same)
     go (no n) = stored_other v k x j n ∙ h j a (omega arith)
 
 -- ---- the words of several places
 
 -- none; then one more, as often as is stored
-pub filled_none : (v : List ℕ) (from : ℕ) (x : Words) → Filled v from from x v
+pub filled_none : (v : List Words) (from : ℕ) (x : Words) → Filled v from from x v
 filled_none v from x = record { same_length = refl; below = λ k h. refl; set_there = λ k h g. absurd (omega arith); behind = λ k h. refl }
 
-pub filled_more : {v v' : List ℕ} {from k : ℕ} {x : Words} → Filled v from k x v' → from ≤ k → 2 * k + 1 < length v → Filled v from (k + 1) x (stored v' k x)
+pub filled_more : {v v' : List Words} {from k : ℕ} {x : Words} → Filled v from k x v' → from ≤ k → k < length v → Filled v from (k + 1) x (set v' k x)
 filled_more {v} {v'} {from} {k} {x} f l h = record {
-  same_length = length_stored v' k x ∙ f.same_length;
+  same_length = length-set v' k x ∙ f.same_length;
   below = λ j b. stored_other v' k x j (λ e. omega arith) ∙ f.below j b;
   set_there = stored_more (λ j. x) v' from k x (omega (arith, f.same_length)) refl f.set_there;
   behind = λ j b. stored_other v' k x j (λ e. omega arith) ∙ f.behind j (omega arith);

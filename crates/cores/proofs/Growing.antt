@@ -88,7 +88,7 @@ module _ (r : Rested) (f : Fact) (s : Set) where
 -- ---- the facts up to a place
 
 -- fact k is that of row k, and its set the one at its place
-pub stands_more : {w : List ℤ} {v : List ℕ} {count : ℕ} {r : Rested} (k : ℕ) → Stands w v count r → k < count
+pub stands_more : {w : List ℤ} {v : List Words} {count : ℕ} {r : Rested} (k : ℕ) → Stands w v count r → k < count
     → take (k + 1) r ≡ take k r ++ ((fact_of (row_at w k), set_at r k) ∷ [])
 stands_more {w} {v} {count} {r} k h l =
     let none : Fact × Set = (arithmetic ge [], []) in

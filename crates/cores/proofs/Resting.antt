@@ -30,7 +30,7 @@ use Rattle.cores.proofs.Laws.{union_nil, union_assoc, words_union}
 
 -- ---- the set of a fact
 
-pub set_beyond : (v : List ℕ) (count k : ℕ) (r : Rested) → Carries v count r → count ≤ k → set_at r k ≡ []
+pub set_beyond : (v : List Words) (count k : ℕ) (r : Rested) → Carries v count r → count ≤ k → set_at r k ≡ []
 set_beyond v count k r c h =
     let few : length (sets r) ≤ k = omega (arith, length-map r (λ (f : Fact × Set). f.1), c.all) in
     get_or-eq_default (sets r) [] {n = k} few

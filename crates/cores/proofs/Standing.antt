@@ -1,4 +1,4 @@
--- The sets of a branch's facts in the slice: of its first facts, of those that come after them, and of the question's constraints.
+-- The sets of a branch's facts in the array: of its first facts, of those that come after them, and of the question's constraints.
 use Prim.Native.Nat.{ℕ, zero, suc, ◌+◌, ◌≤◌, ◌<◌}
 use native.Mathlib.Nat.{add-zero, zero-add}
 use native.Mathlib.Omega.{arith}
@@ -23,7 +23,7 @@ use Rattle.cores.specs.Sets.{words_at, Carries, Stands, Filled}
 
 -- ---- the first facts of a branch
 
-pub stands_first : {w : List ℤ} {v : List ℕ} {count : ℕ} {r : Rested} (n : ℕ) → n ≤ count → Stands w v count r → Stands w v n (take n r)
+pub stands_first : {w : List ℤ} {v : List Words} {count : ℕ} {r : Rested} (n : ℕ) → n ≤ count → Stands w v count r → Stands w v n (take n r)
 stands_first {w} {v} {count} {r} n l h = record {
   rows = facts_taken n r ∙ ap (take n) h.rows ∙ branch_take w count n l;
   carried = record {
@@ -33,7 +33,7 @@ stands_first {w} {v} {count} {r} n l h = record {
 }
 
 -- unions that are brought up from the first m facts to the first n
-pub unions_grown : {w : List ℤ} {v : List ℕ} {count : ℕ} (m n : ℕ) (u x : Unions)
+pub unions_grown : {w : List ℤ} {v : List Words} {count : ℕ} (m n : ℕ) (u x : Unions)
     → m ≤ n
     → n ≤ count
     → ((r : Rested) → Stands w v n r → u ≡ unions_of (take m r) → x ≡ unions_of r)
@@ -46,7 +46,7 @@ unions_grown m n u x a b up r h e = up (take n r) (stands_first n b h) (e ∙ ap
 -- ---- facts that come
 
 -- the sets of facts that stay, and of those that come after them
-pub carried_next : (v v' : List ℕ) (count from to : ℕ) (x : Words) (r : Rested) (s : Set) (c : List Fact)
+pub carried_next : (v v' : List Words) (count from to : ℕ) (x : Words) (r : Rested) (s : Set) (c : List Fact)
     → Carries v count r
     → Filled v from to x v'
     → from ≤ count
@@ -70,7 +70,7 @@ carried_next v v' count from to x r s c h f l e n =
         ∙ ap words_of (sym (set_before (take from r) (resting s c) k (omega (arith, front)) ∙ set_taken r from k less))
 
 -- by other names
-pub filled_as : {v v' : List ℕ} {from mark to count : ℕ} {x y : Words} → from ≡ mark → to ≡ count → x ≡ y → Filled v from to x v' → Filled v mark count y v'
+pub filled_as : {v v' : List Words} {from mark to count : ℕ} {x y : Words} → from ≡ mark → to ≡ count → x ≡ y → Filled v from to x v' → Filled v mark count y v'
 filled_as p q e f = rw (← p, ← q, ← e) f
 
 -- ---- the question's constraints, each of which rests on itself
@@ -83,7 +83,7 @@ set_rooted k (f ∷ b) (suc j) h =
     let e : suc k + j ≡ k + suc j = omega arith in
     set_rooted (suc k) b j (omega arith) ∙ ap only e
 
-pub stands_rooted : (w : List ℤ) (v : List ℕ) (n : ℕ) → ((k : ℕ) → k < n → words_at v k ≡ words_of (only k)) → Stands w v n (rooted_from 0 (branch_of w n))
+pub stands_rooted : (w : List ℤ) (v : List Words) (n : ℕ) → ((k : ℕ) → k < n → words_at v k ≡ words_of (only k)) → Stands w v n (rooted_from 0 (branch_of w n))
 stands_rooted w v n h = record {
   rows = facts_rooted 0 (branch_of w n);
   carried = record {

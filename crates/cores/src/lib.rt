@@ -1,4 +1,4 @@
-// What facts and steps rest on: sets of the question's constraints, each as two words, for the facts of a branch in a lent slice (02, L5).
+// What facts and steps rest on: sets of the question's constraints, each as two words, for the facts of a branch in a lent array (02, L5).
 #![tactic(auto)]
 
 ghost use Rattle.std.specs.Prelude.{◌≡◌, ◌≢◌, true, [], ◌∷◌, ◌++◌, ℕ, ◌+◌, ◌*◌, ◌<◌, ◌≤◌, length, take};
@@ -13,7 +13,7 @@ ghost use Rattle.rows.specs.Work.{Fine};
 ghost use Rattle.steps.specs.Rules.{rule_named};
 ghost use Rattle.steps.specs.Ready.{Ready};
 ghost use Rattle.cores.specs.Words.{words_of, union_of, unions_of};
-ghost use Rattle.cores.specs.Sets.{Roomy, words_at, stored, Carries, Stands, Filled, RestsOn};
+ghost use Rattle.cores.specs.Sets.{words_at, Carries, Stands, Filled, RestsOn};
 
 use encoding::LEN;
 use limits::FACT_LIMIT;
@@ -22,9 +22,6 @@ use records::{fields_at, u16_at};
 use rows::{TAG_NE, TAG_NOT_SAME, lowest_difference, row_at, tag_of};
 use std::ops::{BitOr, BitOrAssign};
 use steps::{OPERANDS, Rule, Step};
-
-// How many numbers hold the sets of a branch's facts, two for each.
-pub const SET_NUMBERS: usize = 2 * FACT_LIMIT;
 
 // A set: constraint k is bit k of `low`, constraint 64 + k bit k of `high`.
 #[derive(Clone, Copy)]
@@ -91,43 +88,23 @@ impl BitOrAssign for Words {
 
 // ---- the sets of facts
 
-// The set at the place of fact k.
-pub fn set_at(sets: &[u64], k: usize) -> Words
-    requires { (k < fact_limit) × Roomy sets.now }
-    ensures { result ≡ words_at sets.now k }
-{
-    Words {
-        low: sets[2 * k],
-        high: sets[2 * k + 1],
-    }
-}
-
-// Fact k rests on a set.
-fn put_set(sets: &mut [u64], k: usize, set: Words)
-    requires { (k < fact_limit) × Roomy sets.old }
-    ensures { sets.new ≡ stored sets.old k set }
-{
-    sets[2 * k] = set.low;
-    sets[2 * k + 1] = set.high;
-}
-
 // The facts of the places from `from` up to `to`, which a child added, rest on a set.
-pub fn fill_sets(sets: &mut [u64], from: usize, to: usize, set: Words)
-    requires { (from < to) × (to ≤ from + 3) × (to ≤ fact_limit) × Roomy sets.old }
+pub fn fill_sets(sets: &mut [Words; FACT_LIMIT], from: usize, to: usize, set: Words)
+    requires { (from < to) × (to ≤ from + 3) × (to ≤ fact_limit) }
     ensures { Filled sets.old from to set sets.new }
 {
     for k in from..to {
-        put_set(sets, k, set);
+        sets[k] = set;
     }
 }
 
 // "A root constraint rests on itself".
-pub fn root_sets(sets: &mut [u64], constraints: usize)
-    requires { (constraints ≤ fact_limit) × Roomy sets.old }
+pub fn root_sets(sets: &mut [Words; FACT_LIMIT], constraints: usize)
+    requires { constraints ≤ fact_limit }
     ensures { (k : ℕ) → k < constraints → words_at sets.new k ≡ words_of (only k) }
 {
     for k in 0..constraints {
-        put_set(sets, k, only_constraint(k));
+        sets[k] = only_constraint(k);
     }
 }
 
@@ -165,13 +142,13 @@ fn with_fact(unions: Unions, row: &[i64], set: Words) -> Unions
 }
 
 // The unions of the first `count` facts, from those of the first `upto`.
-pub fn bring_up(unions: Unions, upto: usize, work: &[i64], sets: &[u64], count: usize) -> Unions
-    requires { (upto ≤ count) × Fine work.now count × Roomy sets.now }
+pub fn bring_up(unions: Unions, upto: usize, work: &[i64], sets: &[Words; FACT_LIMIT], count: usize) -> Unions
+    requires { (upto ≤ count) × Fine work.now count }
     ensures { (r : Rested) → Stands work.now sets.now count r → unions ≡ unions_of (take upto r) → result ≡ unions_of r }
 {
     let mut out = unions;
     for k in upto..count {
-        out = with_fact(out, row_at(work, k), set_at(sets, k));
+        out = with_fact(out, row_at(work, k), sets[k]);
     }
     out
 }
@@ -179,20 +156,20 @@ pub fn bring_up(unions: Unions, upto: usize, work: &[i64], sets: &[u64], count: 
 // ---- what a step rests on
 
 // The set of fact k, empty where there is none.
-fn fact_set(sets: &[u64], count: usize, k: usize) -> Words
-    requires { (count ≤ fact_limit) × Roomy sets.now }
+fn fact_set(sets: &[Words; FACT_LIMIT], count: usize, k: usize) -> Words
+    requires { count ≤ fact_limit }
     ensures { (r : Rested) → Carries sets.now count r → result ≡ words_of (set_at r k) }
 {
     if k < count {
-        set_at(sets, k)
+        sets[k]
     } else {
         no_constraint()
     }
 }
 
 // Sum: the sets of the facts that its pairs name.
-fn named_sets(b: &[u8], at: usize, pairs: usize, sets: &[u64], count: usize) -> Words
-    requires { (at + 6 * pairs ≤ length b.now) × (count ≤ fact_limit) × Roomy sets.now }
+fn named_sets(b: &[u8], at: usize, pairs: usize, sets: &[Words; FACT_LIMIT], count: usize) -> Words
+    requires { (at + 6 * pairs ≤ length b.now) × (count ≤ fact_limit) }
     ensures { (r : Rested) → Carries sets.now count r → result ≡ words_of (named_sets r (pairs_at b.now at pairs)) }
 {
     let mut set = no_constraint();
@@ -203,9 +180,9 @@ fn named_sets(b: &[u8], at: usize, pairs: usize, sets: &[u64], count: usize) -> 
 }
 
 // Card: the set of "the lowest matching fact" for two different variables.
-fn lengths_set(s: Progress, x: usize, y: usize, work: &[i64], count: usize, sets: &[u64]) -> Words
+fn lengths_set(s: Progress, x: usize, y: usize, work: &[i64], count: usize, sets: &[Words; FACT_LIMIT]) -> Words
     requires x_lt_variable_limit { (x < variable_limit) × (y < variable_limit) × (s.p ≤ variable_limit) × (s.q ≤ variable_limit) }
-    requires count_le_fact_limit { (count ≤ fact_limit) × (work_numbers ≤ length work.now) × Roomy sets.now }
+    requires count_le_fact_limit { (count ≤ fact_limit) × (work_numbers ≤ length work.now) }
     ensures { (r : Rested) → Stands work.now sets.now count r → x ≢ y → result ≡ words_of (lengths_set (numbered s) r x y) }
 {
     if x == y {
@@ -227,11 +204,11 @@ fn neighbour_sets(
     others: usize,
     work: &[i64],
     count: usize,
-    sets: &[u64],
+    sets: &[Words; FACT_LIMIT],
 ) -> Words
     requires others_in_bounds { (at + 2 + 2 * others ≤ length b.now) × (s.p ≤ variable_limit) × (s.q ≤ variable_limit) }
     requires others_value { are_variables s.p (u16s b.now at (others + 1)) ≡ true }
-    requires count_le_fact_limit { (count ≤ fact_limit) × (work_numbers ≤ length work.now) × Roomy sets.now }
+    requires count_le_fact_limit { (count ≤ fact_limit) × (work_numbers ≤ length work.now) }
     ensures { (r : Rested) → Stands work.now sets.now count r → distinct (u16s b.now at (others + 1)) ≡ true
         → result ≡ words_of (neighbour_sets (numbered s) r (u16 b.now at) (u16s b.now (at + 2) others)) }
 {
@@ -250,10 +227,10 @@ pub fn step_set(
     step: Step,
     work: &[i64],
     count: usize,
-    sets: &[u64],
+    sets: &[Words; FACT_LIMIT],
     unions: Unions,
 ) -> Words
-    requires { Ready ticket.now s step.body step.size work.now count × (rule_named step.rule ≡ rule_at ticket.now step.body) × Roomy sets.now }
+    requires { Ready ticket.now s step.body step.size work.now count × (rule_named step.rule ≡ rule_at ticket.now step.body) }
     ensures { RestsOn step ticket.now s work.now count sets.now unions result }
 {
     let Step { rule, body, size } = step;

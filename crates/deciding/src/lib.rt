@@ -18,11 +18,11 @@ ghost use Rattle.claims.specs.Outcomes.{Loaded, outcome_from, walk_from, steps_f
 
 use claims::{Walked, walk};
 use constraints::load;
-use cores::{SET_NUMBERS, Words};
+use cores::{Words, no_constraint};
 use delimiters::{Claim, end_fault, read_claim};
 use encoding::RECORD_HEAD;
 use faults::Refusal;
-use limits::{COLUMN_LIMIT, LITERALS_FROM};
+use limits::{COLUMN_LIMIT, FACT_LIMIT, LITERALS_FROM};
 use model::{settle, write};
 use question::{CHECKING, Progress, Read, read_question};
 use records::{record_places, u32_at};
@@ -77,7 +77,7 @@ fn at_model(
 
 // ---- the whole ticket
 
-// The steps, and what stands after them. The sets of the facts are kept in a slice of their own.
+// The steps, and what stands after them. The sets of the facts are kept in an array of their own.
 fn behind_claim(
     ticket: &[u8],
     s: Progress,
@@ -91,7 +91,7 @@ fn behind_claim(
     ensures { Decided (walk_from claim ticket.now s r at)
         (core_in (asked ticket.now s) (steps_from ticket.now at)) answer.old answer.new result }
 {
-    let mut sets = [0u64; SET_NUMBERS];
+    let mut sets = [no_constraint(); FACT_LIMIT];
     match walk(ticket, s, claim, at, r, work, &mut sets)? {
         Walked::Closed(to, k, words) => at_end(ticket, to, k, words),
         Walked::Model(to, k, count) => at_model(ticket, s, to, k, work, count, answer),

@@ -23,7 +23,7 @@ pub loop-k-preserved : goal.loop-k-preserved
 loop-k-preserved c =
     let l = c.loop-k in
     λ r h e.
-    c.with_fact-out.ensures (take l.k r) (set_at r l.k) (l.invariant r h e) (c.set_at.ensures ∙ h.carried.words l.k (omega arith))
+    c.with_fact-out.ensures (take l.k r) (set_at r l.k) (l.invariant r h e) (h.carried.words l.k (omega arith))
     ∙ ap (λ (f : List ℤ). unions_of (take l.k r ++ ((fact_of f, set_at r l.k) ∷ []))) c.row_at.ensures
     ∙ ap unions_of (sym (stands_more l.k h (omega arith)))
 

@@ -8,5 +8,4 @@ returns-else-k-count c = λ r h.
     c.no_constraint.ensures ∙ ap words_of (sym (set_beyond c.args.sets.now c.args.count c.args.k r h c.if-k-count.false))
 
 pub returns-then-k-count : goal.returns-then-k-count
-returns-then-k-count c = λ r h.
-    c.set_at.ensures ∙ h.words c.args.k c.if-k-count.true
+returns-then-k-count c = λ r h. h.words c.args.k c.if-k-count.true

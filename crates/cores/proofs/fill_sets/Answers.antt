@@ -1,4 +1,6 @@
-use Prim.Native.Nat.{ℕ, ◌+◌}
+use borrow.Author.Rules.{rules}
+use lib.ListN.{length}
+use Prim.Native.Nat.{ℕ, ◌+◌, ◌<◌}
 use mathlib.Core.Path.{◌≡◌, sym, subst}
 use native.Mathlib.Omega.{arith}
 use Rattle.cores.proofs.Filling.{filled_none, filled_more}
@@ -10,9 +12,8 @@ loop-k-init c = filled_none _ _ _
 
 pub loop-k-preserved : goal.loop-k-preserved
 loop-k-preserved c =
-    let l = c.loop-k in
-    let a = c.args in
-    subst (Filled a.sets.now a.from (l.k + 1) a.set) (sym c.put_set.ensures) (filled_more l.invariant (omega arith) (omega (arith, c.requires)))
+    let room : c.loop-k.k < length c.args.sets.now = search (rules, c.requires) in
+    filled_more c.loop-k.invariant (omega arith) room
 
 pub returns : goal.returns
 returns c =
