@@ -1,4 +1,4 @@
--- The sets along the walk under claim 1: the slice has those of the branch's facts, and what was gathered with what is left is the core.
+-- The sets along the walk under claim 1: the array has those of the branch's facts, and what was gathered with what is left is the core.
 use Prim.Native.Nat.{ℕ, ◌+◌, ◌≤◌, ◌<◌}
 use native.Mathlib.Omega.{arith}
 use mathlib.Core.Path.{◌≡◌, refl, sym, ◌∙◌, ap, ap₂, subst}

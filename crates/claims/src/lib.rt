@@ -51,7 +51,12 @@ struct Grounds {
 
 impl Grounds {
     // At first: each constraint rests on itself. Under claim 2 no set is kept.
-    fn first(claim: Claim, work: &[i64], sets: &mut [Words; FACT_LIMIT], constraints: usize) -> Grounds
+    fn first(
+        claim: Claim,
+        work: &[i64],
+        sets: &mut [Words; FACT_LIMIT],
+        constraints: usize,
+    ) -> Grounds
         requires { Fine work.now constraints }
         ensures { FirstGrounds claim work.now sets.new constraints result }
     {

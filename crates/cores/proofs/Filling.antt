@@ -7,7 +7,7 @@ use mathlib.Core.Path.{◌≡◌, refl, sym, ◌∙◌, ap, ap₂}
 use mathlib.Core.Logic.{◌≢◌}
 use mathlib.Core.Bool.{false}
 use mathlib.Core.List.{List, ◌∷◌}
-use lib.ListN.{length, get_or, take, drop, set, replicate, length-set, drop_of_length-le}
+use lib.ListN.{length, take, drop, set, replicate, length-set, drop_of_length-le}
 use lib.Pow.{shl_exact}
 use lib.Seq.{take_all, get_or-set_same, get_or-set_other}
 use Rattle.calculus.specs.Cores.{Set, only}

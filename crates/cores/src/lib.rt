@@ -142,7 +142,13 @@ fn with_fact(unions: Unions, row: &[i64], set: Words) -> Unions
 }
 
 // The unions of the first `count` facts, from those of the first `upto`.
-pub fn bring_up(unions: Unions, upto: usize, work: &[i64], sets: &[Words; FACT_LIMIT], count: usize) -> Unions
+pub fn bring_up(
+    unions: Unions,
+    upto: usize,
+    work: &[i64],
+    sets: &[Words; FACT_LIMIT],
+    count: usize,
+) -> Unions
     requires { (upto ≤ count) × Fine work.now count }
     ensures { (r : Rested) → Stands work.now sets.now count r → unions ≡ unions_of (take upto r) → result ≡ unions_of r }
 {
@@ -160,11 +166,7 @@ fn fact_set(sets: &[Words; FACT_LIMIT], count: usize, k: usize) -> Words
     requires { count ≤ fact_limit }
     ensures { (r : Rested) → Carries sets.now count r → result ≡ words_of (set_at r k) }
 {
-    if k < count {
-        sets[k]
-    } else {
-        no_constraint()
-    }
+    if k < count { sets[k] } else { no_constraint() }
 }
 
 // Sum: the sets of the facts that its pairs name.
@@ -180,7 +182,14 @@ fn named_sets(b: &[u8], at: usize, pairs: usize, sets: &[Words; FACT_LIMIT], cou
 }
 
 // Card: the set of "the lowest matching fact" for two different variables.
-fn lengths_set(s: Progress, x: usize, y: usize, work: &[i64], count: usize, sets: &[Words; FACT_LIMIT]) -> Words
+fn lengths_set(
+    s: Progress,
+    x: usize,
+    y: usize,
+    work: &[i64],
+    count: usize,
+    sets: &[Words; FACT_LIMIT],
+) -> Words
     requires x_lt_variable_limit { (x < variable_limit) × (y < variable_limit) × (s.p ≤ variable_limit) × (s.q ≤ variable_limit) }
     requires count_le_fact_limit { (count ≤ fact_limit) × (work_numbers ≤ length work.now) }
     ensures { (r : Rested) → Stands work.now sets.now count r → x ≢ y → result ≡ words_of (lengths_set (numbered s) r x y) }
