@@ -14,7 +14,7 @@ use Rattle.integers.proofs.Machine.{negative, not_negative}
 use lib.Dec.{leb, eqb}
 use borrow.Author.Tests.{lt-ltb, le-ltb, le-leb, lt-leb, leb-true, leb-false, eq-eqb, ne_eqb}
 use Rattle.lists.proofs.Lists.{down}
-use Rattle.format.specs.Fields.{u32, u32s, i32s, i32, signed}
+use Rattle.format.specs.Fields.{u32, u32s, i32s, i32}
 use Rattle.format.specs.Records.{size, kind, next, whole, records}
 use Rattle.format.proofs.Fields.{length_u32s}
 use Rattle.format.proofs.Records.{records_none, records_more}

@@ -94,8 +94,9 @@ impl Page<'_> {
         requires { Room self.old 53 }
         ensures { Puts self.old (refused_line (number refusal.fault) refusal.«record») 53 self.new }
     {
+        let number = refusal.fault.number();
         self.text(b"refused ");
-        self.decimal(refusal.fault.number());
+        self.decimal(number);
         self.text(b" at ");
         self.decimal(refusal.record);
         self.byte(b'\n');

@@ -2,7 +2,6 @@ use lib.IntN.{nat_abs}
 use mathlib.Core.Path.{subst}
 use mir.Syntax.{w64}
 use mir.Val.{of_z, to_z}
-use mathlib.Core.List.{[], ◌∷◌}
 use native.Mathlib.Omega.{arith}
 use Rattle.lines.specs.declared.Page.{Page}
 use Rattle.lines.specs.Pages.{Puts}

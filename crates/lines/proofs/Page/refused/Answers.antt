@@ -7,5 +7,5 @@ use Rattle.lines.proofs.Page.refused.Goals as goal
 
 pub returns : goal.returns
 returns c =
-    puts_same (ap (λ (n : ℕ). refused_line n c.args.refusal.«record») c.number.ensures) (omega arith)
+    puts_same (ap (λ (n : ℕ). refused_line n c.args.refusal.«record») c.number-number.ensures) (omega arith)
     (then c.text.ensures (then c.decimal.ensures (then c.text-2.ensures (then c.decimal-2.ensures c.byte.ensures))))
