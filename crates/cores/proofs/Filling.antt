@@ -7,7 +7,7 @@ use mathlib.Core.Path.{◌≡◌, refl, sym, ◌∙◌, ap, ap₂}
 use mathlib.Core.Logic.{◌≢◌}
 use mathlib.Core.Bool.{false}
 use mathlib.Core.List.{List, ◌∷◌}
-use lib.ListN.{length, take, drop, set, replicate, length-set, drop_of_length-le}
+use lib.ListN.{length, take, drop, set, replicate, drop_of_length-le}
 use lib.Pow.{shl_exact}
 use lib.Seq.{take_all, get_or-set_same, get_or-set_other}
 use Rattle.calculus.specs.Cores.{Set, only}
@@ -15,7 +15,7 @@ use Rattle.calculus.proofs.Cores.{length_only}
 use Rattle.format.specs.Cores.{word}
 use Rattle.cores.specs.declared.Words.{Words}
 use Rattle.cores.specs.Words.{words_of}
-use Rattle.cores.specs.Sets.{words_at, Filled}
+use Rattle.cores.specs.Sets.{words_at}
 use Rattle.cores.proofs.Laws.{two_words}
 
 -- ---- one constraint
@@ -72,17 +72,3 @@ stored_more g v from k x room e h j a b = go (ℕ_discrete j k)
     go : Dec (j ≡ k) → words_at (set v k x) j ≡ g j
     go (yes same) = ap (words_at (set v k x)) same ∙ stored_here v k x room ∙ e ∙ ap g (sym same)
     go (no n) = stored_other v k x j n ∙ h j a (omega arith)
-
--- ---- the words of several places
-
--- none; then one more, as often as is stored
-pub filled_none : (v : List Words) (from : ℕ) (x : Words) → Filled v from from x v
-filled_none v from x = record { same_length = refl; below = λ k h. refl; set_there = λ k h g. absurd (omega arith); behind = λ k h. refl }
-
-pub filled_more : {v v' : List Words} {from k : ℕ} {x : Words} → Filled v from k x v' → from ≤ k → k < length v → Filled v from (k + 1) x (set v' k x)
-filled_more {v} {v'} {from} {k} {x} f l h = record {
-  same_length = length-set v' k x ∙ f.same_length;
-  below = λ j b. stored_other v' k x j (λ e. omega arith) ∙ f.below j b;
-  set_there = stored_more (λ j. x) v' from k x (omega (arith, f.same_length)) refl f.set_there;
-  behind = λ j b. stored_other v' k x j (λ e. omega arith) ∙ f.behind j (omega arith);
-}

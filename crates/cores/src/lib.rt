@@ -93,9 +93,7 @@ pub fn fill_sets(sets: &mut [Words; FACT_LIMIT], from: usize, to: usize, set: Wo
     requires { (from < to) × (to ≤ from + 3) × (to ≤ fact_limit) }
     ensures { Filled sets.old from to set sets.new }
 {
-    for k in from..to {
-        sets[k] = set;
-    }
+    sets[from..to].fill(set);
 }
 
 // "A root constraint rests on itself".
