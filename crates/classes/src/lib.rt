@@ -11,7 +11,7 @@ ghost use Rattle.calculus.specs.SettledTest.{lowest_variable};
 ghost use Rattle.rows.specs.Rows.{row_length, fact_of, branch_of};
 ghost use Rattle.classes.specs.Classes.{Knows, set_back, literal_of};
 
-use limits::NODE_COUNT;
+use limits::{NODE_COUNT, ROW_LENGTH};
 use rows::{
     FIRST, SECOND, TAG_LITERAL, TAG_NOT_SAME, TAG_SAME, literal_at, row_at, tag_of, variable_at,
 };
@@ -74,8 +74,7 @@ fn merge(labels: [u8; NODE_COUNT], i: usize, j: usize) -> [u8; NODE_COUNT]
 }
 
 // The labels once the fact of a row stands: variable ≈ variable and variable ≈ literal join two nodes.
-fn merge_row(row: &[i64], labels: [u8; NODE_COUNT]) -> [u8; NODE_COUNT]
-    requires { length row.now ≡ row_length }
+fn merge_row(row: &[i64; ROW_LENGTH], labels: [u8; NODE_COUNT]) -> [u8; NODE_COUNT]
     ensures { result ≡ merge_fact labels (fact_of row.now) }
 {
     match tag_of(row) {
@@ -196,8 +195,7 @@ fn literals_meet(labels: &[u8; NODE_COUNT], m: usize) -> bool
 }
 
 // Is a row a fact a ≉ b with both sides in one class?
-fn row_sides_meet(row: &[i64], labels: &[u8; NODE_COUNT]) -> bool
-    requires { length row.now ≡ row_length }
+fn row_sides_meet(row: &[i64; ROW_LENGTH], labels: &[u8; NODE_COUNT]) -> bool
     ensures { result ≡ sides_meet labels.now (fact_of row.now ∷ []) }
 {
     tag_of(row) == TAG_NOT_SAME

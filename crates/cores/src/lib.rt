@@ -16,7 +16,7 @@ ghost use Rattle.cores.specs.Words.{words_of, union_of, unions_of};
 ghost use Rattle.cores.specs.Sets.{words_at, Carries, Stands, Filled, RestsOn};
 
 use encoding::LEN;
-use limits::FACT_LIMIT;
+use limits::{FACT_LIMIT, ROW_LENGTH};
 use question::{Progress, column_of};
 use records::{fields_at, u16_at};
 use rows::{TAG_NE, TAG_NOT_SAME, lowest_difference, row_at, tag_of};
@@ -119,8 +119,7 @@ pub fn no_unions() -> Unions
 }
 
 // The unions once the fact of a row stands, which rests on a set.
-fn with_fact(unions: Unions, row: &[i64], set: Words) -> Unions
-    requires { length row.now ≡ row_length }
+fn with_fact(unions: Unions, row: &[i64; ROW_LENGTH], set: Words) -> Unions
     ensures { (r : Rested) (s : Set) → unions ≡ unions_of r → set ≡ words_of s → result ≡ unions_of (r ++ ((fact_of row.now, s) ∷ [])) }
 {
     let tag = tag_of(row);

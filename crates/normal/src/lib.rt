@@ -14,7 +14,7 @@ ghost use Rattle.rows.specs.Work.{tag_of, Fine};
 
 use limits::ROW_LENGTH;
 use rows::{
-    COEFFICIENTS, CONSTANT, FIRST, SECOND, TAG_GE, TAG_LITERAL, TAG_NE, tag_of, variable_at,
+    COEFFICIENTS, CONSTANT, FIRST, SECOND, TAG_GE, TAG_LITERAL, TAG_NE, row_at, tag_of, variable_at,
 };
 use sums::floor_div;
 
@@ -116,8 +116,8 @@ fn order_operands(row: &mut [i64], tag: usize)
     requires { (length row.old ≡ row_length) × (tag ≡ tag_of (fact_of row.old)) × (3 ≤ tag) × (tag ≤ 4) }
     ensures { fact_of row.new ≡ normal (fact_of row.old) }
 {
-    let x = variable_at(row, FIRST);
-    let y = variable_at(row, SECOND);
+    let x = variable_at(row_at(row, 0), FIRST);
+    let y = variable_at(row_at(row, 0), SECOND);
     if y < x {
         row[FIRST] = y as i64;
         row[SECOND] = x as i64;
@@ -131,7 +131,8 @@ fn normalise_row(row: &mut [i64])
     requires { (length row.old ≡ row_length) × (fact_within (fact_of row.old) ≡ true) }
     ensures { fact_of row.new ≡ normal (fact_of row.old) }
 {
-    let tag = tag_of(row);
+    // The slice is a work area of one row.
+    let tag = tag_of(row_at(row, 0));
     if tag <= TAG_NE {
         normalise_form(row, tag);
     } else if tag < TAG_LITERAL {

@@ -24,8 +24,8 @@ use Rattle.rows.proofs.Branches.{branch_more, branch_take, length_branch}
 
 module _ {A : Type 0} where
   -- the part of a slice from place k on
-  pub part_from : (l : List A) (k : ℕ) → take (length l - k) (drop k l) ≡ drop k l
-  part_from l k = take_all (length l - k) (drop k l) (simp length-drop (omega arith))
+  pub part_from : (l : List A) (k n : ℕ) → length l ≤ k + n → take n (drop k l) ≡ drop k l
+  part_from l k n h = take_all n (drop k l) (simp length-drop (omega arith))
 
 -- the tests of what f makes of each number below n
 range_made : {A : Type 0} (f : ℕ → A) (n : ℕ) → map f (range_with_len 0 n) ≡ up_to f n

@@ -50,18 +50,15 @@ pub const TAG_LITERAL: usize = TAG_SAME + IS_LITERAL;
 // ---- rows in the work area
 
 // Row k, as a middle part of the work area.
-pub fn row_at(work: &[i64], k: usize) -> &[i64]
+pub fn row_at(work: &[i64], k: usize) -> &[i64; ROW_LENGTH]
     requires { (k < fact_limit) × (row_length * k + row_length ≤ length work.now) }
     ensures { result.now ≡ row_at work.now k }
 {
-    let from = ROW_LENGTH * k;
-    let to = from + ROW_LENGTH;
-    &work[from..to]
+    &work.as_chunks::<ROW_LENGTH>().0[k]
 }
 
 // The tag that counts: any number that is no tag counts as that of ≠.
-pub fn tag_of(row: &[i64]) -> usize
-    requires { length row.now ≡ row_length }
+pub fn tag_of(row: &[i64; ROW_LENGTH]) -> usize
     ensures { result ≡ tag_of (fact_of row.now) }
 {
     match usize::try_from(row[TAG]) {
@@ -81,7 +78,7 @@ fn index_below(z: i64, limit: usize) -> usize
 }
 
 // The number of the variable in a string fact's row, at place FIRST or SECOND.
-pub fn variable_at(row: &[i64], place: usize) -> usize
+pub fn variable_at(row: &[i64; ROW_LENGTH], place: usize) -> usize
     requires { place < length row.now }
     ensures value { result ≡ index (get_or row.now place (pos 0)) }
     ensures upper_bound { result < variable_limit }
@@ -90,7 +87,7 @@ pub fn variable_at(row: &[i64], place: usize) -> usize
 }
 
 // The number of the literal in the row of variable ≈ literal, at place SECOND.
-pub fn literal_at(row: &[i64], place: usize) -> usize
+pub fn literal_at(row: &[i64; ROW_LENGTH], place: usize) -> usize
     requires { place < length row.now }
     ensures value { result ≡ index (get_or row.now place (pos 0)) }
     ensures upper_bound { result < variable_limit }
@@ -255,24 +252,22 @@ pub fn in_limit(x: i64) -> bool
 }
 
 // Is every number after the tag within the limit?
-fn form_within(row: &[i64]) -> bool
-    requires { length row.now ≡ row_length }
+fn form_within(row: &[i64; ROW_LENGTH]) -> bool
     ensures { result ≡ all_within number_limit (drop 1 row.now) }
 {
     row[CONSTANT..].iter().all(|x| in_limit(*x))
 }
 
 // Is every number of the fact within the limit?
-pub fn fact_within(row: &[i64]) -> bool
-    requires { length row.now ≡ row_length }
+pub fn fact_within(row: &[i64; ROW_LENGTH]) -> bool
     ensures { result ≡ fact_within (fact_of row.now) }
 {
     tag_of(row) > TAG_NE || form_within(row)
 }
 
 // A row becomes another one, up to the first number after its tag that passes the limit. Is there none?
-fn fill_within(out: &mut [i64], row: &[i64]) -> bool
-    requires { (length out.old ≡ row_length) × (length row.now ≡ row_length) }
+fn fill_within(out: &mut [i64], row: &[i64; ROW_LENGTH]) -> bool
+    requires { length out.old ≡ row_length }
     ensures value { result ≡ all_within number_limit (drop 1 row.now) }
     ensures out_after { result ≡ true → out.new ≡ row.now }
 {
@@ -284,8 +279,8 @@ fn fill_within(out: &mut [i64], row: &[i64]) -> bool
 }
 
 // The given row of an arithmetic fact, after the first k facts, where all its numbers are within the limit. Are they?
-pub fn put_within(work: &mut [i64], k: usize, row: &[i64]) -> bool
-    requires { (k < fact_limit) × (work_numbers ≤ length work.old) × (length row.now ≡ row_length) × (tag_of (fact_of row.now) ≤ 2) }
+pub fn put_within(work: &mut [i64], k: usize, row: &[i64; ROW_LENGTH]) -> bool
+    requires { (k < fact_limit) × (work_numbers ≤ length work.old) × (tag_of (fact_of row.now) ≤ 2) }
     ensures value { result ≡ fact_within (fact_of row.now) }
     ensures behind { result ≡ true → Behind work.old k (fact_of row.now) work.new }
 {
@@ -297,8 +292,7 @@ pub fn put_within(work: &mut [i64], k: usize, row: &[i64]) -> bool
 // ---- tests
 
 // Has the form no coefficient?
-fn constant(row: &[i64]) -> bool
-    requires { length row.now ≡ row_length }
+fn constant(row: &[i64; ROW_LENGTH]) -> bool
     ensures { result ≡ all_zero (drop 2 row.now) }
 {
     row[COEFFICIENTS..].iter().all(|x| *x == 0)
@@ -316,8 +310,7 @@ pub fn relation_holds(relation: usize, value: i64) -> bool
 }
 
 // A-Conf: an arithmetic fact without coefficients and false.
-pub fn is_false(row: &[i64]) -> bool
-    requires { length row.now ≡ row_length }
+pub fn is_false(row: &[i64; ROW_LENGTH]) -> bool
     ensures { result ≡ is_false (fact_of row.now) }
 {
     let tag = tag_of(row);
@@ -325,9 +318,8 @@ pub fn is_false(row: &[i64]) -> bool
 }
 
 // Is the second form the negative of the first?
-fn negates(row: &[i64], other: &[i64]) -> bool
-    requires row_len { (length row.now ≡ row_length) × (length other.now ≡ row_length) }
-    requires row_value { all_within number_limit (drop 1 row.now) ≡ true }
+fn negates(row: &[i64; ROW_LENGTH], other: &[i64; ROW_LENGTH]) -> bool
+    requires { all_within number_limit (drop 1 row.now) ≡ true }
     ensures { result ≡ eq_integers (scale (negsuc 0) (drop 1 row.now)) (drop 1 other.now) }
 {
     // A `for`: in an `all` the check does not know that x is a number of the row, so that −x fits.
@@ -340,41 +332,39 @@ fn negates(row: &[i64], other: &[i64]) -> bool
 }
 
 // Is a fact one that Join takes: ≥, or an equation? These have the two lowest tags.
-fn joinable(row: &[i64]) -> bool
-    requires { length row.now ≡ row_length }
+fn joinable(row: &[i64; ROW_LENGTH]) -> bool
     ensures { result ≡ fits (join_form (fact_of row.now)) }
 {
     tag_of(row) <= TAG_EQ
 }
 
 // Join: "one the negative of the other", and it "takes equations as well as ≥ facts".
-pub fn joins(row: &[i64], other: &[i64]) -> bool
-    requires row_len { (length row.now ≡ row_length) × (length other.now ≡ row_length) }
-    requires row_value { fact_within (fact_of row.now) ≡ true }
+pub fn joins(row: &[i64; ROW_LENGTH], other: &[i64; ROW_LENGTH]) -> bool
+    requires { fact_within (fact_of row.now) ≡ true }
     ensures { result ≡ fits (join_of (fact_of row.now) (fact_of other.now)) }
 {
     joinable(row) && joinable(other) && negates(row, other)
 }
 
 // Are two rows the same from a place on, number by number?
-pub fn same_from(row: &[i64], other: &[i64], from: usize) -> bool
-    requires { (length row.now ≡ row_length) × (length other.now ≡ row_length) × (from ≤ row_length) }
+pub fn same_from(row: &[i64; ROW_LENGTH], other: &[i64; ROW_LENGTH], from: usize) -> bool
+    requires { from ≤ row_length }
     ensures { result ≡ eq_integers (drop from row.now) (drop from other.now) }
 {
     row[from..] == other[from..]
 }
 
 // Are two rows the same? The coefficient of a column is looked at first, where rows that differ mostly do.
-fn same_by(row: &[i64], other: &[i64], column: usize) -> bool
-    requires { (length row.now ≡ row_length) × (length other.now ≡ row_length) × (column < column_limit) }
+fn same_by(row: &[i64; ROW_LENGTH], other: &[i64; ROW_LENGTH], column: usize) -> bool
+    requires { column < column_limit }
     ensures { result ≡ eq_integers row.now other.now }
 {
     row[column + COEFFICIENTS] == other[column + COEFFICIENTS] && row == other
 }
 
 // Is a row one of two, which mostly differ from it in a column?
-fn one_of(row: &[i64], one: &[i64], other: &[i64], column: usize) -> bool
-    requires { (length row.now ≡ row_length) × (length one.now ≡ row_length) × (length other.now ≡ row_length) × (column < column_limit) }
+fn one_of(row: &[i64; ROW_LENGTH], one: &[i64; ROW_LENGTH], other: &[i64; ROW_LENGTH], column: usize) -> bool
+    requires { column < column_limit }
     ensures { result ≡ (eq_integers one.now row.now || eq_integers other.now row.now) }
 {
     same_by(one, row, column) || same_by(other, row, column)
@@ -405,8 +395,8 @@ pub fn states_equal(work: &[i64], count: usize, i: usize, j: usize) -> bool
 // ---- values
 
 // The form's value where the columns have the model's values.
-fn row_value(row: &[i64], model: &[i64]) -> i64
-    requires row_len { (length row.now ≡ row_length) × (length model.now ≡ column_limit) }
+fn row_value(row: &[i64; ROW_LENGTH], model: &[i64]) -> i64
+    requires model_len { length model.now ≡ column_limit }
     requires row_value { all_within number_limit (drop 1 row.now) ≡ true }
     requires within { Within value_limit model.now }
     ensures { result ≡ value_in model.now (drop 1 row.now) }
@@ -419,8 +409,8 @@ fn row_value(row: &[i64], model: &[i64]) -> i64
 }
 
 // Does the fact hold by the model's values?
-fn keeps_row(row: &[i64], model: &[i64]) -> bool
-    requires row_len { (length row.now ≡ row_length) × (length model.now ≡ column_limit) }
+fn keeps_row(row: &[i64; ROW_LENGTH], model: &[i64]) -> bool
+    requires model_len { length model.now ≡ column_limit }
     requires row_value { fact_within (fact_of row.now) ≡ true }
     requires within { Within value_limit model.now }
     ensures { result ≡ keeps_fact model.now (fact_of row.now) }

@@ -158,8 +158,8 @@ module _ {b : List ℕ} {s : Progress} {w : List ℤ} (h : Ready b s w) where
         subst (λ (n : ℕ). n ≤ s.literals) (sym (ap (λ (r : List ℤ). literal_named (fact_of r)) e ∙ ap literal_named (row_is j l) ∙ normal_literal (fact_at b at)))
         (literal_low b s.p s.literals _ (kind b at) (at + 6) (size b at) (h.posed.stands.constraints_stand j l).formed)
 
-    pub row_lent : (length row ≡ row_length) × LiteralIn b (fact_of row)
-    row_lent = (ap length e ∙ length_row w j (row_there j l).1, literals_to h.posed (literal_named (fact_of row)) literal_named_law)
+    pub row_lent : LiteralIn b (fact_of row)
+    row_lent = literals_to h.posed (literal_named (fact_of row)) literal_named_law
 
 -- ---- the facts in the first rows
 

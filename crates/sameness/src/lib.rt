@@ -20,7 +20,7 @@ ghost use Rattle.sameness.specs.Ready.{literal_named, LiteralIn, Ready, facts_in
 use constraints::load;
 use encoding::RECORD_HEAD;
 use faults::{Fault, Refusal};
-use limits::WORK_NUMBERS;
+use limits::{ROW_LENGTH, WORK_NUMBERS};
 use normal::normalise;
 use question::{
     HEAD_RANK, JUDGING, Progress, behind_literals, behind_records, literal_text, read_question,
@@ -46,9 +46,9 @@ fn same_literals(b: &[u8], l: usize, c: &[u8], k: usize) -> bool
 }
 
 // Are two facts alike, each in the bytes of its question?
-fn rows_alike(b: &[u8], row: &[i64], c: &[u8], other: &[i64]) -> bool
-    requires row_len { (length row.now ≡ row_length) × LiteralIn b.now (fact_of row.now) }
-    requires other_len { (length other.now ≡ row_length) × LiteralIn c.now (fact_of other.now) }
+fn rows_alike(b: &[u8], row: &[i64; ROW_LENGTH], c: &[u8], other: &[i64; ROW_LENGTH]) -> bool
+    requires row_literal { LiteralIn b.now (fact_of row.now) }
+    requires other_literal { LiteralIn c.now (fact_of other.now) }
     ensures { (s t : Progress) → literal_named (fact_of row.now) ≤ s.literals → literal_named (fact_of other.now) ≤ t.literals
         → result ≡ alike (asked b.now s) (asked c.now t) (basic (fact_of row.now)) (basic (fact_of other.now)) }
 {
@@ -70,8 +70,8 @@ fn rows_alike(b: &[u8], row: &[i64], c: &[u8], other: &[i64]) -> bool
 
 // How many facts of a question are like one.
 // A `for`: in a chain the closure would have to ask in a clause of its own that k is below the count and the question ready. The same in `rows_agree`.
-fn count_rows(b: &[u8], row: &[i64], c: &[u8], t: Progress, work: &[i64]) -> usize
-    requires { (length row.now ≡ row_length) × LiteralIn b.now (fact_of row.now) × Ready c.now t work.now }
+fn count_rows(b: &[u8], row: &[i64; ROW_LENGTH], c: &[u8], t: Progress, work: &[i64]) -> usize
+    requires { LiteralIn b.now (fact_of row.now) × Ready c.now t work.now }
     ensures { (s : Progress) → literal_named (fact_of row.now) ≤ s.literals
         → result ≡ occurrences (asked b.now s) (asked c.now t) (basic (fact_of row.now)) (facts_in work.now t.constraints) }
 {

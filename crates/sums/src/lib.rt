@@ -17,8 +17,7 @@ use limits::ROW_LENGTH;
 use rows::{COEFFICIENTS, CONSTANT, TAG, TAG_EQ, TAG_GE};
 
 // Does a fact take the multiplier: at least 1 on a ≥ fact, nonzero on an equation?
-fn takes(row: &[i64], multiplier: i64) -> bool
-    requires { length row.now ≡ row_length }
+fn takes(row: &[i64; ROW_LENGTH], multiplier: i64) -> bool
     ensures { result ≡ fits (summand multiplier (fact_of row.now)) }
 {
     match rows::tag_of(row) {
@@ -29,10 +28,10 @@ fn takes(row: &[i64], multiplier: i64) -> bool
 }
 
 // A row times a multiplier is added to the sum.
-fn add_multiple(sum: &mut [i64], row: &[i64], multiplier: i64)
-    requires row_len { (length row.now ≡ row_length) × (all_within number_limit (drop 1 row.now) ≡ true) }
+fn add_multiple(sum: &mut [i64; ROW_LENGTH], row: &[i64; ROW_LENGTH], multiplier: i64)
+    requires row_value { all_within number_limit (drop 1 row.now) ≡ true }
     requires multiplier_bound { nat_abs multiplier ≤ number_limit }
-    requires sum_len { (length sum.old ≡ row_length) × Within 7000000000000000000 sum.old }
+    requires within { Within 7000000000000000000 sum.old }
     ensures { sum.new ≡ added sum.old multiplier row.now }
 {
     for j in CONSTANT..ROW_LENGTH {
@@ -41,7 +40,7 @@ fn add_multiple(sum: &mut [i64], row: &[i64], multiplier: i64)
 }
 
 // The sum of the pairs (fact, multiplier), added to a row of zeros, and whether they fit.
-fn sum_of(sum: &mut [i64], b: &[u8], at: usize, pairs: usize, work: &[i64], count: usize) -> bool
+fn sum_of(sum: &mut [i64; ROW_LENGTH], b: &[u8], at: usize, pairs: usize, work: &[i64], count: usize) -> bool
     requires sum_value { sum.old ≡ zeros row_length }
     requires le_pairs { (1 ≤ pairs) × (pairs ≤ summand_limit) × (at + 6 * pairs ≤ length b.now) }
     requires pairs_value { multipliers_within (pairs_at b.now at pairs) ≡ true }
@@ -73,8 +72,8 @@ pub fn floor_div(c: i64, d: i64) -> i64
 }
 
 // A sum divided in place, columns exactly and the constant rounding down, and whether they divide.
-fn divide(row: &mut [i64], d: i64) -> bool
-    requires { (pos 1 ≤ℤ d) × (length row.old ≡ row_length) × (get_or row.old 0 (pos 0) ≡ pos 0) }
+fn divide(row: &mut [i64; ROW_LENGTH], d: i64) -> bool
+    requires { (pos 1 ≤ℤ d) × (get_or row.old 0 (pos 0) ≡ pos 0) }
     ensures { row_in result row.new ≡ ge_row (divided (nat_abs d) (drop 1 row.old)) }
 {
     for j in COEFFICIENTS..ROW_LENGTH {
@@ -90,8 +89,8 @@ fn divide(row: &mut [i64], d: i64) -> bool
 }
 
 // A sum divided in place. By 1 it is as it stands: the machine's divisions are saved.
-fn divide_by(row: &mut [i64], d: i64) -> bool
-    requires { (pos 1 ≤ℤ d) × (length row.old ≡ row_length) × (get_or row.old 0 (pos 0) ≡ pos 0) }
+fn divide_by(row: &mut [i64; ROW_LENGTH], d: i64) -> bool
+    requires { (pos 1 ≤ℤ d) × (get_or row.old 0 (pos 0) ≡ pos 0) }
     ensures { row_in result row.new ≡ ge_row (divided (nat_abs d) (drop 1 row.old)) }
 {
     d == 1 || divide(row, d)
@@ -117,8 +116,8 @@ fn all_equations(b: &[u8], at: usize, pairs: usize, work: &[i64], count: usize) 
 }
 
 // Does the constant divide exactly too, in a sum that is not yet divided? By 1 it always does.
-fn divides_exactly(row: &[i64], d: i64) -> bool
-    requires { (pos 1 ≤ℤ d) × (length row.now ≡ row_length) }
+fn divides_exactly(row: &[i64; ROW_LENGTH], d: i64) -> bool
+    requires { pos 1 ≤ℤ d }
     ensures { result ≡ divides_exactly (nat_abs d) (drop 1 row.now) }
 {
     if d == 1 {
@@ -131,7 +130,7 @@ fn divides_exactly(row: &[i64], d: i64) -> bool
 
 // The tag of the fact that a Sum adds, from the sum that is not yet divided.
 fn sum_tag(
-    row: &[i64],
+    row: &[i64; ROW_LENGTH],
     b: &[u8],
     at: usize,
     pairs: usize,
@@ -139,7 +138,7 @@ fn sum_tag(
     work: &[i64],
     count: usize,
 ) -> i64
-    requires pos_bound { (pos 1 ≤ℤ d) × (length row.now ≡ row_length) }
+    requires pos_bound { pos 1 ≤ℤ d }
     requires pairs_in_bounds { at + 6 * pairs ≤ length b.now }
     requires fine { Fine work.now count }
     ensures { result ≡ sum_tag (branch_of work.now count) (nat_abs d) (pairs_at b.now at pairs) (drop 1 row.now) }
@@ -153,7 +152,7 @@ fn sum_tag(
 
 // The row of the fact that a Sum adds, in a row of zeros, and whether the step fits.
 pub fn sum_row(
-    row: &mut [i64],
+    row: &mut [i64; ROW_LENGTH],
     b: &[u8],
     at: usize,
     pairs: usize,

@@ -1,18 +1,12 @@
 use Prim.Native.Nat.{ℕ}
 use lib.IntN.{ℤ}
-use lib.ListN.{length}
 use mathlib.Core.List.{List}
 use mathlib.Core.Path.{◌∙◌, ap, ap₂, sym}
-use native.Mathlib.Omega.{arith}
 use Rattle.calculus.specs.Classes.{merge_fact, labels}
 use Rattle.classes.proofs.Laws.{labels_snoc}
-use Rattle.rows.proofs.Branches.{branch_more, length_row}
+use Rattle.rows.proofs.Branches.{branch_more}
 use Rattle.rows.specs.Rows.{branch_of, fact_of, row_at}
 use Rattle.classes.proofs.bring_up.Goals as goal
-
-pub merge_row-next-requires : goal.merge_row-next-requires
-merge_row-next-requires c =
-    ap length c.row_at.ensures ∙ length_row c.args.work.now c.loop-k.k (omega arith)
 
 pub loop-k-preserved : goal.loop-k-preserved
 loop-k-preserved c =

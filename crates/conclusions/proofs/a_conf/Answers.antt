@@ -1,7 +1,6 @@
 use Prim.Native.Nat.{suc}
 use borrow.Author.Tests.{lt-leb}
 use lib.IntN.{ℤ}
-use lib.ListN.{length}
 use mathlib.Core.List.{List, []}
 use mathlib.Core.Option.{Option}
 use mathlib.Core.Path.{◌∙◌, ap, sym}
@@ -9,7 +8,7 @@ use native.Mathlib.Omega.{arith}
 use Rattle.calculus.specs.Facts.{Fact, Question}
 use Rattle.calculus.specs.Rules.{is_false, guard, then}
 use Rattle.conclusions.specs.Made.{closing_of}
-use Rattle.rows.proofs.Branches.{branch_at, branch_beyond, length_row}
+use Rattle.rows.proofs.Branches.{branch_at, branch_beyond}
 use Rattle.rows.specs.Rows.{fact_of}
 use Rattle.conclusions.proofs.a_conf.Goals as goal
 
@@ -19,10 +18,6 @@ returns-else-k-count c =
     let a = c.args in
     λ (u : Question). ap closing_of (lt-leb (suc a.k) a.count (omega (arith, c.if-k-count.false)))
     ∙ sym (ap (λ (o : Option Fact). then o (λ f. guard (is_false f) [])) (branch_beyond a.work.now a.count a.k c.if-k-count.false))
-
-pub is_false-requires : goal.is_false-requires
-is_false-requires c =
-    ap length c.row_at.ensures ∙ length_row c.args.work.now c.args.k (omega (arith, c.requires.few, c.requires.room))
 
 pub returns-then-k-count : goal.returns-then-k-count
 unfolding closing_of

@@ -2,7 +2,6 @@ use Prim.Native.Nat.{ℕ}
 use borrow.Author.Rules.{rules}
 use borrow.Author.Tests.{not-false, not-true}
 use lib.IntN.{ℤ}
-use lib.ListN.{length}
 use mathlib.Core.Bool.{Bool}
 use mathlib.Core.List.{List}
 use mathlib.Core.Path.{◌∙◌, ◌≡◌, ap, ap₂, sym}
@@ -13,7 +12,6 @@ use Rattle.conclusions.proofs.Laws.{join_adds, join_first_beyond, join_second_be
 use Rattle.conclusions.proofs.Limits.{join_within}
 use Rattle.conclusions.proofs.Tried.{concluded, eight, ten}
 use Rattle.format.specs.Checking.{fact_within, fits}
-use Rattle.rows.proofs.Branches.{length_row}
 use Rattle.rows.proofs.Small.{fine_at}
 use Rattle.rows.specs.Rows.{fact_of, row_at}
 use Rattle.conclusions.proofs.join.Goals as goal
@@ -46,14 +44,8 @@ returns-then-count-j c =
 pub joins-requires : goal.joins-requires
 joins-requires c =
     let f = c.requires in
-    let w = c.args.work.now in record {
-      row_len = (
-        ap length c.row_at.ensures ∙ length_row w c.args.j (omega (arith, f.few, f.room)),
-        ap length c.row_at-else-count-k.ensures ∙ length_row w c.args.k (omega (arith, f.few, f.room)),
-      );
-      row_value = ap (λ (l : List ℤ). fact_within (fact_of l)) c.row_at.ensures
-          ∙ fine_at w c.args.count c.args.j f (omega (arith, c.if-count-j.false));
-    }
+    ap (λ (l : List ℤ). fact_within (fact_of l)) c.row_at.ensures
+    ∙ fine_at c.args.work.now c.args.count c.args.j f (omega (arith, c.if-count-j.false))
 
 pub returns-then-count-ge-FACT_LIMIT : goal.returns-then-count-ge-FACT_LIMIT
 returns-then-count-ge-FACT_LIMIT c =

@@ -77,7 +77,6 @@ pub put_within-requires : goal.put_within-requires
 put_within-requires c = (
   omega (arith, c.if-count-ge-FACT_LIMIT.false),
   c.requires.fine.room,
-  search rules,
   sum_tag _ _ _ c.sum_row.result (row (goal.at.put_within-requires c).After-sum_row) (summed (goal.at.put_within-requires c).After-sum_row) (not-false _ c.if-not-sum_row.false-raw),
 )
 

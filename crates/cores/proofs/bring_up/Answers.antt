@@ -1,5 +1,5 @@
 use lib.IntN.{ℤ}
-use lib.ListN.{length, take}
+use lib.ListN.{take}
 use lib.Seq.{take_all}
 use mathlib.Core.List.{List, [], ◌++◌, ◌∷◌}
 use mathlib.Core.Path.{◌∙◌, ap, sym}
@@ -7,17 +7,11 @@ use native.Mathlib.Omega.{arith}
 use Rattle.calculus.specs.Cores.{set_at}
 use Rattle.cores.proofs.Growing.{stands_more}
 use Rattle.cores.specs.Words.{unions_of}
-use Rattle.rows.proofs.Branches.{length_row}
 use Rattle.rows.specs.Rows.{fact_of}
 use Rattle.cores.proofs.bring_up.Goals as goal
 
 pub loop-k-init : goal.loop-k-init
 loop-k-init c = λ r h e. e
-
-pub with_fact-out-requires : goal.with_fact-out-requires
-with_fact-out-requires c =
-    let fine = c.requires.1 in
-    ap length c.row_at.ensures ∙ length_row c.args.work.now c.loop-k.k (omega (arith, fine.few, fine.room))
 
 pub loop-k-preserved : goal.loop-k-preserved
 loop-k-preserved c =

@@ -33,5 +33,5 @@ returns c =
     form_put_back row l.x-items c.requires.1
     ∙ ap (λ (m : List ℤ). get_or row 0 (pos 0) ∷ m)
     (changing_done 0 f (take (length row - 1) (drop 1 row)) l.x-items l.x-index l.invariant (omega arith)
-    ∙ ap (map f) (part_from row 1)
+    ∙ ap (map f) (part_from row 1 (length row - 1) (omega arith))
     ∙ ap (λ (d : ℤ). floor_div_all (drop 1 row) (nat_abs d)) (to_z-of_z c.ranges.d))

@@ -1,6 +1,8 @@
 use Rattle.std.proofs.Common.{rules, tests, unwrap_or, ◌∙◌, ◌≡◌, sym, not, Option, Some, None, refl, ap₂}
 use lib.IntN.{pos, ℤ}
-use lib.ListN.{drop, get_or}
+use Prim.Native.Nat.{◌-◌}
+use lib.ListN.{drop, get_or, length}
+use native.Mathlib.Omega.{arith}
 use mir.Facts.{to_z-of_z}
 use mir.Syntax.{w64}
 use mir.Val.{SFits}
@@ -25,7 +27,7 @@ returns c =
     let g : SFits w64 c.unwrap_or.result = record { sfits = c.unwrap_or.type_inv } in
     let source : c.copied.result.iter.rest.now ≡ c.iter.result.rest.now = search rules in
     let found = find_from_yields_List (λ z. not (is_zero z)) c.find.new.self _ c.find.result c.find.ensures.ran
-    (YieldsList-from_copied (YieldsList-from_slice (drop 2 row) (source ∙ c.iter.ensures.rest ∙ part_from row 2)))
+    (YieldsList-from_copied (YieldsList-from_slice (drop 2 row) (source ∙ c.iter.ensures.rest ∙ part_from row 2 (length row - 2) (omega arith))))
     (λ x b q k. let h : SFits w64 x = search (rules, tests) in let t = zero_test x h in search (rules, tests)) in
     to_z-of_z g
     ∙ c.unwrap_or.ensures

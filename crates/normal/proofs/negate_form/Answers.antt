@@ -27,7 +27,7 @@ module _ (c : In-loop-x) where
       let i = c.loop-x.x-index in
       let row = c.args.row.now in
       kept_at c.loop-x.x-items form i (pos 0) c.loop-x.invariant.4
-      ∙ ap (λ (l : List ℤ). get_or l i (pos 0)) (part_from row 1)
+      ∙ ap (λ (l : List ℤ). get_or l i (pos 0)) (part_from row 1 (length row - 1) (omega arith))
       ∙ get_or-drop 1 row i (pos 0)
 
   small : nat_abs z ≤ number_limit
@@ -48,4 +48,4 @@ returns c =
     let form = take (length row - 1) (drop 1 row) in
     form_put_back row c.loop-x.x-items c.requires.0
     ∙ ap (λ (l : List ℤ). get_or row 0 (pos 0) ∷ l)
-    (changing_done 0 minus form c.loop-x.x-items c.loop-x.x-index c.loop-x.invariant (omega arith) ∙ ap (map minus) (part_from row 1))
+    (changing_done 0 minus form c.loop-x.x-items c.loop-x.x-index c.loop-x.invariant (omega arith) ∙ ap (map minus) (part_from row 1 (length row - 1) (omega arith)))

@@ -1,4 +1,4 @@
-use Rattle.std.proofs.Common.{drop, rules, tests, ◌∙◌}
+use Rattle.std.proofs.Common.{arith, drop, rules, tests, ◌∙◌}
 use Rattle.std.proofs.lemmas.Iterator.{YieldsList-from_slice}
 use Rattle.std.proofs.lemmas.Iterator.Search.{all_from_yields_List}
 use Rattle.calculus.specs.Limits.{number_limit}
@@ -10,5 +10,5 @@ use Rattle.rows.proofs.form_within.Goals as goal
 pub returns : goal.returns
 unfolding all_within
 returns c =
-    all_from_yields_List (within number_limit) _ _ _ c.all.ensures.ran (YieldsList-from_slice (drop 1 c.args.row.now) (c.iter.ensures.rest ∙ part_from _ 1)) (λ x b q k. search (rules, tests))
+    all_from_yields_List (within number_limit) _ _ _ c.all.ensures.ran (YieldsList-from_slice (drop 1 c.args.row.now) (c.iter.ensures.rest ∙ part_from c.args.row.now 1 49 (omega arith))) (λ x b q k. search (rules, tests))
     ∙ list_all_is (within number_limit) (drop 1 c.args.row.now)

@@ -24,7 +24,7 @@ falsum-is : (c : After-tag_of-tag) → c.tag_of-tag.result ≤ 2
     ≡ (all_zero (drop 2 c.args.row.now) && not (holds (relation_of c.tag_of-tag.result) (get_or c.args.row.now 1 (pos 0))))
 falsum-is c h =
     let row = c.args.row.now in
-    ap is_false (row_relation row c.tag_of-tag.result c.tag_of-tag.ensures h) ∙ falsum_row (relation_of c.tag_of-tag.result) row c.requires
+    ap is_false (row_relation row c.tag_of-tag.result c.tag_of-tag.ensures h) ∙ falsum_row (relation_of c.tag_of-tag.result) row (search rules)
 
 pub returns-then-not-relation_holds : goal.returns-then-not-relation_holds
 returns-then-not-relation_holds c = elim c.if-tag-le-TAG_NE.branch [

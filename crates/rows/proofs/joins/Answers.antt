@@ -4,10 +4,10 @@ use Rattle.rows.proofs.Tested.{joinable_within, joined_tests}
 use Rattle.rows.proofs.joins.Goals as goal
 use Rattle.rows.proofs.joins.Goals.{then-joinable, else-joinable}
 
-pub negates-requires-clause-row_value : goal.negates-requires-clause-row_value
-negates-requires-clause-row_value c =
+pub negates-requires : goal.negates-requires
+negates-requires c =
     elim c.if-joinable.branch [
-      | then-joinable w ↦ sym (joinable_within c.args.row.now (sym w.if-joinable.ensures)) ∙ c.requires.row_value
+      | then-joinable w ↦ sym (joinable_within c.args.row.now (sym w.if-joinable.ensures)) ∙ c.requires
       | else-joinable w ↦ absurd (true≢false (sym c.if-joinable-2.true ∙ w.value-is ∙ w.if-joinable.false))
     ]
 

@@ -22,13 +22,13 @@ use Rattle.rows.proofs.negates.Goals.{After-into_iter-x-iterator, In-Some}
 -- the parts of the rows that are read
 module _ (c : After-into_iter-x-iterator) where
   first : c.into_iter-x-iterator.result.a.rest.now ≡ drop 1 c.args.row.now
-  first = let e : c.into_iter-x-iterator.result.a.rest.now ≡ c.iter.result.rest.now = search rules in e ∙ c.iter.ensures.rest ∙ part_from c.args.row.now 1
+  first = let e : c.into_iter-x-iterator.result.a.rest.now ≡ c.iter.result.rest.now = search rules in e ∙ c.iter.ensures.rest ∙ part_from c.args.row.now 1 49 (omega arith)
 
   second : c.into_iter-x-iterator.result.b.rest.now ≡ drop 1 c.args.other.now
   second =
       let other = c.args.other.now in
-      let e : c.into_iter-x-iterator.result.b.rest.now ≡ take (length other - 1) (drop 1 other) = search rules in
-      e ∙ part_from other 1
+      let e : c.into_iter-x-iterator.result.b.rest.now ≡ take 49 (drop 1 other) = search rules in
+      e ∙ part_from other 1 49 (omega arith)
 
 -- at the test: the two numbers
 module _ (c : In-Some) where
@@ -50,13 +50,13 @@ module _ (c : In-Some) where
       let t = zip_turn (drop 1 row) (drop 1 other) c.loop-x.yielded c.into_iter-x-iterator.result c.loop-x.x-iterator c.next.new.self c.next.result
       (first here) (second here) c.loop-x.yielded_by (c.in-Some.x, c.in-Some.y) c.in-Some.is c.next.ensures.steps in
       let e : 1 + n ≡ n + 1 = omega arith in (
-        omega (arith, t.0, length-drop 1 row, c.requires.row_len.0),
+        omega (arith, t.0, length-drop 1 row),
         t.2 (pos 0) ∙ get_or-drop 1 row n (pos 0) ∙ ap (λ (i : ℕ). get_or row i (pos 0)) e,
         t.3 (pos 0) ∙ get_or-drop 1 other n (pos 0) ∙ ap (λ (i : ℕ). get_or other i (pos 0)) e,
       )
 
   small : nat_abs x ≤ 1000000000
-  small = behind_tag c.args.row.now j c.requires.row_value (omega arith)
+  small = behind_tag c.args.row.now j c.requires (omega arith)
 
   fx : SFits w64 (pos 0 -ℤ to_z w64 (of_z w64 x))
   fx = neg_fits x 1000000000 small (omega arith)
@@ -69,7 +69,7 @@ module _ (c : In-Some) where
       ∙ sym (entry_scale (negsuc 0) c.args.row.now j)
 
   long : length (scale (negsuc 0) c.args.row.now) ≡ 50
-  long = length_scale (negsuc 0) c.args.row.now ∙ c.requires.row_len.0
+  long = length_scale (negsuc 0) c.args.row.now ∙ (search rules)
 
 pub overflow_sub-x : goal.overflow_sub-x
 overflow_sub-x c = let here = (goal.at.overflow_sub-x c).In-Some in rw (turn here).1 (fx here)
@@ -107,7 +107,7 @@ returns c =
     let e = zip_end (drop 1 row) (drop 1 other) c.loop-x.yielded c.into_iter-x-iterator.result c.loop-x.x-iterator c.next.new.self c.next.result
     (first here) (second here) c.loop-x.yielded_by c.in-None.is c.next.ensures.steps in
     let l = length_scale (negsuc 0) row in
-    let a : 50 ≤ n + 1 = omega (arith, e, length-drop 1 row, length-drop 1 other, c.requires.row_len.0, c.requires.row_len.1) in
-    sym (eq_integers_done (scale (negsuc 0) row) other (n + 1) (omega (arith, a, c.requires.row_len.0)) (omega (arith, a, c.requires.row_len.1)))
+    let a : 50 ≤ n + 1 = omega (arith, e, length-drop 1 row, length-drop 1 other) in
+    sym (eq_integers_done (scale (negsuc 0) row) other (n + 1) (omega (arith, a)) (omega (arith, a)))
     ∙ c.loop-x.invariant
     ∙ ap (λ (a : List ℤ). eq_integers a (drop 1 other)) (scale_behind (negsuc 0) row)

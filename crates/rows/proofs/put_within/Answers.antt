@@ -13,6 +13,6 @@ returns c =
     let given = c.args.row.now in
     let row = c.fill_within.new.out in
     let n : length row ≡ 50 = search rules in record {
-      value = c.fill_within.ensures.value ∙ sym (ap fact_within (row_relation given _ refl (omega (arith, c.requires.3))));
+      value = c.fill_within.ensures.value ∙ sym (ap fact_within (row_relation given _ refl (omega (arith, c.requires.2))));
       behind = λ z. branch_filled c.args.work.now row c.args.k _ (omega arith) n (ap fact_of (c.fill_within.ensures.out_after z));
     }

@@ -25,7 +25,7 @@ module _ (c : In-Some) where
   s = to_z w64 c.loop-c.sum-bits
 
   first : c.into_iter-c-iterator.result.a.rest.now ≡ drop 2 c.args.row.now
-  first = let e : c.into_iter-c-iterator.result.a.rest.now ≡ c.iter.result.rest.now = search rules in e ∙ c.iter.ensures.rest ∙ part_from c.args.row.now 2
+  first = let e : c.into_iter-c-iterator.result.a.rest.now ≡ c.iter.result.rest.now = search rules in e ∙ c.iter.ensures.rest ∙ part_from c.args.row.now 2 48 (omega arith)
 
   second : c.into_iter-c-iterator.result.b.rest.now ≡ c.args.model.now
   second = search rules
@@ -53,7 +53,7 @@ module _ (c : In-Some) where
   x-is = let t = turn c in t.3 (pos 0)
 
   in-model : i c < 48
-  in-model = let t = turn c in omega (arith, t.1, c.requires.row_len.1)
+  in-model = let t = turn c in omega (arith, t.1, c.requires.model_len)
 
   room : 1000000000 + i c * 100000000000000000 + 1000000000 * 100000000 ≤ 8000000000000000000
   room = omega (arith, in-model)
@@ -102,6 +102,6 @@ returns c =
     let second : c.into_iter-c-iterator.result.b.rest.now ≡ model = search rules in
     let i = length c.loop-c.yielded in
     let e = zip_end (drop 2 row) model c.loop-c.yielded c.into_iter-c-iterator.result c.loop-c.c-iterator c.next.new.self c.next.result
-    (first ∙ c.iter.ensures.rest ∙ part_from row 2) second c.loop-c.yielded_by c.in-None.is c.next.ensures.steps in
-    let n : 48 ≤ i = omega (arith, e, length-drop 2 row, c.requires.row_len.0, c.requires.row_len.1) in
-    (rw (dot_done row model (i + 2) i (omega arith), +ℤ_idr) at c.loop-c.invariant.1) ∙ sym (value_row model row c.requires.row_len.0)
+    (first ∙ c.iter.ensures.rest ∙ part_from row 2 48 (omega arith)) second c.loop-c.yielded_by c.in-None.is c.next.ensures.steps in
+    let n : 48 ≤ i = omega (arith, e, length-drop 2 row, c.requires.model_len) in
+    (rw (dot_done row model (i + 2) i (omega arith), +ℤ_idr) at c.loop-c.invariant.1) ∙ sym (value_row model row (search rules))

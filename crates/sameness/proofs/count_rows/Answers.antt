@@ -36,7 +36,7 @@ test : (c : After-rows_alike) →
 test c s h =
     let args = c.args in
     let lent = c.row_at in
-    c.rows_alike.ensures s args.t h (literal_named_law c.requires.2 c.loop-k.k c.loop-k-test.true lent.result.now lent.ensures)
+    c.rows_alike.ensures s args.t h (literal_named_law c.requires.1 c.loop-k.k c.loop-k-test.true lent.result.now lent.ensures)
     ∙ ap (λ (row : List ℤ). alike (asked args.b.now s) (asked args.c.now args.t) (basic (fact_of args.row.now)) (basic (fact_of row))) lent.ensures
 
 pub loop-k-init : goal.loop-k-init
@@ -44,14 +44,14 @@ unfolding branch_of count
 loop-k-init c = (omega arith, λ s h. refl)
 
 pub row_at-requires : goal.row_at-requires
-row_at-requires c = row_there c.requires.2 c.loop-k.k c.loop-k-test.true
+row_at-requires c = row_there c.requires.1 c.loop-k.k c.loop-k-test.true
 
 pub rows_alike-requires : goal.rows_alike-requires
 rows_alike-requires c =
     let pre = c.requires in
     record {
-      row_len = (pre.0, pre.1);
-      other_len = row_lent pre.2 c.loop-k.k c.loop-k-test.true c.row_at.result.now c.row_at.ensures;
+      row_literal = pre.0;
+      other_literal = row_lent pre.1 c.loop-k.k c.loop-k-test.true c.row_at.result.now c.row_at.ensures;
     }
 
 pub loop-k-preserved : goal.loop-k-preserved

@@ -43,16 +43,16 @@ row_at-row-requires c = row_there c.requires.0 c.loop-k.k c.loop-k-test.true
 pub count_rows-requires : goal.count_rows-requires
 count_rows-requires c =
     let r = c.requires.0 in
-    let (whole, literal) = row_lent r c.loop-k.k c.loop-k-test.true c.row_at-row.result.now c.row_at-row.ensures in
-    (whole, literal, r)
+    let literal = row_lent r c.loop-k.k c.loop-k-test.true c.row_at-row.result.now c.row_at-row.ensures in
+    (literal, r)
 
 pub count_rows-requires-in-loop-k : goal.count_rows-requires-in-loop-k
 count_rows-requires-in-loop-k c =
     let pre = c.requires in
-    let (whole, literal) =
+    let literal =
     row_lent pre.0 c.loop-k.k c.loop-k-test.true c.row_at-row.result.now
     c.row_at-row.ensures in
-    (whole, literal, pre.1)
+    (literal, pre.1)
 
 pub returns-then-not-agree : goal.returns-then-not-agree
 unfolding agrees_by

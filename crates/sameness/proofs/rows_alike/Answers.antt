@@ -73,8 +73,8 @@ pub same_literals-requires : goal.same_literals-requires
 same_literals-requires c =
     let b = c.args.b.now in
     let d = c.args.c.now in (
-      subst (λ (l : ℕ). skip b l literals_from ≤ length b) (sym (named c)) c.requires.row_len.1,
-      subst (λ (l : ℕ). skip d l literals_from ≤ length d) (sym (other-named c)) c.requires.other_len.1,
+      subst (λ (l : ℕ). skip b l literals_from ≤ length b) (sym (named c)) c.requires.row_literal,
+      subst (λ (l : ℕ). skip d l literals_from ≤ length d) (sym (other-named c)) c.requires.other_literal,
     )
 
 pub returns-then-tag-eq-TAG_LITERAL : goal.returns-then-tag-eq-TAG_LITERAL

@@ -28,12 +28,6 @@ first-of-form r row e = ap (λ (l : List ℤ). get_or l 1 (pos 0)) e ∙ sym (ge
 form-length : (row : List ℤ) → length row ≡ 50 → length (drop 1 row) ≡ 49
 form-length row h = length-drop 1 row ∙ omega arith
 
-pub bounds-row_at-1 : goal.bounds-row_at-1
-bounds-row_at-1 c =
-    let few = c.requires.fact_lt_fact_limit.0 in
-    let room = c.requires.fact_lt_fact_limit.1 in
-    let l = ap length c.row_at.ensures ∙ length_row c.args.work.now c.args.fact (omega arith) in omega arith
-
 pub overflow_sub-constant : goal.overflow_sub-constant
 overflow_sub-constant c =
     let row = row_at c.args.work.now c.args.fact in

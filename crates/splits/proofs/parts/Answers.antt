@@ -1,14 +1,12 @@
 use Prim.Native.Nat.{ℕ, suc}
 use borrow.Author.Tests.{lt-leb}
 use lib.IntN.{ℤ}
-use lib.ListN.{length}
 use lib.Dec.{eqb}
 use mathlib.Core.List.{List}
 use mathlib.Core.Path.{◌∙◌, sym, ap}
 use native.Mathlib.Omega.{arith}
 use Rattle.rows.specs.Rows.{fact_of}
 use Rattle.rows.specs.Work.{tag_of}
-use Rattle.rows.proofs.Branches.{length_row}
 use Rattle.splits.proofs.Forms.{parted_beyond, parted_test}
 use Rattle.splits.proofs.parts.Goals as goal
 
@@ -16,11 +14,6 @@ pub returns-else-fact-count : goal.returns-else-fact-count
 returns-else-fact-count c =
     lt-leb (suc c.args.fact) c.args.count (omega (arith, c.if-fact-count.false))
     ∙ sym (parted_beyond c.args.work.now c.args.count c.args.fact c.if-fact-count.false)
-
-pub tag_of-requires : goal.tag_of-requires
-tag_of-requires c =
-    let few = c.requires.0 in
-    ap length c.row_at.ensures ∙ length_row c.args.work.now c.args.fact (omega arith)
 
 pub returns-then-fact-count : goal.returns-then-fact-count
 returns-then-fact-count c =

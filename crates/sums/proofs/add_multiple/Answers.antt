@@ -1,6 +1,7 @@
 use Prim.Native.Nat.{◌≤◌}
 use lib.IntN.{◌*ℤ◌, ◌+ℤ◌, nat_abs, pos, ℤ}
-use lib.ListN.{get_or, length-set}
+use lib.ListN.{get_or, length, length-set}
+use Rattle.std.proofs.Common.{rules}
 use mathlib.Core.Path.{◌∙◌, ◌≡◌, ap, refl, subst, sym}
 use mir.Facts.{to_z-of_z}
 use mir.Syntax.{w64}
@@ -31,14 +32,14 @@ module _ (c : In-loop-j) where
       c.loop-j.invariant.2
 
   hz : nat_abs z ≤ 7000000000000000000
-  hz = subst (λ (y : ℤ). nat_abs y ≤ 7000000000000000000) (sym was) (c.requires.sum_len.1 c.loop-j.j)
+  hz = subst (λ (y : ℤ). nat_abs y ≤ 7000000000000000000) (sym was) (c.requires.within c.loop-j.j)
 
   hm : nat_abs m ≤ 1000000000
   hm = c.requires.multiplier_bound
 
   hx : nat_abs x ≤ 1000000000
   hx =
-      behind_tag c.args.row.now c.loop-j.j c.requires.row_len.1
+      behind_tag c.args.row.now c.loop-j.j c.requires.row_value
       (omega arith)
 
   fz : SFits w64 z
@@ -49,7 +50,7 @@ module _ (c : In-loop-j) where
 
 pub loop-j-init : goal.loop-j-init
 loop-j-init c =
-    let n = c.requires.sum_len.0 in
+    let n : length c.args.sum.now ≡ 50 = search rules in
     (n, added_first c.args.sum.now _ c.args.row.now n, refl)
 
 pub overflow_mul-sum : goal.overflow_mul-sum
@@ -65,8 +66,8 @@ pub loop-j-preserved : goal.loop-j-preserved
 loop-j-preserved c =
     let here = (goal.at.loop-j-preserved c).In-loop-j in
     let l = c.loop-j in
-    let n = c.requires.sum_len.0 in
-    let k = length_added c.args.sum.now (to_z w64 (of_z w64 c.args.multiplier)) c.args.row.now n c.requires.row_len.0 in
+    let n : length c.args.sum.now ≡ 50 = search rules in
+    let k = length_added c.args.sum.now (to_z w64 (of_z w64 c.args.multiplier)) c.args.row.now n (search rules) in
     let new = ap (λ (y : ℤ). to_z w64 (of_z w64 (y +ℤ to_z w64 (of_z w64 (to_z w64 (of_z w64 (m here)) *ℤ to_z w64 (of_z w64 (x here))))))) (to_z-of_z (fz here))
     ∙ step_is (z here) (m here) (x here) _ _ _ (hz here) (hm here) (hx here) c.ranges.multiplier (fx here) (omega arith) in (
       simp length-set l.invariant.0,
@@ -78,13 +79,10 @@ loop-j-preserved c =
       kept_more l.sum c.args.sum.now l.j _ l.invariant.2,
     )
 
-pub shape_of-sum : goal.shape_of-sum
-shape_of-sum c = c.loop-j.invariant.0 ∙ sym c.requires.sum_len.0
-
 pub returns : goal.returns
 returns c =
     let l = c.loop-j in
-    let n = c.requires.sum_len.0 in
-    let k = length_added c.args.sum.now (to_z w64 (of_z w64 c.args.multiplier)) c.args.row.now n c.requires.row_len.0 in
+    let n : length c.args.sum.now ≡ 50 = search rules in
+    let k = length_added c.args.sum.now (to_z w64 (of_z w64 c.args.multiplier)) c.args.row.now n (search rules) in
     filled_all l.sum _ l.j (omega arith) (omega arith) l.invariant.1
     ∙ ap (λ (y : ℤ). added c.args.sum.now y c.args.row.now) (to_z-of_z c.ranges.multiplier)

@@ -51,12 +51,6 @@ returns-then-count-fact c =
 pub row_at-requires : goal.row_at-requires
 row_at-requires c = (omega (arith, c.requires.fine.few), omega (arith, c.requires.fine.few, c.requires.fine.room))
 
-pub tag_of-tag-requires : goal.tag_of-tag-requires
-tag_of-tag-requires c =
-    ap length c.row_at.ensures
-    ∙ length_row (w (goal.at.tag_of-tag-requires c).After-u16_at-fact) c.u16_at-fact.result
-    (omega (arith, c.requires.fine.few, c.requires.fine.room, c.if-count-fact.false))
-
 pub returns-then-tag-ne-TAG_EQ : goal.returns-then-tag-ne-TAG_EQ
 returns-then-tag-ne-TAG_EQ c =
     let here = (goal.at.returns-then-tag-ne-TAG_EQ c).After-u16_at-fact in

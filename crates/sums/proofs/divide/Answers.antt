@@ -92,7 +92,7 @@ module _ (c : After-loop-j) where
 
   exit-constant : get_or c.loop-j.row 1 (pos 0) ≡ get_or c.args.row.now 1 (pos 0)
   exit-constant =
-      ap (λ (l : List ℤ). get_or l 1 (pos 0)) exit ∙ partly_constant c.args.row.now (n (goal.at.After-loop-j c).Start) c.requires.1
+      ap (λ (l : List ℤ). get_or l 1 (pos 0)) exit ∙ partly_constant c.args.row.now (n (goal.at.After-loop-j c).Start) (search rules)
 
 pub loop-j-init : goal.loop-j-init
 loop-j-init c = (changing_first 2 (λ x. floor_div x (n c)) c.args.row.now (omega arith), refl)
@@ -102,9 +102,6 @@ nonzero_div-q c = div_need w64 (x c) c.args.d (fx c) c.ranges.d c.requires.0
 
 pub overflow_mul-q : goal.overflow_mul-q
 overflow_mul-q c = rw (back c) (fb c)
-
-pub shape_of-row-then-q-d : goal.shape_of-row-then-q-d
-shape_of-row-then-q-d c = c.loop-j.invariant.0.2
 
 pub returns-then-q-d : goal.returns-then-q-d
 unfolding row_in
@@ -128,7 +125,7 @@ returns-then-q-d c =
     ∙ eq_integers_fails (multiples (row here) (k here))
     (row here) l.j (omega arith) (omega arith) e in
     sym (ap (λ (d : ℤ). ge_row (divided (nat_abs d) (drop 1 (row here)))) (sym (plain (goal.at.returns-then-q-d c).Start))
-    ∙ ap ge_row (divided_no (row here) (k here) c.requires.1 f))
+    ∙ ap ge_row (divided_no (row here) (k here) (search rules) f))
 
 pub loop-j-preserved : goal.loop-j-preserved
 loop-j-preserved c =
@@ -155,9 +152,6 @@ loop-j-preserved c =
 pub floor_div-requires : goal.floor_div-requires
 floor_div-requires c = rw (to_z-of_z c.ranges.d) c.requires.0
 
-pub shape_of-row : goal.shape_of-row
-shape_of-row c = simp length-set c.loop-j.invariant.0.2
-
 pub returns : goal.returns
 unfolding row_in
 returns c =
@@ -173,6 +167,6 @@ returns c =
     let q : to_z w64 (of_z w64 c.floor_div.result) ≡ floor_div (get_or row 1 (pos 0)) m =
     to_z-of_z fq ∙ c.floor_div.ensures ∙ ap (λ (z : ℤ). floor_div z m) (to_z-of_z fc ∙ exit-constant (goal.at.returns c).After-loop-j) in
     ap (λ (r : List ℤ). some (set r 1 (to_z w64 (of_z w64 c.floor_div.result)))) (exit (goal.at.returns c).After-loop-j)
-    ∙ ap some (partly_whole row m _ c.requires.1 c.requires.2 q)
+    ∙ ap some (partly_whole row m _ (search rules) c.requires.1 q)
     ∙ sym (ap (λ (d : ℤ). ge_row (divided (nat_abs d) (drop 1 row))) (sym (plain here))
-    ∙ ap ge_row (divided_yes row m (bound here) c.requires.1 f))
+    ∙ ap ge_row (divided_yes row m (bound here) (search rules) f))

@@ -1,8 +1,9 @@
 use borrow.Author.Tests.{eq-eqb}
 use lib.IntN.{nat_abs, pos, ℤ}
-use lib.ListN.{drop, length-drop}
+use lib.ListN.{drop, length, length-drop}
 use mathlib.Core.List.{List}
 use mathlib.Core.Option.{some}
+use Rattle.std.proofs.Common.{rules}
 use mathlib.Core.Path.{◌∙◌, ◌≡◌, ap, sym}
 use mir.Facts.{to_z-of_z}
 use native.Mathlib.Omega.{arith}
@@ -16,10 +17,11 @@ pub returns-then-d-eq1 : goal.returns-then-d-eq1
 unfolding row_in
 returns-then-d-eq1 c =
     let row : List ℤ = c.args.row.now in
+    let n : length row ≡ 50 = search rules in
     let d : c.args.d ≡ pos 1 = from_bits c.args.d 1 c.ranges.d c.if-d-eq1.true (omega arith) in
-    let whole : divided 1 (drop 1 row) ≡ some (drop 1 row) = divided_one (drop 1 row) (omega (arith, length-drop 1 row, c.requires.1)) in
+    let whole : divided 1 (drop 1 row) ≡ some (drop 1 row) = divided_one (drop 1 row) (omega (arith, length-drop 1 row)) in
     rw (eq-eqb _ _ c.if-d-eq1.true)
-    (ap some (tag_first row (pos 0) c.requires.1 c.requires.2) ∙ sym (ap (λ (z : ℤ). ge_row (divided (nat_abs z) (drop 1 row))) d ∙ ap ge_row whole))
+    (ap some (tag_first row (pos 0) n c.requires.1) ∙ sym (ap (λ (z : ℤ). ge_row (divided (nat_abs z) (drop 1 row))) d ∙ ap ge_row whole))
 
 pub returns-else-d-eq1 : goal.returns-else-d-eq1
 returns-else-d-eq1 c =

@@ -106,11 +106,6 @@ loop-i-init c =
     subst (λ (l : List ℤ). Summing c.args.work.now c.args.count c.args.b.now c.args.at c.args.pairs l 0) (sym c.requires.sum_value)
     (summing_start c.args.work.now c.args.count c.args.b.now c.args.at c.args.pairs c.requires.pairs_value)
 
-pub shape_of-sum-then-fact-count : goal.shape_of-sum-then-fact-count
-shape_of-sum-then-fact-count c =
-    let pre = c.requires in
-    c.loop-i.invariant.long ∙ sym (ap length pre.sum_value)
-
 pub returns-then-fact-count : goal.returns-then-fact-count
 unfolding row_in
 returns-then-fact-count c =
@@ -128,15 +123,6 @@ row_at-row-requires c =
     let few = c.requires.fine.few in
     let room = c.requires.fine.room in
     (omega arith, omega arith)
-
-pub takes-requires : goal.takes-requires
-takes-requires c = ap length (row_is c) ∙ long c
-
-pub shape_of-sum-then-not-takes : goal.shape_of-sum-then-not-takes
-shape_of-sum-then-not-takes c =
-    let loop = c.loop-i in
-    let pre = c.requires in
-    loop.invariant.long ∙ sym (ap length pre.sum_value)
 
 pub returns-then-not-takes : goal.returns-then-not-takes
 unfolding row_in
@@ -158,20 +144,18 @@ add_multiple-requires c =
     let pre = c.requires in
     let s = loop.invariant in
     let h : c.loop-i.i < c.args.pairs = omega arith in record {
-      row_len = (
-        ap length (row_is after_row_at_row) ∙ long after_row_at_row,
+      row_value =
         ap (λ (r : List ℤ). all_within number_limit (drop 1 r)) (row_is after_row_at_row)
             ∙ row_small (w after_i32_at_multiplier) (count after_i32_at_multiplier)
             (b after_i32_at_multiplier) (at' after_i32_at_multiplier)
             (n after_i32_at_multiplier) loop.sum (i after_i32_at_multiplier) s h
-            (on_branch after_row_at_row) pre.fine (passed (goal.at.add_multiple-requires c).Else-not-takes),
-      );
+            (on_branch after_row_at_row) pre.fine (passed (goal.at.add_multiple-requires c).Else-not-takes);
       multiplier_bound =
           subst (λ (m : ℤ). nat_abs m ≤ 1000000000) (sym (multiplier-is after_i32_at_multiplier))
           (multiplier_small (w after_i32_at_multiplier) (count after_i32_at_multiplier)
           (b after_i32_at_multiplier) (at' after_i32_at_multiplier)
           (n after_i32_at_multiplier) loop.sum (i after_i32_at_multiplier) s h);
-      sum_len = (s.long, λ j. let k = s.small j in let few = pre.le_pairs.1 in le_trans k (omega arith));
+      within = λ j. let k = s.small j in let few = pre.le_pairs.1 in le_trans k (omega arith);
     }
 
 pub loop-i-preserved : goal.loop-i-preserved
@@ -197,9 +181,6 @@ loop-i-preserved c =
     (n after_i32_at_multiplier) loop.sum (i after_i32_at_multiplier) s h
     (on_branch after_row_at_row) pre.fine (passed (goal.at.loop-i-preserved c).Else-not-takes)
     (long after_row_at_row))
-
-pub shape_of-sum : goal.shape_of-sum
-shape_of-sum c = c.loop-i.invariant.long ∙ sym (ap length c.requires.sum_value)
 
 pub returns : goal.returns
 unfolding row_in

@@ -45,7 +45,7 @@ module _ (c : After-sum_of) where
   row = c.sum_of.new.sum
 
   long : length row ≡ 50
-  long = c.sum_of.auto.sum ∙ ap length c.requires.row_value
+  long = search rules
 
 summed : (c : Else-not-sum_of) →
     (sum_of (branch (goal.at.Else-not-sum_of c).Start) (summands (goal.at.Else-not-sum_of c).Start)
@@ -79,7 +79,7 @@ module _ (c : After-divide_by) where
       (summed (goal.at.After-divide_by c).Else-not-sum_of).0
 
   long-divided : length c.divide_by.new.row ≡ 50
-  long-divided = c.divide_by.auto.row ∙ long (goal.at.After-divide_by c).After-sum_of
+  long-divided = search rules
 
   divided-is : divided (nat_abs (to_z w64 (d (goal.at.After-divide_by c).Start))) (drop 1 (row (goal.at.After-divide_by c).After-sum_of))
       ≡ divided (d (goal.at.After-divide_by c).Start) (drop 1 (row (goal.at.After-divide_by c).After-sum_of))
@@ -96,14 +96,14 @@ returns-then-not-sum_of c =
 pub sum_tag-tag-requires : goal.sum_tag-tag-requires
 sum_tag-tag-requires c =
     record {
-      pos_bound = (positive (goal.at.sum_tag-tag-requires c).Start, long (goal.at.sum_tag-tag-requires c).After-sum_of);
+      pos_bound = positive (goal.at.sum_tag-tag-requires c).Start;
       pairs_in_bounds = c.requires.le_pairs.2;
       fine = c.requires.fine;
     }
 
 pub divide_by-requires : goal.divide_by-requires
 divide_by-requires c =
-    (positive (goal.at.divide_by-requires c).Start, long (goal.at.divide_by-requires c).After-sum_of, (summed (goal.at.divide_by-requires c).Else-not-sum_of).1)
+    (positive (goal.at.divide_by-requires c).Start, (summed (goal.at.divide_by-requires c).Else-not-sum_of).1)
 
 pub returns-then-not-divide_by : goal.returns-then-not-divide_by
 unfolding fact_in
@@ -113,12 +113,6 @@ returns-then-not-divide_by c =
     sym (none_divided (branch here) (d here)
     (summands here) (drop 1 (row (goal.at.returns-then-not-divide_by c).After-sum_of))
     (fitted (goal.at.returns-then-not-divide_by c).After-divide_by) (sym (divided-is (goal.at.returns-then-not-divide_by c).After-divide_by) ∙ e))
-
-pub bounds-row-0 : goal.bounds-row-0
-bounds-row-0 c = search (rules, long-divided (goal.at.bounds-row-0 c).After-divide_by)
-
-pub shape_of-row : goal.shape_of-row
-shape_of-row c = simp length-set (c.divide_by.auto.row ∙ c.sum_of.auto.sum)
 
 pub returns : goal.returns
 unfolding fact_in
