@@ -8,7 +8,7 @@ use mathlib.Core.List.{List, [], ◌∷◌, ◌++◌, append-nil, map, map-appen
 use borrow.Rule.Slice.PartMut.{put_mid, drop_put}
 use borrow.Author.Tests.{le-leb, lt-leb}
 use lib.ListN.{length, get_or, drop, set, drop_of_length-le}
-use lib.Seq.{drop-drop}
+use lib.Seq.{drop-drop, take_all}
 use lib.Dec.{leb}
 use lib.IntN.{ℤ, pos, negsuc, nat_abs}
 use lib.Signed.{non_neg}
@@ -36,6 +36,10 @@ use Rattle.rows.proofs.Tags.{row_relation, row_string, tag_kept, index_of}
 pub form_put_back : (row l : List ℤ) → length row ≡ row_length → put_mid 1 (length row - 1) row l ≡ get_or row 0 (pos 0) ∷ l
 form_put_back [] l h = absurd (omega arith)
 form_put_back (x ∷ row) l h = ap (λ (rest : List ℤ). x ∷ (l ++ rest)) (drop_of_length-le row (omega arith)) ∙ ap (λ (m : List ℤ). x ∷ m) (append-nil l)
+
+-- a row lent alone is row 0 of the slice
+pub row_alone : (row r : List ℤ) → length row ≡ row_length → r ≡ row_at row 0 → r ≡ row
+row_alone row r n e = e ∙ take_all row_length row (omega arith)
 
 -- ---- the divisor
 

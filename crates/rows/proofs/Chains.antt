@@ -1,5 +1,5 @@
 -- What a chain over the numbers of a row gives, as the definitions have it.
-use Prim.Native.Nat.{ℕ, zero, suc, ◌+◌, ◌-◌, ◌<◌, ◌≤◌}
+use Prim.Native.Nat.{ℕ, zero, suc, ◌+◌, ◌<◌, ◌≤◌}
 use Rattle.std.specs.Prelude.{Option, Some, None, MatchOption}
 use native.Mathlib.Nat.{zero-add}
 use native.Mathlib.Numerals.{add-one}

@@ -363,7 +363,12 @@ fn same_by(row: &[i64; ROW_LENGTH], other: &[i64; ROW_LENGTH], column: usize) ->
 }
 
 // Is a row one of two, which mostly differ from it in a column?
-fn one_of(row: &[i64; ROW_LENGTH], one: &[i64; ROW_LENGTH], other: &[i64; ROW_LENGTH], column: usize) -> bool
+fn one_of(
+    row: &[i64; ROW_LENGTH],
+    one: &[i64; ROW_LENGTH],
+    other: &[i64; ROW_LENGTH],
+    column: usize,
+) -> bool
     requires { column < column_limit }
     ensures { result ≡ (eq_integers one.now row.now || eq_integers other.now row.now) }
 {

@@ -40,7 +40,14 @@ fn add_multiple(sum: &mut [i64; ROW_LENGTH], row: &[i64; ROW_LENGTH], multiplier
 }
 
 // The sum of the pairs (fact, multiplier), added to a row of zeros, and whether they fit.
-fn sum_of(sum: &mut [i64; ROW_LENGTH], b: &[u8], at: usize, pairs: usize, work: &[i64], count: usize) -> bool
+fn sum_of(
+    sum: &mut [i64; ROW_LENGTH],
+    b: &[u8],
+    at: usize,
+    pairs: usize,
+    work: &[i64],
+    count: usize,
+) -> bool
     requires sum_value { sum.old ≡ zeros row_length }
     requires le_pairs { (1 ≤ pairs) × (pairs ≤ summand_limit) × (at + 6 * pairs ≤ length b.now) }
     requires pairs_value { multipliers_within (pairs_at b.now at pairs) ≡ true }

@@ -6,7 +6,7 @@ use native.Mathlib.Omega.{arith}
 use Rattle.calculus.specs.Limits.{variable_limit}
 use Rattle.calculus.specs.NormalForms.{normal}
 use Rattle.format.specs.Question.{string_fact}
-use Rattle.normal.proofs.Laws.{lower_first, lower_second, operands_put}
+use Rattle.normal.proofs.Laws.{lower_first, lower_second, operands_put, row_alone}
 use Rattle.rows.proofs.Tags.{row_string}
 use Rattle.rows.specs.Rows.{fact_of}
 use Rattle.normal.proofs.order_operands.Goals as goal
@@ -19,8 +19,10 @@ module _ (c : After-variable_at-y) where
 
   stated : fact_of c.args.row.now ≡ string_fact (c.args.tag - 3) c.variable_at-x.result c.variable_at-y.result
   stated =
+      let first = row_alone c.args.row.now c.row_at.result.now c.requires.0 c.row_at.ensures in
+      let second = row_alone c.args.row.now c.row_at-2.result.now c.requires.0 c.row_at-2.ensures in
       row_string c.args.row.now c.args.tag c.requires.1 c.requires.2
-      ∙ ap₂ (string_fact (c.args.tag - 3)) (sym c.variable_at-x.ensures.value) (sym c.variable_at-y.ensures.value)
+      ∙ ap₂ (string_fact (c.args.tag - 3)) (sym (rw first at c.variable_at-x.ensures.value)) (sym (rw second at c.variable_at-y.ensures.value))
 
 pub returns-then-y-x : goal.returns-then-y-x
 returns-then-y-x c =

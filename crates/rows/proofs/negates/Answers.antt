@@ -1,4 +1,4 @@
-use Prim.Native.Nat.{◌+◌, ◌-◌, ◌<◌, ◌≤◌, ℕ}
+use Prim.Native.Nat.{◌+◌, ◌<◌, ◌≤◌, ℕ}
 use lib.IntN.{◌-ℤ◌, nat_abs, negsuc, pos, ℤ}
 use lib.ListN.{drop, get_or, length, length-drop, take}
 use lib.Seq.{get_or-drop}

@@ -1,11 +1,9 @@
 use Prim.Native.Nat.{◌*◌, ◌+◌, ◌<◌, ◌≤◌, ℕ}
 use lib.IntN.{ℤ}
-use lib.ListN.{length}
 use mathlib.Core.List.{List}
 use mathlib.Core.Path.{◌∙◌, ◌≡◌, ap, subst, sym}
 use native.Mathlib.Omega.{arith}
 use Rattle.format.specs.Fields.{u16}
-use Rattle.rows.proofs.Branches.{length_row}
 use Rattle.rows.specs.Rows.{fact_of, row_at}
 use Rattle.rows.specs.Work.{tag_of}
 use Rattle.sums.proofs.Equations.{equations_absent, equations_all, equations_done, equations_no, equations_yes}

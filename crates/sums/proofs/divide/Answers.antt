@@ -1,7 +1,7 @@
 use Prim.Native.Nat.{◌≤◌, ℕ}
 use Rattle.std.proofs.Common.{rules, tests}
 use lib.IntN.{◌*ℤ◌, nat_abs, pos, ℤ}
-use lib.ListN.{drop, get_or, length-set, set}
+use lib.ListN.{drop, get_or, set}
 use lib.Signed.{quot_z}
 use mathlib.Core.Bool.{false, true}
 use mathlib.Core.List.{List}

@@ -145,11 +145,11 @@ add_multiple-requires c =
     let s = loop.invariant in
     let h : c.loop-i.i < c.args.pairs = omega arith in record {
       row_value =
-        ap (λ (r : List ℤ). all_within number_limit (drop 1 r)) (row_is after_row_at_row)
-            ∙ row_small (w after_i32_at_multiplier) (count after_i32_at_multiplier)
-            (b after_i32_at_multiplier) (at' after_i32_at_multiplier)
-            (n after_i32_at_multiplier) loop.sum (i after_i32_at_multiplier) s h
-            (on_branch after_row_at_row) pre.fine (passed (goal.at.add_multiple-requires c).Else-not-takes);
+          ap (λ (r : List ℤ). all_within number_limit (drop 1 r)) (row_is after_row_at_row)
+          ∙ row_small (w after_i32_at_multiplier) (count after_i32_at_multiplier)
+          (b after_i32_at_multiplier) (at' after_i32_at_multiplier)
+          (n after_i32_at_multiplier) loop.sum (i after_i32_at_multiplier) s h
+          (on_branch after_row_at_row) pre.fine (passed (goal.at.add_multiple-requires c).Else-not-takes);
       multiplier_bound =
           subst (λ (m : ℤ). nat_abs m ≤ 1000000000) (sym (multiplier-is after_i32_at_multiplier))
           (multiplier_small (w after_i32_at_multiplier) (count after_i32_at_multiplier)

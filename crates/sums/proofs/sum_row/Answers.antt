@@ -2,7 +2,7 @@ use Prim.Native.Nat.{ℕ}
 use borrow.Author.Rules.{rules}
 use borrow.Author.Tests.{not-false, not-true}
 use lib.IntN.{nat_abs, pos, ℤ}
-use lib.ListN.{drop, get_or, length, length-set, set}
+use lib.ListN.{drop, get_or, length, set}
 use lib.Signed.{◌≤ℤ◌}
 use mathlib.Core.List.{List}
 use mathlib.Core.Option.{some}
