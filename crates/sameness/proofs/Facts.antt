@@ -28,7 +28,7 @@ use Rattle.question.specs.declared.Progress.{Progress}
 use Rattle.question.specs.Posed.{asked}
 use Rattle.rows.specs.Rows.{row_length, index, fact_of, row_at, branch_of}
 use Rattle.rows.specs.Work.{tag_of}
-use Rattle.rows.proofs.Branches.{branch_more, branch_at, length_row}
+use Rattle.rows.proofs.Branches.{branch_more, branch_at}
 use Rattle.rows.proofs.Tags.{row_relation, row_string}
 use Rattle.sameness.specs.Ready.{literal_named, LiteralIn, Ready, facts_in}
 
