@@ -94,8 +94,6 @@ def twins(texts):
             yield path, line, f"{name}, as {group[0][2]}"
 
 
-FAULTS = re.compile(r"\breturn (?:[2-9]|1[0-6]);|\b(?:[2-9]|1[0-6])\n")
-
 KINDS = {
     "1 enums of the shape of Option or Result": enums,
     "1 functions that answer the number of a refusal": heads_with(lambda head, body: head.endswith("-> usize") and bool(re.search(r"\w*fault\w*\(|fn (?:conclude|sum|s_prop|of_literal|join)\(", head))),
@@ -109,10 +107,11 @@ KINDS = {
     "5 a row's length in a clause": lines_with(r"length \w+\.(?:now|old) ≡ row_length"),
     "5 ticket and numbers of the question travel together": heads_with(lambda head, body: "&[u8]" in head and ": Progress" in head),
     "5 work area and count of facts travel together": heads_with(lambda head, body: re.search(r"work: &(?:mut )?\[i64\]", head) and "count: usize" in head),
+    "5 the number of labels in a clause": lines_with(r"length labels\.now ≡ node_count"),
     "5 rule, body and size travel together": heads_with(lambda head, body: "rule: Rule" in head and "size: usize" in head),
     "6 slices that run beside one another": heads_with(lambda head, body: bool(re.search(r"marks: &|sizes: &", head))),
     "6 a buffer and the place to write at": heads_with(lambda head, body: bool(re.search(r"(?:out|buffer): &mut \[u8\]", head)) and "at: usize" in head),
-    "7 matches over all rules": lines_with(r"^\s*match rule"),
+    "7 matches over all rules": lines_with(r"^\s*match (?:step\.)?rule\b"),
     "7 a flag that picks a step": lines_with(r"\b\w+: bool\b"),
 }
 
