@@ -1,7 +1,6 @@
 use Prim.Native.Nat.{ℕ}
 use mathlib.Core.Path.{◌∙◌, ap}
 use Rattle.std.specs.Prelude.{Ok}
-use Rattle.nuldwich.specs.declared.Reply.{Reply}
 use Rattle.nuldwich.proofs.Numbered.{replied}
 use Rattle.nuldwich.proofs.ReplyFromResultVerdictRefusal.from.Goals as goal
 
