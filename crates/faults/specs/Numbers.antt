@@ -1,7 +1,8 @@
 -- The numbers of document 01's table of refusals, by the names that the code gives them.
 use Rattle.std.specs.Prelude.{ℕ, Result, Ok, Err}
 use Rattle.faults.specs.declared.Fault.{Fault}
-use Rattle.faults.specs.declared.Fault.TheVariants.{SmallBuffer, LongTicket, CutShort, OutOfPlace, NoForm, OutOfRange, Repeats, DoesNotFit, PassesLimit, NoRoom, EndsEarly, BreaksFact, NotSettled, LongString, AnswerForm, AnswerRange}
+use Rattle.faults.specs.declared.Fault.TheVariants.{SmallBuffer, LongTicket, CutShort, OutOfPlace, NoForm, OutOfRange, Repeats, DoesNotFit}
+use Rattle.faults.specs.declared.Fault.TheVariants.{PassesLimit, NoRoom, EndsEarly, BreaksFact, NotSettled, LongString, AnswerForm, AnswerRange}
 
 abbrev pub number : Fault → ℕ
 number SmallBuffer = 1

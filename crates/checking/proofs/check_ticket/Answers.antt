@@ -11,7 +11,8 @@ returns-then-work-lt-WORK_NUMBERS c =
     let s = c.args in
     elim c.then-work-lt-WORK_NUMBERS.branch [
       | then-work-lt-WORK_NUMBERS-via-then-work-lt-WORK_NUMBERS w ↦ small_work s.ticket.now s.work.now s.answer.now c.at.result c.at.ensures w.if-work-lt-WORK_NUMBERS.true
-      | then-work-lt-WORK_NUMBERS-via-else-work-lt-WORK_NUMBERS+then-answer-lt-ANSWER_BYTES w ↦ small_answer s.ticket.now s.work.now s.answer.now c.at.result c.at.ensures w.if-work-lt-WORK_NUMBERS.false w.if-answer-lt-ANSWER_BYTES.true
+      | then-work-lt-WORK_NUMBERS-via-else-work-lt-WORK_NUMBERS+then-answer-lt-ANSWER_BYTES w ↦ small_answer s.ticket.now s.work.now s.answer.now c.at.result c.at.ensures
+          w.if-work-lt-WORK_NUMBERS.false w.if-answer-lt-ANSWER_BYTES.true
     ]
 
 pub returns : goal.returns

@@ -41,8 +41,11 @@ bytes l = l.args.ticket.now
 -- ---- the start
 pub loop-kind-init : goal.loop-kind-init
 loop-kind-init c =
-    let a = c.args in
-    (subst (λ ss. Going a.ticket.now a.s a.claim (need_started a.claim a.ticket.now a.s a.r a.from) ss (record { steps = 0; facts = 0; pending = 0 }) a.s.constraints a.from a.r) (sym c.new-pending.ensures) (starts a.ticket.now a.s a.claim a.from a.r c.requires), omega arith)
+    let a = c.args in (
+      subst (λ ss. Going a.ticket.now a.s a.claim (need_started a.claim a.ticket.now a.s a.r a.from) ss (record { steps = 0; facts = 0; pending = 0 })
+          a.s.constraints a.from a.r) (sym c.new-pending.ensures) (starts a.ticket.now a.s a.claim a.from a.r c.requires),
+      omega arith,
+    )
 
 -- the state is met
 met : (c : After-with_state-report) →
@@ -62,7 +65,8 @@ pub returns-then-ends_steps : goal.returns-then-ends_steps
 returns-then-ends_steps c =
     let a = c.args in
     let r = whole (goal.at.returns-then-ends_steps c).In-Whole in
-    going_model (bytes (goal.at.returns-then-ends_steps c).At-loop-kind) a.s c.loop-kind.invariant.0 c.with_state-report.result (met (goal.at.returns-then-ends_steps c).After-with_state-report) a.from a.r _ c.requires
+    going_model (bytes (goal.at.returns-then-ends_steps c).At-loop-kind) a.s c.loop-kind.invariant.0 c.with_state-report.result
+    (met (goal.at.returns-then-ends_steps c).After-with_state-report) a.from a.r _ c.requires
     c.loop-kind.invariant.1
     (sym c.ends_steps.ensures ∙ c.if-ends_steps.true) r.0 (all_there (bytes (goal.at.returns-then-ends_steps c).At-loop-kind) c.loop-kind.at _ _ r)
 

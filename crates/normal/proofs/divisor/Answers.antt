@@ -25,6 +25,7 @@ returns c =
     (λ ys a x b q j k.
     let e : b ≡ gcd (nat_abs x.now) a = search (rules, tests) in
     (e ∙ ap (gcd (nat_abs x.now)) j ∙ ap divisor_of (sym (reverse-append ys (x.now ∷ []))), search (rules, tests)))
-    c.rev.result (reverse (drop 1 row)) 0 c.fold.result (YieldsList-from_rev_slice {s = c.rev.result} (drop 1 row) (source ∙ c.iter.ensures.rest ∙ part_from row 1 (length row - 1) (omega arith))).runs refl c.fold.ensures.ran
+    c.rev.result (reverse (drop 1 row)) 0 c.fold.result (YieldsList-from_rev_slice {s = c.rev.result} (drop 1 row)
+    (source ∙ c.iter.ensures.rest ∙ part_from row 1 (length row - 1) (omega arith))).runs refl c.fold.ensures.ran
     ∙ ap divisor_of (reverse-reverse (drop 1 row)) in
     (e, rw e (divisor_small (drop 1 row) c.requires.1))

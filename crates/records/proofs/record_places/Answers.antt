@@ -55,4 +55,5 @@ returns c =
     let l = c.loop-x in
     let s = c.args in
     let e : l.x ≡ s.count = omega arith in
-    λ k h. placed_more l.places l.at (λ (j : ℕ). skip s.b.now j s.from) s.count l.invariant.2 (omega arith) (l.invariant.1 ∙ ap (λ j. skip s.b.now j s.from) e) (λ j g. l.invariant.3 j (omega arith)) k (omega arith)
+    λ k h. placed_more l.places l.at (λ (j : ℕ). skip s.b.now j s.from) s.count l.invariant.2 (omega arith) (l.invariant.1 ∙ ap (λ j. skip s.b.now j s.from) e)
+    (λ j g. l.invariant.3 j (omega arith)) k (omega arith)

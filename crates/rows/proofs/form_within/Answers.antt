@@ -10,5 +10,6 @@ use Rattle.rows.proofs.form_within.Goals as goal
 pub returns : goal.returns
 unfolding all_within
 returns c =
-    all_from_yields_List (within number_limit) _ _ _ c.all.ensures.ran (YieldsList-from_slice (drop 1 c.args.row.now) (c.iter.ensures.rest ∙ part_from c.args.row.now 1 49 (omega arith))) (λ x b q k. search (rules, tests))
+    all_from_yields_List (within number_limit) _ _ _ c.all.ensures.ran (YieldsList-from_slice (drop 1 c.args.row.now) (c.iter.ensures.rest ∙ part_from c.args.row.now 1 49 (omega arith)))
+    (λ x b q k. search (rules, tests))
     ∙ list_all_is (within number_limit) (drop 1 c.args.row.now)

@@ -32,7 +32,8 @@ module _ (c : In-Some) where
 
   turn : (i < length (drop 2 c.args.row.now)) × (i < length c.args.model.now)
       × ((d : ℤ) → c.in-Some.c.now ≡ get_or (drop 2 c.args.row.now) i d) × ((d : ℤ) → c.in-Some.x.now ≡ get_or c.args.model.now i d)
-  turn = zip_turn (drop 2 c.args.row.now) c.args.model.now c.loop-c.yielded c.into_iter-c-iterator.result c.loop-c.c-iterator c.next.new.self c.next.result first second c.loop-c.yielded_by (c.in-Some.c, c.in-Some.x) c.in-Some.is c.next.ensures.steps
+  turn = zip_turn (drop 2 c.args.row.now) c.args.model.now c.loop-c.yielded c.into_iter-c-iterator.result c.loop-c.c-iterator c.next.new.self c.next.result first second
+      c.loop-c.yielded_by (c.in-Some.c, c.in-Some.x) c.in-Some.is c.next.ensures.steps
 
 pub loop-c-init : goal.loop-c-init
 loop-c-init c =

@@ -42,7 +42,8 @@ returns-then-has_room c =
 pub returns-then-count-le1 : goal.returns-then-count-le1
 returns-then-count-le1 c =
     let s = c.args in
-    le-leb _ 1 c.if-count-le1.true ∙ sym (card_few (numbered s.self.now.s) s.self.now.labels.now s.self.now.model.now s.x c.classes_of-count.result (count_is (goal.at.returns-then-count-le1 c).After-classes_of-count) c.if-count-le1.true)
+    le-leb _ 1 c.if-count-le1.true ∙ sym (card_few (numbered s.self.now.s) s.self.now.labels.now s.self.now.model.now s.x
+    c.classes_of-count.result (count_is (goal.at.returns-then-count-le1 c).After-classes_of-count) c.if-count-le1.true)
 
 pub returns-else-count-le1 : goal.returns-else-count-le1
 returns-else-count-le1 c =

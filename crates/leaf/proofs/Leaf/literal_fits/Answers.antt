@@ -27,7 +27,8 @@ found-is c =
 
 pub placed_text-text-requires : goal.placed_text-text-requires
 placed_text-text-requires c =
-    let p = literal_placed c.args.self.now.ticket.now c.args.self.now.s c.args.self.now.labels.now c.args.x c.in-Some.l (found-is (goal.at.placed_text-text-requires c).In-Some) c.requires.0.posed c.requires.0.literals in
+    let p = literal_placed c.args.self.now.ticket.now c.args.self.now.s c.args.self.now.labels.now c.args.x c.in-Some.l
+    (found-is (goal.at.placed_text-text-requires c).In-Some) c.requires.0.posed c.requires.0.literals in
     record { literals_from_in_bounds = p.0; placed = p.1 }
 
 pub fits_text-requires : goal.fits_text-requires
