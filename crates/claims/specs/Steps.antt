@@ -31,7 +31,7 @@ use Rattle.claims.specs.Outcomes.{outcome_from}
 
 -- ---- sets, which are kept under claim 1 alone
 
--- at first each constraint rests on itself, in the first rows of the work area and in the array v, and nothing is gathered
+-- at first each constraint rests on itself, in the first rows of the work area and in the slice v, and nothing is gathered
 unfoldable pub FirstGrounds : Claim → List ℤ → List Words → ℕ → Grounds → Type 0
 FirstGrounds NoSolution w v constraints g =
     let r : Rested = rooted_from 0 (branch_of w constraints) in

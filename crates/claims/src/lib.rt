@@ -6,7 +6,7 @@ ghost use Rattle.calculus.specs.Classes.{labels};
 ghost use Rattle.rows.specs.Rows.{branch_of};
 ghost use Rattle.rows.specs.Work.{Fine};
 ghost use Rattle.question.specs.Posed.{Posed};
-ghost use Rattle.cores.specs.Sets.{Filled};
+ghost use Rattle.cores.specs.Sets.{Roomy, Filled};
 ghost use Rattle.delimiters.specs.declared.Claim.TheVariants.{NoSolution};
 ghost use Rattle.calculus.specs.Limits.{fact_limit};
 ghost use Rattle.claims.specs.Outcomes.{first_upto, Loaded, walk_from, walked_of, LeafAt, CoreAt};
@@ -16,12 +16,11 @@ ghost use Rattle.derivation.specs.Actions.{ReadyUnder};
 use branch::Branch;
 use classes::{Known, bring_up, nothing_known, set_back};
 use conclusions::classes_for;
-use cores::{Unions, Words, fill_sets, no_constraint, no_unions, root_sets, step_set};
+use cores::{Unions, Words, fill_sets, no_constraint, no_unions, root_sets, set_at, step_set};
 use delimiters::{Claim, ends_steps};
 use derivation::{Action, next_child, take_step};
 use encoding::RECORD_HEAD;
 use faults::{Fault, Refusal};
-use limits::FACT_LIMIT;
 use question::Progress;
 use records::{Found, read_at, u16_at};
 use steps::{Rule, Step, record_fault, rule_of};
@@ -51,13 +50,8 @@ struct Grounds {
 
 impl Grounds {
     // At first: each constraint rests on itself. Under claim 2 no set is kept.
-    fn first(
-        claim: Claim,
-        work: &[i64],
-        sets: &mut [Words; FACT_LIMIT],
-        constraints: usize,
-    ) -> Grounds
-        requires { Fine work.now constraints }
+    fn first(claim: Claim, work: &[i64], sets: &mut [Words], constraints: usize) -> Grounds
+        requires { Fine work.now constraints × Roomy sets.old }
         ensures { FirstGrounds claim work.now sets.new constraints result }
     {
         let core = no_constraint();
@@ -88,10 +82,10 @@ impl Grounds {
         claim: Claim,
         upto: usize,
         work: &[i64],
-        sets: &[Words; FACT_LIMIT],
+        sets: &[Words],
         count: usize,
     ) -> Grounds
-        requires { (upto ≤ count) × Fine work.now count }
+        requires { (upto ≤ count) × Fine work.now count × Roomy sets.now }
         ensures { BroughtUp claim work.now sets.now upto count self result }
     {
         match claim {
@@ -138,10 +132,10 @@ fn set_of(
     size: usize,
     work: &[i64],
     count: usize,
-    sets: &[Words; FACT_LIMIT],
+    sets: &[Words],
     grounds: Grounds,
 ) -> Words
-    requires { ReadyUnder claim rule ticket.now s at size work.now count }
+    requires { ReadyUnder claim rule ticket.now s at size work.now count × Roomy sets.now }
     ensures { SetOf claim rule ticket.now s at size work.now count sets.now grounds.unions result }
 {
     match claim {
@@ -158,8 +152,8 @@ fn set_of(
 }
 
 // The facts after the first `from`, which came with a child, rest on a set. Under claim 2 no set is kept.
-fn keep_set(claim: Claim, sets: &mut [Words; FACT_LIMIT], from: usize, to: usize, set: Words)
-    requires { (claim ≡ NoSolution → Added from to) × (to ≤ fact_limit) }
+fn keep_set(claim: Claim, sets: &mut [Words], from: usize, to: usize, set: Words)
+    requires { (claim ≡ NoSolution → Added from to) × (to ≤ fact_limit) × Roomy sets.old }
     ensures { claim ≡ NoSolution → Filled sets.old from to set sets.new }
 {
     match claim {
@@ -201,7 +195,7 @@ pub enum Walked {
 }
 
 // The records from the one after the claim, record r at a position, on the question's constraints: until every branch is closed, or up to the model. The sets of
-// the facts stand in a lent array. The branch's numbers are widened by `as` and not by `from`: what the loop keeps is said of them themselves.
+// the facts stand in a lent slice. The branch's numbers are widened by `as` and not by `from`: what the loop keeps is said of them themselves.
 pub fn walk(
     ticket: &[u8],
     s: Progress,
@@ -209,9 +203,9 @@ pub fn walk(
     record: usize,
     r: usize,
     work: &mut [i64],
-    sets: &mut [Words; FACT_LIMIT],
+    sets: &mut [Words],
 ) -> Result<Walked, Refusal>
-    requires { Loaded ticket.now s work.old × (r ≤ «record») }
+    requires { Loaded ticket.now s work.old × (r ≤ «record») × Roomy sets.old }
     ensures walked { walked_of ticket.now s work.new result ≡ walk_from claim ticket.now s r «record» }
     ensures leaf { IfOk result (λ w. LeafAt ticket.now work.new w) }
     ensures core { IfOk result (λ w. CoreAt ticket.now s «record» w) }
@@ -244,7 +238,7 @@ pub fn walk(
                 }
                 let split = b.latest();
                 count = split.mark as usize;
-                set = sets[count];
+                set = set_at(sets, count);
                 grounds = grounds.set_back(known.upto, count);
                 known = set_back(known, first, count);
                 b = next_child(ticket, s, work, b, split);

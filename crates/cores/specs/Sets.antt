@@ -1,4 +1,5 @@
--- The sets of a branch's facts in an array, by the fact's number.
+-- The sets of a branch's facts in a slice, by the fact's number.
+use Rattle.calculus.specs.Limits.{fact_limit}
 use Rattle.std.specs.Prelude.{ℕ, ◌<◌, ◌≤◌, ◌≡◌, true, List, length, get_or, ℤ}
 use Rattle.calculus.specs.Cores.{Rested, facts, set_at, rests_on}
 use Rattle.format.specs.StepForms.{step_at}
@@ -15,10 +16,14 @@ use Rattle.cores.specs.declared.Unions.{Unions}
 use Rattle.cores.specs.Words.{words_of, unions_of}
 
 -- the words of fact k
+-- the slice has room for every fact of a branch
+abbrev pub Roomy : List Words → Type 0
+Roomy v = fact_limit ≤ length v
+
 abbrev pub words_at : List Words → ℕ → Words
 words_at v k = get_or v k (record { low = 0; high = 0 })
 
--- the array has the sets of the branch's facts, count in all
+-- the slice has the sets of the branch's facts, count in all
 pub record Carries (v : List Words) (count : ℕ) (r : Rested) : Type 0 where
   pub all : length r ≡ count
   pub words : (k : ℕ) → k < count → words_at v k ≡ words_of (set_at r k)

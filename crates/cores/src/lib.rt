@@ -1,4 +1,4 @@
-// What facts and steps rest on: sets of the question's constraints, each as two words, for the facts of a branch in a lent array (02, L5).
+// What facts and steps rest on: sets of the question's constraints, each as two words, for the facts of a branch in a lent slice (02, L5).
 #![tactic(auto)]
 
 ghost use Rattle.std.specs.Prelude.{◌≡◌, ◌≢◌, true, [], ◌∷◌, ◌++◌, ℕ, ◌+◌, ◌*◌, ◌<◌, ◌≤◌, length, take};
@@ -13,7 +13,7 @@ ghost use Rattle.rows.specs.Work.{Fine};
 ghost use Rattle.steps.specs.Rules.{rule_named};
 ghost use Rattle.steps.specs.Ready.{Ready};
 ghost use Rattle.cores.specs.Words.{words_of, union_of, unions_of};
-ghost use Rattle.cores.specs.Sets.{words_at, Carries, Stands, Filled, RestsOn};
+ghost use Rattle.cores.specs.Sets.{Roomy, words_at, Carries, Stands, Filled, RestsOn};
 
 use encoding::LEN;
 use limits::{FACT_LIMIT, ROW_LENGTH};
@@ -88,17 +88,25 @@ impl BitOrAssign for Words {
 
 // ---- the sets of facts
 
+// The set at the place of fact k.
+pub fn set_at(sets: &[Words], k: usize) -> Words
+    requires { (k < fact_limit) × Roomy sets.now }
+    ensures { result ≡ words_at sets.now k }
+{
+    sets[k]
+}
+
 // The facts of the places from `from` up to `to`, which a child added, rest on a set.
-pub fn fill_sets(sets: &mut [Words; FACT_LIMIT], from: usize, to: usize, set: Words)
-    requires { (from < to) × (to ≤ from + 3) × (to ≤ fact_limit) }
+pub fn fill_sets(sets: &mut [Words], from: usize, to: usize, set: Words)
+    requires { (from < to) × (to ≤ from + 3) × (to ≤ fact_limit) × Roomy sets.old }
     ensures { Filled sets.old from to set sets.new }
 {
     sets[from..to].fill(set);
 }
 
 // "A root constraint rests on itself".
-pub fn root_sets(sets: &mut [Words; FACT_LIMIT], constraints: usize)
-    requires { constraints ≤ fact_limit }
+pub fn root_sets(sets: &mut [Words], constraints: usize)
+    requires { (constraints ≤ fact_limit) × Roomy sets.old }
     ensures { (k : ℕ) → k < constraints → words_at sets.new k ≡ words_of (only k) }
 {
     for k in 0..constraints {
@@ -139,14 +147,8 @@ fn with_fact(unions: Unions, row: &[i64; ROW_LENGTH], set: Words) -> Unions
 }
 
 // The unions of the first `count` facts, from those of the first `upto`.
-pub fn bring_up(
-    unions: Unions,
-    upto: usize,
-    work: &[i64],
-    sets: &[Words; FACT_LIMIT],
-    count: usize,
-) -> Unions
-    requires { (upto ≤ count) × Fine work.now count }
+pub fn bring_up(unions: Unions, upto: usize, work: &[i64], sets: &[Words], count: usize) -> Unions
+    requires { (upto ≤ count) × Fine work.now count × Roomy sets.now }
     ensures { (r : Rested) → Stands work.now sets.now count r → unions ≡ unions_of (take upto r) → result ≡ unions_of r }
 {
     let mut out = unions;
@@ -159,16 +161,16 @@ pub fn bring_up(
 // ---- what a step rests on
 
 // The set of fact k, empty where there is none.
-fn fact_set(sets: &[Words; FACT_LIMIT], count: usize, k: usize) -> Words
-    requires { count ≤ fact_limit }
+fn fact_set(sets: &[Words], count: usize, k: usize) -> Words
+    requires { (count ≤ fact_limit) × Roomy sets.now }
     ensures { (r : Rested) → Carries sets.now count r → result ≡ words_of (set_at r k) }
 {
     if k < count { sets[k] } else { no_constraint() }
 }
 
 // Sum: the sets of the facts that its pairs name.
-fn named_sets(b: &[u8], at: usize, pairs: usize, sets: &[Words; FACT_LIMIT], count: usize) -> Words
-    requires { (at + 6 * pairs ≤ length b.now) × (count ≤ fact_limit) }
+fn named_sets(b: &[u8], at: usize, pairs: usize, sets: &[Words], count: usize) -> Words
+    requires { (at + 6 * pairs ≤ length b.now) × (count ≤ fact_limit) × Roomy sets.now }
     ensures { (r : Rested) → Carries sets.now count r → result ≡ words_of (named_sets r (pairs_at b.now at pairs)) }
 {
     let mut set = no_constraint();
@@ -179,16 +181,9 @@ fn named_sets(b: &[u8], at: usize, pairs: usize, sets: &[Words; FACT_LIMIT], cou
 }
 
 // Card: the set of "the lowest matching fact" for two different variables.
-fn lengths_set(
-    s: Progress,
-    x: usize,
-    y: usize,
-    work: &[i64],
-    count: usize,
-    sets: &[Words; FACT_LIMIT],
-) -> Words
+fn lengths_set(s: Progress, x: usize, y: usize, work: &[i64], count: usize, sets: &[Words]) -> Words
     requires x_lt_variable_limit { (x < variable_limit) × (y < variable_limit) × (s.p ≤ variable_limit) × (s.q ≤ variable_limit) }
-    requires count_le_fact_limit { (count ≤ fact_limit) × (work_numbers ≤ length work.now) }
+    requires count_le_fact_limit { (count ≤ fact_limit) × (work_numbers ≤ length work.now) × Roomy sets.now }
     ensures { (r : Rested) → Stands work.now sets.now count r → x ≢ y → result ≡ words_of (lengths_set (numbered s) r x y) }
 {
     if x == y {
@@ -210,11 +205,11 @@ fn neighbour_sets(
     others: usize,
     work: &[i64],
     count: usize,
-    sets: &[Words; FACT_LIMIT],
+    sets: &[Words],
 ) -> Words
     requires others_in_bounds { (at + 2 + 2 * others ≤ length b.now) × (s.p ≤ variable_limit) × (s.q ≤ variable_limit) }
     requires others_value { are_variables s.p (u16s b.now at (others + 1)) ≡ true }
-    requires count_le_fact_limit { (count ≤ fact_limit) × (work_numbers ≤ length work.now) }
+    requires count_le_fact_limit { (count ≤ fact_limit) × (work_numbers ≤ length work.now) × Roomy sets.now }
     ensures { (r : Rested) → Stands work.now sets.now count r → distinct (u16s b.now at (others + 1)) ≡ true
         → result ≡ words_of (neighbour_sets (numbered s) r (u16 b.now at) (u16s b.now (at + 2) others)) }
 {
@@ -233,10 +228,10 @@ pub fn step_set(
     step: Step,
     work: &[i64],
     count: usize,
-    sets: &[Words; FACT_LIMIT],
+    sets: &[Words],
     unions: Unions,
 ) -> Words
-    requires { Ready ticket.now s step.body step.size work.now count × (rule_named step.rule ≡ rule_at ticket.now step.body) }
+    requires { Ready ticket.now s step.body step.size work.now count × (rule_named step.rule ≡ rule_at ticket.now step.body) × Roomy sets.now }
     ensures { RestsOn step ticket.now s work.now count sets.now unions result }
 {
     let Step { rule, body, size } = step;

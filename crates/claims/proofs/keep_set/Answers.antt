@@ -6,7 +6,7 @@ pub fill_sets-requires : goal.fill_sets-requires
 fill_sets-requires c =
     let pre = c.requires in
     let added = pre.0 c.in-NoSolution.is in
-    (added.0, added.1, pre.1)
+    (added.0, added.1, pre.1, pre.2)
 
 pub returns-in-NoSolution : goal.returns-in-NoSolution
 returns-in-NoSolution c = λ e. c.fill_sets.ensures

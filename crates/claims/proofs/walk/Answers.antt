@@ -30,6 +30,7 @@ use Rattle.derivation.specs.Actions.{ReadyUnder}
 use Rattle.derivation.proofs.Holding.{few_facts, few_splits}
 use Rattle.derivation.proofs.Closing.{open_depth}
 use Rattle.cores.specs.declared.Words.{Words}
+use Rattle.cores.specs.Sets.{Roomy}
 use Rattle.question.specs.Posed.{asked}
 use Rattle.delimiters.specs.declared.Claim.TheVariants.{NoSolution}
 use Rattle.claims.specs.Outcomes.{first_upto, walk_from, LeafAt, steps_from, CoreAt}
@@ -60,7 +61,7 @@ pub first_known-first-requires : goal.first_known-first-requires
 first_known-first-requires c = c.requires.0.1
 
 pub first-grounds-requires : goal.first-grounds-requires
-first-grounds-requires c = c.requires.0.1
+first-grounds-requires c = let pre = c.requires in (pre.0.1, pre.2)
 
 pub new-b-requires : goal.new-b-requires
 new-b-requires c = c.requires.0.1.few
@@ -86,10 +87,18 @@ loop-found-init c =
           c.args.claim c.args.r c.args.«record» c.first_known-first.result c.requires.1 (known-first (goal.at.loop-found-init c).After-first_known-first),
       gathering_first b c.args.s c.args.claim c.args.work.now _ new.result c.first_known-first.result c.first-grounds.result
           c.args.«record» new.ensures.0 new.ensures.1 root c.first_known-first.ensures.upto_value c.first-grounds.ensures,
+      refl,
     )
 
 pub next_record-requires : goal.next_record-requires
 next_record-requires c = c.requires.0.0
+
+-- the slice of the sets is as long as it was lent
+same-sets : (l : Loop) → length l.loop-found.sets ≡ length l.args.sets.now
+same-sets l = l.loop-found.invariant.2 ∙ l.first-grounds.auto.sets
+
+roomy : (l : Loop) → Roomy l.loop-found.sets
+roomy l = omega (arith, same-sets l, l.requires.2)
 
 pub returns-in_err-found-clause-walked : goal.returns-in_err-found-clause-walked
 returns-in_err-found-clause-walked c =
@@ -195,10 +204,11 @@ brought_up-grounds-requires c = (
   (grown (goal.at.brought_up-grounds-requires c).After-classes_for-known).0,
   fine_first c.classes_for-known.result.upto (grown (goal.at.brought_up-grounds-requires c).After-classes_for-known).1
       (ready (goal.at.brought_up-grounds-requires c).In-Step).ready.fine,
+  roomy (goal.at.brought_up-grounds-requires c).At-loop-found,
 )
 
 pub set_of-set-requires : goal.set_of-set-requires
-set_of-set-requires c = ready (goal.at.set_of-set-requires c).In-Step
+set_of-set-requires c = (ready (goal.at.set_of-set-requires c).In-Step, roomy (goal.at.set_of-set-requires c).At-loop-found)
 
 pub take_step-step-requires : goal.take_step-step-requires
 take_step-step-requires c =
@@ -301,6 +311,9 @@ overflow_add-result c =
 pub shape_of-work-then-depth-eq0 : goal.shape_of-work-then-depth-eq0
 shape_of-work-then-depth-eq0 c = same-work (goal.at.shape_of-work-then-depth-eq0 c).In_ok-taken ∙ c.loop-found.invariant.0.kept
 
+pub shape_of-sets-then-depth-eq0 : goal.shape_of-sets-then-depth-eq0
+shape_of-sets-then-depth-eq0 c = same-sets (goal.at.shape_of-sets-then-depth-eq0 c).At-loop-found
+
 pub returns-then-depth-eq0 : goal.returns-then-depth-eq0
 unfolding LeafAt CoreAt
 returns-then-depth-eq0 c =
@@ -343,9 +356,9 @@ pub latest-split-requires : goal.latest-split-requires
 latest-split-requires c =
     (open_depth c.loop-found.b c.if-depth-eq0.false, few_splits (opened (goal.at.latest-split-requires c).In_ok-taken c.in-Closes.is).0)
 
-pub bounds-sets-count : goal.bounds-sets-count
-bounds-sets-count c =
-    let here = (goal.at.bounds-sets-count c).In_ok-taken in
+pub set_at-set-requires : goal.set_at-set-requires
+set_at-set-requires c =
+    let here = (goal.at.set_at-set-requires c).In_ok-taken in
     let q = c.in-Closes.is in
     let deep = open_depth c.loop-found.b c.if-depth-eq0.false in
     let a = c.args in
@@ -353,7 +366,7 @@ bounds-sets-count c =
     let below =
     fact_at_mark a.ticket.now a.s a.claim (gathering here)
     (going here) (stepped here) q deep latest.result latest.ensures in
-    search (rules, few_facts (opened here q).0, below)
+    (omega (arith, few_facts (opened here q).0, below), roomy (goal.at.set_at-set-requires c).At-loop-found)
 
 pub next_child-b-requires : goal.next_child-b-requires
 next_child-b-requires c =
@@ -428,6 +441,7 @@ pub keep_set-requires : goal.keep_set-requires
 keep_set-requires c = (
   added-there (goal.at.keep_set-requires c).Joined-taken,
   few-there (goal.at.keep_set-requires c).Joined-taken,
+  roomy (goal.at.keep_set-requires c).At-loop-found,
 )
 
 -- ---- the next record
@@ -454,6 +468,7 @@ loop-found-preserved c =
     let o = c.loop-found in
     let n = all-roots (goal.at.loop-found-preserved c).At-loop-found in
     let filled = c.keep_set.ensures in
+    let same = c.keep_set.auto.sets ∙ o.invariant.2 in
     elim c.match-taken.branch [
       | in-Closes+else-depth-eq0 w ↦
           let q = w.in-Closes.is in
@@ -480,8 +495,9 @@ loop-found-preserved c =
                 (gathering here) (going here)
                 (stepped here)
                 (resting here) n _
-                (λ e. filled_as w.count-is (ap (λ (x : code.Branch). x.count) w.b-is) w.set-is (filled e))
+                (λ e. filled_as w.count-is (ap (λ (x : code.Branch). x.count) w.b-is) (w.set-is ∙ w.set_at-set.ensures) (filled e))
                 c.first_known-first.result c.first_known-first.ensures.upto_value),
+            same,
           )
       | in-Extends w ↦ (
         going_same b a.s w.work-is w.b-is w.known-is
@@ -493,6 +509,7 @@ loop-found-preserved c =
             (stepped here)
             (resting here) n _
             (λ e. filled_as w.count-is (ap (λ (x : code.Branch). x.count) w.b-is) w.set-is (filled e))),
+        same,
       )
       | in-Splits w ↦ (
         going_same b a.s w.work-is w.b-is w.known-is
@@ -505,5 +522,6 @@ loop-found-preserved c =
             (going here)
             (stepped here) (resting here) n _
             (λ e. filled_as w.count-is (ap (λ (x : code.Branch). x.count) w.b-is) w.set-is (filled e))),
+        same,
       )
     ]

@@ -33,7 +33,7 @@ overflow_sub-size c =
 
 pub named_sets-requires : goal.named_sets-requires
 named_sets-requires c =
-    ((sum_operands c.requires.0 (is_rule (goal.at.named_sets-requires c).Start _ c.in-Sum.is)).1, c.requires.0.fine.few)
+    ((sum_operands c.requires.0 (is_rule (goal.at.named_sets-requires c).Start _ c.in-Sum.is)).1, c.requires.0.fine.few, c.requires.2)
 
 pub u16_at-requires : goal.u16_at-requires
 u16_at-requires c =
@@ -58,7 +58,7 @@ neighbour_sets-requires c =
     record {
       others_in_bounds = (omega arith, few.few_strings, few.few_integers);
       others_value = all;
-      count_le_fact_limit = (h.fine.few, h.fine.room);
+      count_le_fact_limit = (h.fine.few, h.fine.room, c.requires.2);
     }
 
 pub u16_at-requires-in-Join : goal.u16_at-requires-in-Join
