@@ -18,6 +18,9 @@ returns-then-value-gt-VALUE_LIMIT c =
     let g = numeral_grows l.value l.c-iterator in
     ((λ h. absurd (omega (arith, g, l.invariant.1))), λ h. omega arith)
 
+pub overflow_mul-value : goal.overflow_mul-value
+overflow_mul-value c = omega arith
+
 pub overflow_sub-value : goal.overflow_sub-value
 overflow_sub-value c =
     let l = c.loop-c in
