@@ -2,6 +2,7 @@ use Prim.Native.Nat.{ℕ}
 use lib.IntN.{ℤ, pos}
 use lib.ListN.{replicate}
 use mathlib.Core.Path.{◌∙◌, ap}
+use native.Mathlib.Omega.{arith}
 use Rattle.checking.proofs.Promises.{decided, small_answer, small_work}
 use Rattle.checking.proofs.check_ticket.Goals as goal
 use Rattle.checking.proofs.check_ticket.Goals.{then-work-lt-WORK_NUMBERS-via-then-work-lt-WORK_NUMBERS, then-work-lt-WORK_NUMBERS-via-else-work-lt-WORK_NUMBERS+then-answer-lt-ANSWER_BYTES}
@@ -14,6 +15,9 @@ returns-then-work-lt-WORK_NUMBERS c =
       | then-work-lt-WORK_NUMBERS-via-else-work-lt-WORK_NUMBERS+then-answer-lt-ANSWER_BYTES w ↦ small_answer s.ticket.now s.work.now s.answer.now c.at.result c.at.ensures
           w.if-work-lt-WORK_NUMBERS.false w.if-answer-lt-ANSWER_BYTES.true
     ]
+
+pub decide-verdict-requires : goal.decide-verdict-requires
+decide-verdict-requires c = (omega arith, omega arith)
 
 pub returns : goal.returns
 returns c =
