@@ -56,7 +56,11 @@ fn first_labels() -> [u8; NODE_COUNT]
 fn relabel(old: u8, new: u8, labels: [u8; NODE_COUNT]) -> [u8; NODE_COUNT]
     ensures { result ≡ classes.relabel old new labels }
 {
-    labels.map(|label| if label == old { new } else { label })
+    let mut out = labels;
+    for label in out.iter_mut() {
+        *label = if *label == old { new } else { *label };
+    }
+    out
 }
 
 // The classes of two nodes become one.

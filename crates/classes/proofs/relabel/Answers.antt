@@ -1,12 +1,16 @@
-use borrow.Author.Rules.{rules}
-use borrow.Author.Tests.{tests}
-use Prim.Native.Nat.{ℕ}
-use lib.Dec.{eqb}
-use mathlib.Core.Bool.{cond}
-use Rattle.classes.proofs.Mapped.{array_mapped}
+use borrow.Author.Tests.{eq-eqb, ne_eqb}
+use mathlib.Core.Path.{refl}
+use native.Mathlib.Omega.{arith}
+use Rattle.lists.proofs.Filled.{changing_more}
 use Rattle.classes.proofs.relabel.Goals as goal
+use Rattle.classes.proofs.relabel.Goals.{then-label-old, else-label-old}
+use Rattle.classes.proofs.relabel.Invariants.{becomes}
 
-pub returns : goal.returns
-returns c =
-    array_mapped _ (λ (l : ℕ). cond (eqb l c.args.old) c.args.new l) _ c.args.labels c.map.result 0 0 32 c.map.ensures.items (search rules)
-    (λ x r q k. search (rules, tests))
+pub loop-label-preserved : goal.loop-label-preserved
+loop-label-preserved c =
+    let l = c.loop-label in
+    changing_more 0 (becomes c.args.old c.args.new) c.args.labels l.label-items l.label-index l.invariant _ 0 (omega arith)
+    (elim c.if-label-old.branch [
+      | then-label-old w ↦ rw (w.label-is, eq-eqb _ _ w.if-label-old.true) refl
+      | else-label-old w ↦ rw (w.label-is, ne_eqb _ _ w.if-label-old.false) refl
+    ])
