@@ -83,7 +83,7 @@ impl Branch {
         requires { (0 < self.depth) × (self.depth ≤ pending_limit) }
         ensures { (result.count ≡ (latest_of (stack self)).mark) × (stack result ≡ stack self) }
     {
-        let split = self.latest();
+        let split = self.splits[usize::from(self.depth) - 1];
         Branch {
             count: split.mark,
             ..self
@@ -95,9 +95,10 @@ impl Branch {
         requires { (0 < self.depth) × (self.depth ≤ pending_limit) }
         ensures { (result.count ≡ self.count) × (stack result ≡ begun_of (stack self)) }
     {
-        let split = self.latest();
+        let top = usize::from(self.depth) - 1;
+        let split = self.splits[top];
         if split.child < split.last {
-            self.splits[usize::from(self.depth) - 1] = Split {
+            self.splits[top] = Split {
                 child: split.child + 1,
                 ..split
             };
