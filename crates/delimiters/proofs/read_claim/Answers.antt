@@ -7,7 +7,7 @@ use native.Mathlib.Omega.{arith}
 use borrow.Author.Tests.{le-leb, lt-leb, eq-eqb, ne_eqb}
 use Rattle.format.specs.Records.{size, kind}
 use Rattle.format.specs.Question.{Progress}
-use Rattle.format.specs.Reading.{claim_fault}
+use Rattle.format.specs.Reading.{claim_fault, claim_at}
 use Rattle.question.specs.Progress.{progress_of}
 use Rattle.delimiters.proofs.Ends.{cut_off}
 use Rattle.records.proofs.Finding.{found_whole, all_there}
@@ -41,13 +41,14 @@ returns-then-size-ne2-clause-fault c =
 pub returns-clause-fault : goal.returns-clause-fault
 returns-clause-fault c =
     let w = found_whole c.args.ticket.now c.args.at _ _ (sym c.read_at.ensures ∙ c.in-Whole.is) in
+    let number : c.u16_at.result ≡ claim_at c.args.ticket.now c.args.at = c.u16_at.ensures.0 in
     c.try_from.ensures.0
     ∙ rw (
       le-leb _ _ (all_there _ _ _ _ w),
       le-leb 1 _ c.if-s-lt-HEAD_RANK.false,
       eq-eqb (kind c.args.ticket.now c.args.at) 5 (sym w.0 ∙ c.if-kind-ne-KIND_CLAIM.false),
       eq-eqb (size c.args.ticket.now c.args.at) 2 (sym w.1 ∙ c.if-size-ne2.false),
-      ← c.u16_at.ensures.0,
+      ← number,
     )
 
 pub overflow_add-at : goal.overflow_add-at
