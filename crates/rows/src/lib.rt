@@ -265,7 +265,7 @@ pub fn fact_within(row: &[i64; ROW_LENGTH]) -> bool
     tag_of(row) > TAG_NE || form_within(row)
 }
 
-// A row becomes another one, up to the first number after its tag that passes the limit. Is there none?
+// A row becomes another one where no number after its tag passes the limit. Does none?
 fn fill_within(out: &mut [i64], row: &[i64; ROW_LENGTH]) -> bool
     requires { length out.old ≡ row_length }
     ensures value { result ≡ all_within number_limit (drop 1 row.now) }
