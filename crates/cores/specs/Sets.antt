@@ -15,11 +15,11 @@ use Rattle.cores.specs.declared.Words.{Words}
 use Rattle.cores.specs.declared.Unions.{Unions}
 use Rattle.cores.specs.Words.{words_of, unions_of}
 
--- the words of fact k
 -- the slice has room for every fact of a branch
 abbrev pub Roomy : List Words → Type 0
 Roomy v = fact_limit ≤ length v
 
+-- the words of fact k
 abbrev pub words_at : List Words → ℕ → Words
 words_at v k = get_or v k (record { low = 0; high = 0 })
 
