@@ -10,9 +10,6 @@ use Rattle.rows.specs.Rows.{branch_of}
 use Rattle.classes.specs.declared.Known.{Known}
 use Rattle.classes.specs.Classes.{Knows}
 use Rattle.steps.specs.declared.Rule.{Rule}
-use Rattle.steps.specs.declared.Rule.TheVariants.{AConf, SConf, Unknown}
-use Rattle.steps.specs.Conclusions.{conclusions_of}
-use Rattle.steps.specs.declared.Conclusions.TheVariants.{Nothing}
 use Rattle.steps.specs.Rules.{rule_named}
 use Rattle.conclusions.specs.Labels.{asks_classes, KnownFor, Labelled}
 
@@ -30,7 +27,3 @@ known_for {r} {known} {k} {w} {count} h f = (go (asks_classes (rule_named r)) re
         let (up, e) = f.brought a in
         record { few = omega (arith, up); labelled = e ∙ ap (λ (n : ℕ). labels (branch_of w n)) (sym up) }
     go false a = subst (λ (x : Known). Knows w count x) (sym (f.kept a)) h
-
--- a rule that closes, and is neither A-Conf nor S-Conf
-pub closing_unknown : (r : Rule) → (r ≡ AConf → ⊥) → (r ≡ SConf → ⊥) → conclusions_of (rule_named r) ≡ Nothing → r ≡ Unknown
-closing_unknown r a b e = grind arith

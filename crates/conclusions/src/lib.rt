@@ -1,6 +1,4 @@
 // The rules that close a branch, A-Conf and S-Conf, and those with one conclusion: Sum, S-Prop, L-Intro, C-Collapse and Join.
-//
-// A match on a rule may end in `_`: its arm is proved of every rule that is left, so a new rule does not pass there unseen.
 #![tactic(auto)]
 
 ghost use Rattle.std.specs.Prelude.{◌≡◌, ◌+◌, ◌*◌, ◌<◌, ◌≤◌, length, neg_ℤ, OnOk};
@@ -42,7 +40,8 @@ pub fn classes_for(rule: Rule, known: Known, work: &[i64], count: usize) -> Know
         Rule::SConf | Rule::SProp | Rule::LIntro | Rule::CCollapse => {
             classes::bring_up(known, work, count)
         }
-        _ => known,
+        Rule::Sum | Rule::AConf | Rule::Join | Rule::Unknown => known,
+        Rule::Branch | Rule::Apart | Rule::LValid | Rule::CValid | Rule::CInj | Rule::Card => known,
     }
 }
 
@@ -81,7 +80,9 @@ pub fn closes(
     match step.rule {
         Rule::AConf => a_conf(u16_at(ticket, step.body + OPERANDS), work, count),
         Rule::SConf => s_conf(s.literals, work, count, labels),
-        _ => false,
+        Rule::Sum | Rule::SProp | Rule::LIntro | Rule::CCollapse | Rule::Join => false,
+        Rule::Branch | Rule::Apart | Rule::LValid | Rule::CValid | Rule::CInj | Rule::Card => false,
+        Rule::Unknown => false,
     }
 }
 
@@ -220,6 +221,9 @@ pub fn conclude(
         Rule::LIntro => of_literal(ticket, s, LEN, first, work, count, labels),
         Rule::CCollapse => of_literal(ticket, s, CODE, first, work, count, labels),
         Rule::Join => join(first, u16_at(ticket, step.body + 6), work, count),
-        _ => Err(Fault::DoesNotFit),
+        Rule::AConf | Rule::SConf | Rule::Unknown => Err(Fault::DoesNotFit),
+        Rule::Branch | Rule::Apart | Rule::LValid | Rule::CValid | Rule::CInj | Rule::Card => {
+            Err(Fault::DoesNotFit)
+        }
     }
 }

@@ -25,12 +25,14 @@ use Rattle.rows.proofs.Forms.{above_form, below_form, above_column, minus_number
 use Rattle.question.specs.declared.Progress.{Progress}
 use Rattle.question.specs.Columns.{column_at}
 use Rattle.question.specs.Posed.{numbered}
+use types.Run.{OneOf}
+use denote.Enum.Declared.{tag_of}
 use Rattle.steps.specs.declared.Rule.{Rule}
-use Rattle.steps.specs.declared.Rule.TheVariants.{Sum, Branch, Apart, AConf, SConf, SProp, LIntro, LValid, CCollapse, CValid, CInj, Card, Join, Unknown}
-use Rattle.steps.specs.Conclusions.{conclusions_of}
-use Rattle.steps.specs.declared.Conclusions.TheVariants.{Several}
+use Rattle.steps.specs.declared.Rule.TheVariants.{Branch, Apart}
 use Rattle.steps.specs.Rules.{rule_named}
 use Rattle.steps.specs.Ready.{Ready}
+use Rattle.steps.specs.contracts.Rule.{the_type}
+use Rattle.steps.proofs.Rules.{in_arm}
 use Rattle.steps.proofs.Bodies.{given, l_valid_variable, c_valid_variable}
 use Rattle.steps.proofs.Variables.{below_first, card_operands}
 use Rattle.splits.proofs.Forms.{c_valid_children_law, last_is, last_none}
@@ -187,25 +189,13 @@ module _ {b : List ℕ} {s : Progress} {body m : ℕ} {w : List ℤ} {count : �
       ∙ last_within s (u16 b (body + 4)) ((m - 4) / 2) (omega arith) most)
 
   module _ (r : Rule) (n : rule_named r ≡ rule b body) where
+    -- L-Valid, C-Valid, C-Inj and Card
+    pub others_within : OneOf (7 ∷ 9 ∷ 10 ∷ 11 ∷ []) (tag_of the_type r) → children_within (or_none (given h)) ≡ true
+    others_within o =
+        in_arm (λ (r : Rule). rule_named r ≡ rule b body → children_within (or_none (given h)) ≡ true) (7 ∷ 9 ∷ 10 ∷ 11 ∷ []) r
+        (l_valid_small, (c_valid_small, (c_inj_small, (card_small, tt)))) o n
+
     -- Branch and Apart
     pub two_children : (r ≡ Branch) ⊎ (r ≡ Apart) → (c : List Fact) × (d : List Fact) × (given h ≡ some (c ∷ d ∷ []))
     two_children (inl e) = (_, _, branch_child h (sym (ap rule_named e) ∙ n))
     two_children (inr e) = (_, _, apart_child h f (sym (ap rule_named e) ∙ n))
-
-  -- L-Valid, C-Valid, C-Inj and Card
-  pub others_within : (r : Rule) → rule_named r ≡ rule b body → conclusions_of (rule_named r) ≡ Several → (r ≡ Branch → ⊥) → (r ≡ Apart → ⊥)
-      → children_within (or_none (given h)) ≡ true
-  others_within LValid n s x y = l_valid_small n
-  others_within CValid n s x y = c_valid_small n
-  others_within CInj n s x y = c_inj_small n
-  others_within Card n s x y = card_small n
-  others_within Branch n s x y = absurd (x refl)
-  others_within Apart n s x y = absurd (y refl)
-  others_within Sum n s x y = absurd cc
-  others_within AConf n s x y = absurd cc
-  others_within SConf n s x y = absurd cc
-  others_within SProp n s x y = absurd cc
-  others_within LIntro n s x y = absurd cc
-  others_within CCollapse n s x y = absurd cc
-  others_within Join n s x y = absurd cc
-  others_within Unknown n s x y = absurd cc

@@ -25,22 +25,12 @@ use Rattle.question.specs.Posed.{asked, numbered}
 use Rattle.rows.specs.Rows.{fact_of, row_at}
 use Rattle.rows.specs.Work.{tag_of}
 use Rattle.rows.proofs.Tested.{guard_fits, guard_given}
-use Rattle.steps.specs.declared.Rule as steps
-use Rattle.steps.specs.declared.Rule.TheVariants.{CValid}
-use Rattle.steps.specs.Rules.{rule_named, one_each}
-use Rattle.steps.specs.Conclusions.{conclusions_of}
-use Rattle.steps.specs.declared.Conclusions.TheVariants.{Several}
 use Rattle.steps.specs.Ready.{Ready}
 use Rattle.steps.proofs.Bodies.{before, given, long, ranged}
 use Rattle.steps.proofs.Offered.{offered_by}
 use Rattle.steps.proofs.Variables.{card_operands}
 use Rattle.splits.proofs.Neighbours.{card_children_law}
 use Rattle.splits.proofs.Forms.{parted_is, parted_fits}
-
--- ---- C-Valid alone has children with more than one fact
-
-pub one_fact : (r : steps.Rule) → (r ≡ CValid → ⊥) → conclusions_of (rule_named r) ≡ Several → one_each (rule_named r) ≡ true
-one_fact r e s = grind arith
 
 -- ---- Card asks for the numbers of a question alone
 

@@ -1,6 +1,4 @@
 // The rules with several conclusions, Branch, Apart, L-Valid, C-Valid, C-Inj and Card: whether a step fits, and its children.
-//
-// A match on a rule may end in `_`: its arm is proved of every rule that is left, so a new rule does not pass there unseen.
 #![tactic(auto)]
 
 ghost use Rattle.std.specs.Prelude.{◌≡◌, ◌≢◌, true, [], ◌∷◌, ◌++◌, ◌+◌, ◌*◌, ◌≤◌, ◌<◌, length};
@@ -113,7 +111,8 @@ pub fn fits(ticket: &[u8], s: Progress, step: Step, work: &[i64], count: usize) 
             work,
             count,
         ),
-        _ => false,
+        Rule::Sum | Rule::SProp | Rule::LIntro | Rule::CCollapse | Rule::Join => false,
+        Rule::AConf | Rule::SConf | Rule::Unknown => false,
     }
 }
 
@@ -237,7 +236,9 @@ fn put_fact(ticket: &[u8], s: Progress, step: Step, work: &mut [i64], count: usi
             k,
         ),
         Rule::Card => put_card(work, count, ticket, s, at, (step.size - OPERANDS) / 2, k),
-        _ => {}
+        Rule::CValid => {}
+        Rule::Sum | Rule::SProp | Rule::LIntro | Rule::CCollapse | Rule::Join => {}
+        Rule::AConf | Rule::SConf | Rule::Unknown => {}
     }
 }
 
@@ -296,10 +297,12 @@ pub fn put_child(
 {
     match step.rule {
         Rule::CValid => put_c_valid(work, count, s, u16_at(ticket, step.body + OPERANDS), k),
-        _ => {
+        Rule::Branch | Rule::Apart | Rule::LValid | Rule::CInj | Rule::Card => {
             put_fact(ticket, s, step, work, count, k);
             count + 1
         }
+        Rule::Sum | Rule::SProp | Rule::LIntro | Rule::CCollapse | Rule::Join => count,
+        Rule::AConf | Rule::SConf | Rule::Unknown => count,
     }
 }
 
@@ -344,7 +347,9 @@ pub fn child_within(
     match step.rule {
         Rule::Branch => branch_within(ticket, step.body + OPERANDS, (step.size - 8) / 6, k),
         Rule::Apart => apart_within(work, u16_at(ticket, step.body + OPERANDS), k),
-        _ => true,
+        Rule::LValid | Rule::CValid | Rule::CInj | Rule::Card => true,
+        Rule::Sum | Rule::SProp | Rule::LIntro | Rule::CCollapse | Rule::Join => true,
+        Rule::AConf | Rule::SConf | Rule::Unknown => true,
     }
 }
 
@@ -359,6 +364,8 @@ pub fn children_within(ticket: &[u8], s: Progress, step: Step, work: &[i64], cou
             child_within(ticket, s, step, work, count, 1)
                 && child_within(ticket, s, step, work, count, 2)
         }
-        _ => true,
+        Rule::LValid | Rule::CValid | Rule::CInj | Rule::Card => true,
+        Rule::Sum | Rule::SProp | Rule::LIntro | Rule::CCollapse | Rule::Join => true,
+        Rule::AConf | Rule::SConf | Rule::Unknown => true,
     }
 }

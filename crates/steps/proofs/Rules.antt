@@ -4,11 +4,11 @@ use native.Mathlib.Omega.{arith}
 use native.Mathlib.Decide.{dec_lt}
 use mathlib.Core.Path.{◌≡◌, refl, sym, ◌∙◌, ap, subst}
 use mathlib.Core.Logic.{inl, inr}
-use mathlib.Core.Bool.{Bool, true, false, ◌||◌}
+use mathlib.Core.Bool.{Bool, true, false, not, ◌||◌}
 use mathlib.Core.List.{List, [], ◌∷◌}
 use lib.ListN.{get_or, get_or-eq_default}
 use lib.Dec.{T, eqb}
-use borrow.Author.Tests.{ne_eqb}
+use borrow.Author.Tests.{ne_eqb, not-true}
 use types.Run.{OneOf}
 use denote.Enum.Declared.{tag_of}
 use Rattle.lists.specs.Lists.{All, all, all_below}
@@ -19,6 +19,10 @@ use Rattle.format.specs.StepForms.{rule_names, rule_of}
 use Rattle.format.proofs.Faults.{not_both}
 use Rattle.steps.specs.declared.Rule.{Rule}
 use Rattle.steps.specs.declared.Rule.TheVariants.{Sum, Branch, Apart, AConf, SConf, SProp, LIntro, LValid, CCollapse, CValid, CInj, Card, Join, Unknown}
+use Rattle.steps.specs.Conclusions.{conclusions_of}
+use Rattle.steps.specs.declared.Conclusions.{Conclusions}
+use Rattle.steps.specs.declared.Conclusions.TheVariants.{Nothing, One, Several}
+use Rattle.steps.specs.Rules.{rule_named}
 use Rattle.steps.specs.contracts.Rule.{the_type}
 
 -- ---- by number
@@ -147,3 +151,45 @@ tested t (k ∷ ks) h = let (x, y) = and_both (t (named k)) (all (λ k. t (named
 
 pub passes : (t : Rule → Bool) (ks : List ℕ) (r : Rule) → T (all (λ k. t (named k)) ks) → OneOf ks (tag_of the_type r) → t r ≡ true
 passes t ks r h o = in_arm (λ r. t r ≡ true) ks r (tested t ks h) o
+
+-- ---- by the number of its conclusions
+
+abbrev nothing : Conclusions → Bool
+nothing Nothing = true
+nothing One = false
+nothing Several = false
+
+abbrev one : Conclusions → Bool
+one Nothing = false
+one One = true
+one Several = false
+
+abbrev several : Conclusions → Bool
+several Nothing = false
+several One = false
+several Several = true
+
+-- arms of rules with another number of conclusions are not taken
+other_arm : (is : Conclusions → Bool) (c : Conclusions)
+    → is c ≡ true
+    → (ks : List ℕ) (r : Rule)
+    → T (all (λ k. not (is (conclusions_of (rule_named (named k))))) ks)
+    → OneOf ks (tag_of the_type r) → conclusions_of (rule_named r) ≡ c → ⊥
+other_arm is c e ks r h o q =
+    not_both (is (conclusions_of (rule_named r))) (ap is q ∙ e) (not-true _ (passes (λ r. not (is (conclusions_of (rule_named r)))) ks r h o))
+
+module _ (ks : List ℕ) (r : Rule) where
+  pub not_closing : T (all (λ k. not (nothing (conclusions_of (rule_named (named k))))) ks)
+      → OneOf ks (tag_of the_type r)
+      → conclusions_of (rule_named r) ≡ Nothing
+      → ⊥
+  not_closing h o = other_arm nothing Nothing refl ks r h o
+
+  pub not_one : T (all (λ k. not (one (conclusions_of (rule_named (named k))))) ks) → OneOf ks (tag_of the_type r) → conclusions_of (rule_named r) ≡ One → ⊥
+  not_one h o = other_arm one One refl ks r h o
+
+  pub not_several : T (all (λ k. not (several (conclusions_of (rule_named (named k))))) ks)
+      → OneOf ks (tag_of the_type r)
+      → conclusions_of (rule_named r) ≡ Several
+      → ⊥
+  not_several h o = other_arm several Several refl ks r h o

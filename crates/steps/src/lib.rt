@@ -233,7 +233,9 @@ pub fn child_facts(rule: Rule, k: usize) -> usize
 {
     match rule {
         Rule::CValid => { if k == 1 { 2 } else { 3 } }
-        _ => 1,
+        Rule::Sum | Rule::Branch | Rule::Apart | Rule::AConf | Rule::SConf | Rule::SProp => 1,
+        Rule::LIntro | Rule::LValid | Rule::CCollapse | Rule::CInj | Rule::Card | Rule::Join => 1,
+        Rule::Unknown => 1,
     }
 }
 

@@ -1,6 +1,4 @@
 // Trials of a split: the numbers 8 to 10 of all its children under claim 1, of the child taken under claim 2.
-//
-// A match on a rule may end in `_`: its arm is proved of every rule that is left, so a new rule does not pass there unseen.
 #![tactic(auto)]
 
 ghost use Rattle.std.specs.Prelude.{◌≡◌, true, List, map, ℕ, ◌≤◌, length};
@@ -33,7 +31,11 @@ fn room_for_all(rule: Rule, count: usize) -> bool
 {
     match rule {
         Rule::CValid => count + 3 <= FACT_LIMIT,
-        _ => count + 1 <= FACT_LIMIT,
+        Rule::Branch | Rule::Apart | Rule::LValid | Rule::CInj | Rule::Card => {
+            count + 1 <= FACT_LIMIT
+        }
+        Rule::Sum | Rule::SProp | Rule::LIntro | Rule::CCollapse | Rule::Join => true,
+        Rule::AConf | Rule::SConf | Rule::Unknown => true,
     }
 }
 

@@ -1,4 +1,5 @@
 use Prim.Native.Nat.{◌≤◌, ℕ}
+use mathlib.Core.List.{[], ◌∷◌}
 use mathlib.Core.Path.{◌∙◌, ap, sym}
 use native.Mathlib.Omega.{arith}
 use Rattle.calculus.specs.Rules.{children}
@@ -9,7 +10,7 @@ use Rattle.question.specs.Posed.{asked}
 use Rattle.rows.specs.Rows.{branch_of}
 use Rattle.steps.proofs.Bodies.{long, not_unknown, is_rule}
 use Rattle.steps.proofs.Offered.{offered_by}
-use Rattle.conclusions.proofs.Labels.{closing_unknown}
+use Rattle.steps.proofs.Rules.{not_closing}
 use Rattle.conclusions.proofs.closes.Goals as goal
 
 pub u16_at-requires : goal.u16_at-requires
@@ -37,7 +38,11 @@ returns-in-SConf c =
     c.s_conf.ensures u (literal_count b a.s)
     ∙ sym (offered_by b u (branch_of a.work.now a.count) a.step.body a.step.size s_conf (is_rule c.requires.ready_by _ c.in-SConf.is))
 
-pub returns-in_default : goal.returns-in_default
-returns-in_default c =
-    let h = c.requires.ready_by in
-    absurd (not_unknown h.ready (is_rule h _ (closing_unknown _ c.in_default.not-AConf c.in_default.not-SConf h.concludes)))
+pub returns-in-Sum : goal.returns-in-Sum
+returns-in-Sum c = absurd (not_closing (0 ∷ 5 ∷ 6 ∷ 8 ∷ 12 ∷ []) c.args.step.rule tt c.in-Sum.in-Sum-own.keys3 c.requires.ready_by.concludes)
+
+pub returns-in-Branch : goal.returns-in-Branch
+returns-in-Branch c = absurd (not_closing (1 ∷ 2 ∷ 7 ∷ 9 ∷ 10 ∷ 11 ∷ []) c.args.step.rule tt c.in-Branch.in-Branch-own.keys4 c.requires.ready_by.concludes)
+
+pub returns-in-Unknown : goal.returns-in-Unknown
+returns-in-Unknown c = absurd (not_unknown c.requires.ready_by.ready (is_rule c.requires.ready_by _ c.in-Unknown.is))

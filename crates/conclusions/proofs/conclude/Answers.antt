@@ -1,4 +1,5 @@
 use Prim.Native.Nat.{◌+◌, ◌≤◌, ℕ}
+use mathlib.Core.List.{[], ◌∷◌}
 use mathlib.Core.Path.{◌∙◌, ap, ap₂, refl, sym}
 use native.Mathlib.Omega.{arith}
 use Rattle.calculus.specs.Rules.{children, literal_children}
@@ -11,6 +12,7 @@ use Rattle.steps.specs.Rules.{rule_named}
 use Rattle.steps.proofs.Concluding.{six_bytes}
 use Rattle.steps.proofs.Bodies.{fitting, long, ranged, l_intro_variable, c_collapse_variable, is_rule}
 use Rattle.steps.proofs.Offered.{offered_by}
+use Rattle.steps.proofs.Rules.{not_one}
 use Rattle.conclusions.proofs.Forms.{s_prop_variables}
 use Rattle.conclusions.proofs.Labels.{asks}
 use Rattle.conclusions.proofs.Tried.{concludes_as}
@@ -148,3 +150,9 @@ returns-in-Join c =
     ∙ sym (offered_by b u br a.step.body a.step.size join (is_rule c.requires.ready_by _ c.in-Join.is)))
     (c.join.ensures u) in
     record { fault = h.fault; added = h.added; fine = h.fine }
+
+pub returns-in-AConf : goal.returns-in-AConf
+returns-in-AConf c = absurd (not_one (3 ∷ 4 ∷ 13 ∷ []) c.args.step.rule tt c.in-AConf.in-AConf-own.keys6 c.requires.ready_by.concludes)
+
+pub returns-in-Branch : goal.returns-in-Branch
+returns-in-Branch c = absurd (not_one (1 ∷ 2 ∷ 7 ∷ 9 ∷ 10 ∷ 11 ∷ []) c.args.step.rule tt c.in-Branch.in-Branch-own.keys7 c.requires.ready_by.concludes)

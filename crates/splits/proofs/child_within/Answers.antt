@@ -1,7 +1,7 @@
 use Prim.Native.Nat.{◌+◌, ◌<◌, ℕ}
 use lib.ListN.{drop}
 use mathlib.Core.Bool.{true}
-use mathlib.Core.List.{List}
+use mathlib.Core.List.{List, [], ◌∷◌}
 use mathlib.Core.Option.{Option}
 use mathlib.Core.Path.{◌∙◌, ◌≡◌, ap, sym}
 use native.Mathlib.Omega.{arith}
@@ -14,6 +14,7 @@ use Rattle.rows.specs.Work.{tag_of}
 use Rattle.rows.proofs.Small.{fine_at}
 use Rattle.steps.proofs.Bodies.{given, is_rule}
 use Rattle.steps.proofs.Offered.{step_fits, number_of, child_in_within}
+use Rattle.steps.proofs.Rules.{not_several}
 use Rattle.splits.proofs.Limits.{others_within}
 use Rattle.splits.proofs.Operands.{branch_operands, branch_child, apart_operands, apart_fact, apart_child}
 use Rattle.splits.proofs.child_within.Goals as goal
@@ -71,8 +72,14 @@ returns-in-Apart c =
     ∙ sym (ap (λ (o : Option (List (List Fact))). facts_within (or_none (child_in o c.args.k)))
     (apart_child c.requires.ready_by.ready (fit (goal.at.returns-in-Apart c).Start) e))
 
-pub returns-in_default : goal.returns-in_default
-returns-in_default c =
+pub returns-in-LValid : goal.returns-in-LValid
+returns-in-LValid c =
     let h = c.requires.ready_by in
-    sym (child_in_within (given h.ready) c.args.k (others_within h.ready (fit (goal.at.returns-in_default c).Start) c.args.step.rule h.named h.concludes
-    c.in_default.not-Branch c.in_default.not-Apart))
+    sym (child_in_within (given h.ready) c.args.k
+    (others_within h.ready (fit (goal.at.returns-in-LValid c).Start) c.args.step.rule h.named c.in-LValid.in-LValid-own.keys3))
+
+pub returns-in-Sum : goal.returns-in-Sum
+returns-in-Sum c = absurd (not_several (0 ∷ 5 ∷ 6 ∷ 8 ∷ 12 ∷ []) c.args.step.rule tt c.in-Sum.in-Sum-own.keys4 c.requires.ready_by.concludes)
+
+pub returns-in-AConf : goal.returns-in-AConf
+returns-in-AConf c = absurd (not_several (3 ∷ 4 ∷ 13 ∷ []) c.args.step.rule tt c.in-AConf.in-AConf-own.keys5 c.requires.ready_by.concludes)

@@ -5,6 +5,7 @@ use mathlib.Core.Path.{◌∙◌, ◌≡◌, ap, refl, subst, sym}
 use Rattle.calculus.specs.Facts.{Fact}
 use Rattle.format.specs.Checking.{fits, or_none, child_in, facts_within}
 use Rattle.steps.proofs.Bodies.{given}
+use Rattle.steps.proofs.Rules.{not_several}
 use Rattle.splits.proofs.Limits as limits
 use Rattle.splits.proofs.children_within.Goals as goal
 use Rattle.splits.proofs.children_within.Goals.{In-Branch}
@@ -45,7 +46,13 @@ returns-then-child_within c =
     ∙ sym (limits.two_within g t.0 t.1 t.2
     ∙ ap (λ (x : Bool). x && facts_within (or_none (child_in g 2))) (sym c.child_within.ensures ∙ c.if-child_within.true))
 
-pub returns-in_default : goal.returns-in_default
-returns-in_default c =
+pub returns-in-LValid : goal.returns-in-LValid
+returns-in-LValid c =
     let h = c.requires.ready_by in
-    sym (limits.others_within h.ready c.requires.count_value c.args.step.rule h.named h.concludes c.in_default.not-Branch c.in_default.not-Apart)
+    sym (limits.others_within h.ready c.requires.count_value c.args.step.rule h.named c.in-LValid.in-LValid-own.keys2)
+
+pub returns-in-Sum : goal.returns-in-Sum
+returns-in-Sum c = absurd (not_several (0 ∷ 5 ∷ 6 ∷ 8 ∷ 12 ∷ []) c.args.step.rule tt c.in-Sum.in-Sum-own.keys3 c.requires.ready_by.concludes)
+
+pub returns-in-AConf : goal.returns-in-AConf
+returns-in-AConf c = absurd (not_several (3 ∷ 4 ∷ 13 ∷ []) c.args.step.rule tt c.in-AConf.in-AConf-own.keys4 c.requires.ready_by.concludes)

@@ -2,6 +2,7 @@ use Prim.Native.Nat.{◌+◌, ◌-◌, ◌/◌, ℕ}
 use lib.Dec.{eqb}
 use lib.ListN.{get_elem?}
 use mathlib.Core.Bool.{not, true}
+use mathlib.Core.List.{[], ◌∷◌}
 use mathlib.Core.Logic.{inl, inr}
 use mathlib.Core.Path.{◌≡◌, ◌∙◌, ap, ap₂, refl, sym}
 use native.Mathlib.Omega.{arith}
@@ -17,6 +18,7 @@ use Rattle.rows.proofs.Tested.{guard_fits}
 use Rattle.steps.proofs.Bodies.{is_rule}
 use Rattle.steps.specs.Offered.{offered}
 use Rattle.steps.proofs.Offered.{offered_by}
+use Rattle.steps.proofs.Rules.{not_several}
 use Rattle.steps.proofs.Variables.{card_operands}
 use Rattle.splits.proofs.Operands.{card_same, apart_operands, c_inj_operands}
 use Rattle.splits.proofs.fits.Goals as goal
@@ -90,3 +92,9 @@ returns-in-Card c =
     let br = branch_of a.work.now a.count in
     c.card_fits.ensures ∙ ap fits (card_same b a.s br (u16s b (a.step.body + 4) ((a.step.size - 4) / 2)))
     ∙ sym (ap fits (offered_by b (asked b a.s) br a.step.body a.step.size card (is_rule c.requires _ c.in-Card.is)))
+
+pub returns-in-Sum : goal.returns-in-Sum
+returns-in-Sum c = absurd (not_several (0 ∷ 5 ∷ 6 ∷ 8 ∷ 12 ∷ []) c.args.step.rule tt c.in-Sum.in-Sum-own.keys5 c.requires.concludes)
+
+pub returns-in-AConf : goal.returns-in-AConf
+returns-in-AConf c = absurd (not_several (3 ∷ 4 ∷ 13 ∷ []) c.args.step.rule tt c.in-AConf.in-AConf-own.keys6 c.requires.concludes)

@@ -3,7 +3,7 @@ use borrow.Author.Rules.{rules}
 use lib.IntN.{ℤ}
 use lib.ListN.{length}
 use mathlib.Core.Bool.{true}
-use mathlib.Core.List.{List, ◌++◌}
+use mathlib.Core.List.{List, [], ◌++◌, ◌∷◌}
 use mathlib.Core.Option.{Option}
 use mathlib.Core.Path.{◌∙◌, ◌≡◌, ap, sym}
 use native.Mathlib.Omega.{arith}
@@ -18,12 +18,14 @@ use Rattle.rows.specs.Rows.{branch_of}
 use Rattle.rows.specs.Work.{Fine}
 use Rattle.rows.proofs.Branches.{length_branch}
 use Rattle.rows.proofs.Small.{fine_added}
-use Rattle.steps.specs.Rules.{rule_named}
+use Rattle.steps.specs.declared.Rule.{Rule}
+use Rattle.steps.specs.Rules.{rule_named, one_each}
 use Rattle.steps.proofs.Bodies.{before, given, c_valid_variable, is_rule, shape_by}
 use Rattle.steps.proofs.Children.{adds_one}
 use Rattle.steps.proofs.Offered.{step_fits, number_of, in_shape, child_size, its_shape, taken_fits, taken_within, taken_room}
+use Rattle.steps.proofs.Rules.{passes, not_several}
 use Rattle.splits.proofs.Forms.{c_valid_count, c_valid_size}
-use Rattle.splits.proofs.Operands.{c_valid_child, one_fact}
+use Rattle.splits.proofs.Operands.{c_valid_child}
 use Rattle.splits.proofs.put_child.Goals as goal
 use Rattle.splits.proofs.put_child.Goals.{Start}
 
@@ -77,7 +79,7 @@ put_fact-requires c =
     let fit = step_fits (given h) a.k (there here) in
     let shaped = its_shape h fit ∙ sym (shape_by c.requires.ready_by a.s.n) in
     let (l, g) = in_shape (given h) a.k (there here) _ shaped in
-    let each = one_fact a.step.rule c.in_default.not-CValid c.requires.ready_by.concludes in
+    let each = passes (λ (r : Rule). one_each (rule_named r)) (1 ∷ 2 ∷ 7 ∷ 10 ∷ 11 ∷ []) a.step.rule tt c.in-Branch.in-Branch-own.keys2 in
     let one =
     adds_one a.ticket.now a.s.n a.step.body a.step.size (rule_named a.step.rule) a.k each l g
     ∙ child_size (given h) a.k (there here) _ shaped in
@@ -100,8 +102,14 @@ returns-in-CValid c =
       fine = fine (goal.at.returns-in-CValid c).Start _ _ (search rules) added;
     }
 
-pub returns-in_default : goal.returns-in_default
-returns-in_default c = record {
+pub returns-in-Branch : goal.returns-in-Branch
+returns-in-Branch c = record {
   added = c.put_fact.ensures;
-  fine = fine (goal.at.returns-in_default c).Start _ _ (search rules) c.put_fact.ensures;
+  fine = fine (goal.at.returns-in-Branch c).Start _ _ (search rules) c.put_fact.ensures;
 }
+
+pub returns-in-Sum : goal.returns-in-Sum
+returns-in-Sum c = absurd (not_several (0 ∷ 5 ∷ 6 ∷ 8 ∷ 12 ∷ []) c.args.step.rule tt c.in-Sum.in-Sum-own.keys3 c.requires.ready_by.concludes)
+
+pub returns-in-AConf : goal.returns-in-AConf
+returns-in-AConf c = absurd (not_several (3 ∷ 4 ∷ 13 ∷ []) c.args.step.rule tt c.in-AConf.in-AConf-own.keys4 c.requires.ready_by.concludes)

@@ -1,7 +1,7 @@
 use Prim.Native.Nat.{◌+◌, ◌<◌, ℕ}
 use lib.ListN.{drop}
 use mathlib.Core.Bool.{true}
-use mathlib.Core.List.{List, ◌++◌}
+use mathlib.Core.List.{List, [], ◌++◌, ◌∷◌}
 use mathlib.Core.Option.{Option}
 use mathlib.Core.Path.{◌∙◌, ◌≡◌, ap, ap₂, sym}
 use native.Mathlib.Omega.{arith}
@@ -10,12 +10,16 @@ use Rattle.calculus.specs.Facts.{Fact}
 use Rattle.calculus.specs.Children.{child_at, apart_children, l_valid_children, c_inj_children}
 use Rattle.format.specs.Fields.{u16}
 use Rattle.format.specs.Checking.{fits, or_none, child_in}
+use Rattle.format.proofs.Faults.{not_both}
 use Rattle.rows.specs.Rows.{fact_of, row_at, branch_of}
 use Rattle.rows.specs.Work.{tag_of}
 use Rattle.rows.proofs.Small.{fine_at}
 use Rattle.question.proofs.Posed.{some_character}
+use Rattle.steps.specs.declared.Rule.{Rule}
+use Rattle.steps.specs.Rules.{rule_named, one_each}
 use Rattle.steps.proofs.Bodies.{given, four_bytes, l_valid_variable, is_rule}
 use Rattle.steps.proofs.Offered.{step_fits, number_of}
+use Rattle.steps.proofs.Rules.{not_several}
 use Rattle.steps.proofs.Variables.{card_operands}
 use Rattle.splits.proofs.Operands.{branch_operands, apart_operands, c_inj_operands, branch_child}
 use Rattle.splits.proofs.Operands.{apart_fact, apart_child, l_valid_child, c_inj_differ, c_inj_child, card_child}
@@ -166,3 +170,13 @@ returns-in-Card c =
     c.put_card.ensures
     ∙ ap (λ (o : Option (List (List Fact))). br ++ or_none (child_in o c.args.k))
     (sym (card_child c.requires.ready_by.ready (fit (goal.at.returns-in-Card c).Start) e))
+
+pub returns-in-CValid : goal.returns-in-CValid
+returns-in-CValid c =
+    absurd (not_both (one_each (rule_named c.args.step.rule)) c.requires.rule_value.0 (ap (λ (r : Rule). one_each (rule_named r)) c.in-CValid.is))
+
+pub returns-in-Sum : goal.returns-in-Sum
+returns-in-Sum c = absurd (not_several (0 ∷ 5 ∷ 6 ∷ 8 ∷ 12 ∷ []) c.args.step.rule tt c.in-Sum.in-Sum-own.keys7 c.requires.ready_by.concludes)
+
+pub returns-in-AConf : goal.returns-in-AConf
+returns-in-AConf c = absurd (not_several (3 ∷ 4 ∷ 13 ∷ []) c.args.step.rule tt c.in-AConf.in-AConf-own.keys8 c.requires.ready_by.concludes)

@@ -1,8 +1,8 @@
-use mathlib.Core.Bool.{true}
-use mathlib.Core.Path.{◌≡◌, refl, ap}
+use mathlib.Core.List.{[], ◌∷◌}
+use mathlib.Core.Path.{ap}
 use Rattle.steps.specs.declared.Rule.{Rule}
-use Rattle.steps.specs.declared.Rule.TheVariants.{Sum, Branch, Apart, AConf, SConf, SProp, LIntro, LValid, CCollapse, CValid, CInj, Card, Join, Unknown}
 use Rattle.steps.specs.Rules.{rule_named, one_each}
+use Rattle.steps.proofs.Rules.{passes}
 use Rattle.steps.proofs.Children.{adds_one, adds_two, adds_three}
 use Rattle.steps.proofs.child_facts.Goals as goal
 
@@ -16,24 +16,19 @@ returns-else-k-eq1 c =
     let a = c.args in
     λ b n body m. adds_three b n body m (rule_named a.rule) a.k (ap rule_named c.in-CValid.is) c.if-k-eq1.false
 
-one_but : (r : Rule) → (r ≡ CValid → ⊥) → one_each (rule_named r) ≡ true
-one_but Sum h = refl
-one_but Branch h = refl
-one_but Apart h = refl
-one_but AConf h = refl
-one_but SConf h = refl
-one_but SProp h = refl
-one_but LIntro h = refl
-one_but LValid h = refl
-one_but CCollapse h = refl
-one_but CValid h = absurd (h refl)
-one_but CInj h = refl
-one_but Card h = refl
-one_but Join h = refl
-one_but Unknown h = refl
-
-pub returns-in_default : goal.returns-in_default
-returns-in_default c =
+pub returns-in-Sum : goal.returns-in-Sum
+returns-in-Sum c =
     let a = c.args in
-    let h = c.in_default.not-CValid in
-    λ b n body m. adds_one b n body m (rule_named a.rule) a.k (one_but a.rule h)
+    λ b n body m. adds_one b n body m (rule_named a.rule) a.k
+    (passes (λ (r : Rule). one_each (rule_named r)) (0 ∷ 1 ∷ 2 ∷ 3 ∷ 4 ∷ 5 ∷ []) a.rule tt c.in-Sum.in-Sum-own.keys2)
+
+pub returns-in-LIntro : goal.returns-in-LIntro
+returns-in-LIntro c =
+    let a = c.args in
+    λ b n body m. adds_one b n body m (rule_named a.rule) a.k
+    (passes (λ (r : Rule). one_each (rule_named r)) (6 ∷ 7 ∷ 8 ∷ 10 ∷ 11 ∷ 12 ∷ []) a.rule tt c.in-LIntro.in-LIntro-own.keys3)
+
+pub returns-in-Unknown : goal.returns-in-Unknown
+returns-in-Unknown c =
+    let a = c.args in
+    λ b n body m. adds_one b n body m (rule_named a.rule) a.k (ap (λ (r : Rule). one_each (rule_named r)) c.in-Unknown.is)
