@@ -1,12 +1,13 @@
 -- Texts by std's words for a chain of iterators: cased characters, digits, the order.
 use mathlib.Core.Path.{◌≡◌, refl, ◌∙◌, ap}
-use mathlib.Core.Bool.{Bool, true, false, ◌&&◌, ◌||◌}
-use mathlib.Core.List.{List, [], ◌∷◌, map}
-use Prim.Native.Nat.{ℕ, ◌≤◌, ◌<◌}
+use mathlib.Core.Bool.{Bool, true, false, ◌&&◌, ◌||◌, or-false}
+use mathlib.Core.List.{List, [], ◌∷◌, map, cons≢nil}
+use mathlib.Core.Logic.{◌⊎◌, inl, inr}
+use Prim.Native.Nat.{ℕ, ◌+◌, ◌≤◌, ◌<◌}
 use native.Mathlib.Omega.{arith}
 use lib.Dec.{ltb, leb, eqb}
 use lib.ListN.{length, length-map}
-use borrow.Author.Tests.{lt-ltb, le-ltb, eq-eqb, ne_eqb, leb-true}
+use borrow.Author.Tests.{lt-ltb, le-ltb, eq-eqb, ne_eqb, le-leb, lt-leb, leb-true}
 use Rattle.std.specs.List.{list_all, zip}
 use Rattle.std.specs.Ordering.{nat_cmp, is_le, MatchOrdering, ordering_then}
 use Rattle.std.specs.declared.cmp.Ordering.{Ordering}
@@ -47,6 +48,24 @@ digits→ c s e =
     (leb-true zero_digit c low, leb-true c 57 high, rest)
 
 -- ---- order
+
+-- texts that begin alike are in the order of what is left of them
+pub order_on : (c d : ℕ) (s t : List ℕ) → c ≡ d → precedes (c ∷ s) (d ∷ t) ≡ precedes s t
+unfolding precedes
+order_on c d s t e = rw (le-ltb c d (omega arith), eq-eqb c d e)
+
+-- others by their first characters
+pub order_apart : (c d : ℕ) (s t : List ℕ) → (c ≡ d → ⊥) → precedes (c ∷ s) (d ∷ t) ≡ ltb c d
+unfolding precedes
+order_apart c d s t n = ap (λ a. ltb c d || (a && precedes s t)) (ne_eqb c d n) ∙ or-false (ltb c d)
+
+-- where one of two texts ends, their lengths tell the order: m and k are these, with as many characters before both
+pub order_ends : (s t : List ℕ) (m k : ℕ) → (s ≡ []) ⊎ (t ≡ []) → length s + k ≡ length t + m → leb m k ≡ precedes s t
+unfolding precedes
+order_ends [] t m k h e = le-leb m k (omega arith)
+order_ends (c ∷ s) [] m k h e = lt-leb m k (omega arith)
+order_ends (c ∷ s) (d ∷ t) m k (inl h) e = absurd (cons≢nil h)
+order_ends (c ∷ s) (d ∷ t) m k (inr h) e = absurd (cons≢nil h)
 
 -- the order of std's `cmp` on lists
 pub order_is : (s t : List ℕ) → is_le (slice_cmp nat_cmp s t) ≡ precedes s t

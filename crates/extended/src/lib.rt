@@ -156,5 +156,11 @@ pub fn precedes(v: &[u8], x: usize, y: usize) -> bool
     requires { (next v.now x ≤ length v.now) × (next v.now y ≤ length v.now) }
     ensures { result ≡ precedes_test (text_at v.now x) (text_at v.now y) }
 {
-    characters(v, x).cmp(characters(v, y)).is_le()
+    // A `for`: `cmp` of the two texts takes longer.
+    for (c, d) in characters(v, x).zip(characters(v, y)) {
+        if c != d {
+            return c < d;
+        }
+    }
+    u32_at(v, x) / 4 <= u32_at(v, y) / 4
 }

@@ -1,0 +1,13 @@
+use Prim.Native.Nat.{◌+◌}
+use lib.ListN.{length}
+use mathlib.Core.Path.{◌≡◌}
+use Rattle.calculus.specs.Extended.{precedes}
+use Rattle.format.specs.Places.{text_at}
+use Rattle.extended.proofs.precedes.Given as goal
+
+-- what is left of the two texts tells their order, and is shorter than they are by one count
+abbrev pub invariant-loop-c : goal.invariant-loop-c
+invariant-loop-c l =
+    let s = text_at l.v l.x in
+    let t = text_at l.v l.y in
+    (precedes l.c-iterator.a l.c-iterator.b ≡ precedes s t) × (length l.c-iterator.a + length t ≡ length l.c-iterator.b + length s)
