@@ -5,7 +5,7 @@ use Rattle.calculus.specs.Extended.{precedes}
 use Rattle.format.specs.Places.{text_at}
 use Rattle.extended.proofs.precedes.Given as goal
 
--- what is left of the two texts tells their order, and is shorter than they are by one count
+-- what is left of the two texts tells their order, and as many characters stood before what is left of either
 abbrev pub invariant-loop-c : goal.invariant-loop-c
 invariant-loop-c l =
     let s = text_at l.v l.x in
